@@ -1,0 +1,46 @@
+-- Document 01, "Forms we want to see": "Where an answer is an enum, a definition states this paper's number and values for each of its cases".
+use mathlib.Core.List.{List, [], _∷_}
+use Prim.Native.Nat.{ℕ}
+use Rattle.plan.specs.declared.PlanAnswer.{PlanAnswer}
+use Rattle.plan.specs.declared.PlanAnswer.the-variants as plan
+use Rattle.plan.specs.declared.WriteAnswer.{WriteAnswer}
+use Rattle.plan.specs.declared.WriteAnswer.the-variants as write
+use Rattle.plan.specs.declared.PairAnswer.{PairAnswer}
+use Rattle.plan.specs.declared.PairAnswer.the-variants as pair
+
+-- An answer in document 01's terms: the number of the refusal, 0 for none, and the values where nothing is refused.
+pub record Reply : Type 0 where
+  pub number : ℕ
+  pub values : List ℕ
+
+abbrev pub refused : ℕ → Reply
+refused k = record { number = k; values = [] }
+
+abbrev pub accepted : List ℕ → Reply
+accepted values = record { number = 0; values = values }
+
+-- planning and reading: nodes, parts, slots, multiplications
+abbrev pub planReply : PlanAnswer → Reply
+planReply (plan.Accepted p) = accepted (p .nodes ∷ p .parts ∷ p .slots ∷ p .multiplications ∷ [])
+planReply (plan.Refused k) = refused k
+
+-- writing: "The writer returns that length"
+abbrev pub writeReply : WriteAnswer → Reply
+writeReply (write.Written bytes) = accepted (bytes ∷ [])
+writeReply (write.Refused k) = refused k
+
+-- The pair question gives "its slot, "diagonal" or "no slot"": which of the three, as a number, and behind the first the slot's number.
+abbrev pub slot : ℕ
+slot = 1
+
+abbrev pub diagonal : ℕ
+diagonal = 2
+
+abbrev pub noSlot : ℕ
+noSlot = 3
+
+abbrev pub pairReply : PairAnswer → Reply
+pairReply (pair.Slot s) = accepted (slot ∷ s ∷ [])
+pairReply pair.Diagonal = accepted (diagonal ∷ [])
+pairReply pair.NoSlot = accepted (noSlot ∷ [])
+pairReply (pair.Refused k) = refused k

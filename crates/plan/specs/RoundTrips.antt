@@ -1,0 +1,53 @@
+-- Demand 2, the round trips, as statements: "A written plan, once read, is the same plan; a plan that was read is written back byte for byte."
+use mathlib.Core.Bool.{true, false}
+use mathlib.Core.Path.{_≡_}
+use mathlib.Core.List.{List, [], _∷_}
+use Prim.Native.Nat.{ℕ, _≤_}
+use lib.Dec.{ltb}
+use lib.ListN.{length, getD}
+use Rattle.plan.specs.Lists.{every}
+use Rattle.plan.specs.Answers.{accepted}
+use Rattle.plan.specs.Mesh.{Mesh}
+use Rattle.plan.specs.Planning.{Contents, Capacity, buffersTooShort, rowsTooShort, Outcome, handOut, planning}
+use Rattle.plan.specs.File.{fileLength, encode}
+use Rattle.plan.specs.Reading.{reading}
+use Rattle.plan.specs.Writing.{used, WriteOutcome, writing}
+
+-- the plan that an outcome hands out
+unfoldable pub handed : Outcome → Contents
+handed o = record {
+  nodes = getD (o .reply .values) 0 0;
+  parts = getD (o .reply .values) 1 0;
+  slots = getD (o .reply .values) 2 0;
+  order = o .order;
+  sizes = o .sizes;
+  parents = o .parents;
+  columnStarts = o .columnStarts;
+  rows = o .rows;
+}
+
+-- an accepted writing of these bytes
+abbrev pub wrote : List ℕ → WriteOutcome
+wrote bytes = record { reply = accepted (length bytes ∷ []); bytes = bytes }
+
+-- Written, then read: an accepted writing, read into buffers that are long enough, hands out exactly the used entries.
+abbrev pub WrittenThenRead : Type 0
+WrittenThenRead =
+    (c : Contents) (output : ℕ) (room : Capacity)
+    → writing c output .reply .number ≡ 0 → buffersTooShort (c .nodes) room ≡ false → rowsTooShort c room ≡ false
+    → reading (writing c output .bytes) room ≡ handOut 0 (used c)
+
+-- Read, then written: of bytes that were read, slices whose used entries are the plan that was handed out are written back as those bytes, given room.
+abbrev pub ReadThenWritten : Type 0
+ReadThenWritten =
+    (bytes : List ℕ) (room : Capacity) (c : Contents) (output : ℕ)
+    → every (λ b. ltb b 256) bytes ≡ true → reading bytes room .reply .number ≡ 0
+    → used c ≡ handed (reading bytes room) → length bytes ≤ output
+    → writing c output ≡ wrote bytes
+
+-- Planned is writable: what planning hands out is written, given room for the file.
+abbrev pub PlannedIsWritable : Type 0
+PlannedIsWritable =
+    (m : Mesh) (room : Capacity) (c : Contents) (output : ℕ)
+    → planning m room .reply .number ≡ 0 → used c ≡ handed (planning m room) → fileLength c ≤ output
+    → writing c output ≡ wrote (encode (used c))

@@ -1,0 +1,261 @@
+-- Document 01, "Meshes worked through": the starred meshes and files 1 to 12 in one table, and the one statement that every row of it holds.
+use mathlib.Core.Bool.{Bool, true, false, _&&_}
+use mathlib.Core.Path.{_≡_, refl}
+use mathlib.Core.List.{List, [], _∷_, _++_, flatten}
+use Prim.Native.Nat.{ℕ, _+_, _-_}
+use lib.Dec.{eqb}
+use lib.ListN.{length, replicate}
+use Rattle.plan.specs.Lists.{every, same, written}
+use Rattle.plan.specs.Answers.{Reply, accepted, refused}
+use Rattle.plan.specs.Mesh.{Mesh}
+use Rattle.plan.specs.Parts.{bound}
+use Rattle.plan.specs.Planning.{Contents, Buffers, capacity, Outcome, planning, fill}
+use Rattle.plan.specs.File.{encode}
+use Rattle.plan.specs.Reading.{reading}
+use Rattle.plan.specs.Writing.{WriteOutcome, writing}
+use Rattle.plan.specs.RoundTrips.{handed}
+use Rattle.plan.specs.Listing.{listing}
+use Rattle.plan.specs.Everything.{everything}
+
+-- What document 01 says of a planned mesh beside its outcome: demand 3's bound, and the bytes of its file.
+pub data Claim : Type 0 where
+  bounded : ℕ → Claim
+  file : List ℕ → Claim
+
+pub data Row : Type 0 where
+  -- planning a mesh, lent a rows buffer so long
+  planned : (m : Mesh) → (rows : ℕ) → (expected : Outcome) → List Claim → Row
+  -- reading bytes, lent buffers for n nodes and a rows buffer so long
+  read : (n rows : ℕ) → (bytes : List ℕ) → (expected : Outcome) → Row
+  -- a plan that the writer refuses, and the reader refuses its bytes, with the same number
+  faulty : (c : Contents) → (number : ℕ) → Row
+  -- the listing program, from its input to its output
+  listed : (input output : List ℕ) → Row
+
+-- what lent memory holds before, a number that no result has
+abbrev pub stale : ℕ
+stale = 9999
+
+-- buffers for n nodes, each one entry longer than needed, and a rows buffer so long
+unfoldable pub lent : ℕ → ℕ → Buffers
+lent n rows = record {
+  order = replicate (n + 1) stale;
+  positions = replicate (n + 1) stale;
+  sizes = replicate (n + 1) stale;
+  parents = replicate (n + 1) stale;
+  columnStarts = replicate (n + 2) stale;
+  rows = replicate rows stale;
+}
+
+-- whether a buffer of so many entries holds these at its front, and else what it held before
+unfoldable pub holdsFront : ℕ → List ℕ → List ℕ → Bool
+holdsFront size front buffer = same buffer (front ++ replicate (size - length front) stale)
+
+unfoldable pub sameReply : Reply → Reply → Bool
+sameReply a b = eqb (a .number) (b .number) && same (a .values) (b .values)
+
+-- whether the outcome, for buffers so lent, is the one expected: the reply, and what each of the six buffers holds afterwards
+unfoldable pub agrees : ℕ → ℕ → Outcome → Outcome → Bool
+agrees n rows expected o =
+    let left : Buffers = fill o (lent n rows) in
+    sameReply (o .reply) (expected .reply)
+    && holdsFront (n + 1) (expected .order) (left .order)
+    && holdsFront (n + 1) (expected .positions) (left .positions)
+    && holdsFront (n + 1) (expected .sizes) (left .sizes)
+    && holdsFront (n + 1) (expected .parents) (left .parents)
+    && holdsFront (n + 2) (expected .columnStarts) (left .columnStarts)
+    && holdsFront rows (expected .rows) (left .rows)
+
+-- whether a writing into so many bytes replies so, and leaves these bytes at the front
+unfoldable pub writes : ℕ → Reply → List ℕ → WriteOutcome → Bool
+writes room reply bytes o =
+    sameReply (o .reply) reply && holdsFront room bytes (written (o .bytes) (replicate room stale))
+
+unfoldable pub claimed : Mesh → Outcome → Claim → Bool
+claimed m o (bounded k) = eqb (bound m (o .order) (o .sizes) (o .parents)) k
+claimed m o (file bytes) =
+    let room : ℕ = length bytes + 1 in
+    writes room (accepted (length bytes ∷ [])) bytes (writing (handed o) room)
+
+-- a refusal: no values, and nothing written
+abbrev pub refusal : ℕ → Outcome
+refusal k = record {
+  reply = refused k;
+  order = [];
+  positions = [];
+  sizes = [];
+  parents = [];
+  columnStarts = [];
+  rows = [];
+}
+
+unfoldable pub holds : Row → Bool
+holds (planned m rows expected claims) =
+    let o : Outcome = planning m (capacity (lent (m .nodes) rows)) in
+    agrees (m .nodes) rows expected o && every (claimed m o) claims
+holds (read n rows bytes expected) = agrees n rows expected (reading bytes (capacity (lent n rows)))
+holds (faulty c k) =
+    writes 100 (refused k) [] (writing c 100)
+    && agrees (c .nodes) (c .slots) (refusal k) (reading (encode c) (capacity (lent (c .nodes) (c .slots))))
+holds (listed input output) = same (listing input) output
+
+abbrev pub triangle : Mesh
+triangle = record { nodes = 3; starts = 0 ∷ 2 ∷ 4 ∷ 6 ∷ []; neighbours = 1 ∷ 2 ∷ 0 ∷ 2 ∷ 0 ∷ 1 ∷ [] }
+
+abbrev pub path : Mesh
+path = record { nodes = 5; starts = 0 ∷ 1 ∷ 3 ∷ 5 ∷ 7 ∷ 8 ∷ []; neighbours = 1 ∷ 0 ∷ 2 ∷ 1 ∷ 3 ∷ 2 ∷ 4 ∷ 3 ∷ [] }
+
+abbrev pub pathOutcome : Outcome
+pathOutcome = record {
+  reply = accepted (5 ∷ 3 ∷ 5 ∷ 11 ∷ []);
+  order = 0 ∷ 1 ∷ 3 ∷ 4 ∷ 2 ∷ [];
+  positions = 0 ∷ 1 ∷ 4 ∷ 2 ∷ 3 ∷ [];
+  sizes = 2 ∷ 2 ∷ 1 ∷ [];
+  parents = 2 ∷ 2 ∷ 65535 ∷ [];
+  columnStarts = 0 ∷ 1 ∷ 2 ∷ 4 ∷ 5 ∷ 5 ∷ [];
+  rows = 1 ∷ 4 ∷ 3 ∷ 4 ∷ 4 ∷ [];
+}
+
+-- the 59 bytes of its file
+abbrev pub pathFile : List ℕ
+pathFile = flatten (
+    -- NDP, version 1
+    (78 ∷ 68 ∷ 80 ∷ 1 ∷ 0 ∷ [])
+    -- n, p, s
+    ∷ (5 ∷ 0 ∷ 0 ∷ 0 ∷ 3 ∷ 0 ∷ 0 ∷ 0 ∷ 5 ∷ 0 ∷ 0 ∷ 0 ∷ [])
+    -- the order
+    ∷ (0 ∷ 0 ∷ 1 ∷ 0 ∷ 3 ∷ 0 ∷ 4 ∷ 0 ∷ 2 ∷ 0 ∷ [])
+    -- size and father of each part
+    ∷ (2 ∷ 0 ∷ 2 ∷ 0 ∷ 2 ∷ 0 ∷ 2 ∷ 0 ∷ 1 ∷ 0 ∷ 255 ∷ 255 ∷ [])
+    -- the row counts
+    ∷ (1 ∷ 0 ∷ 1 ∷ 0 ∷ 2 ∷ 0 ∷ 1 ∷ 0 ∷ 0 ∷ 0 ∷ [])
+    -- the rows
+    ∷ (1 ∷ 0 ∷ 4 ∷ 0 ∷ 3 ∷ 0 ∷ 4 ∷ 0 ∷ 4 ∷ 0 ∷ [])
+    ∷ [])
+
+-- the path as the listing program reads it: n, the starts, the neighbours
+abbrev pub pathInput : List ℕ
+pathInput = flatten (
+    (5 ∷ 0 ∷ [])
+    ∷ (0 ∷ 0 ∷ 0 ∷ 0 ∷ 1 ∷ 0 ∷ 0 ∷ 0 ∷ 3 ∷ 0 ∷ 0 ∷ 0 ∷ 5 ∷ 0 ∷ 0 ∷ 0 ∷ 7 ∷ 0 ∷ 0 ∷ 0 ∷ 8 ∷ 0 ∷ 0 ∷ 0 ∷ [])
+    ∷ (1 ∷ 0 ∷ 0 ∷ 0 ∷ 2 ∷ 0 ∷ 1 ∷ 0 ∷ 3 ∷ 0 ∷ 2 ∷ 0 ∷ 4 ∷ 0 ∷ 3 ∷ 0 ∷ [])
+    ∷ [])
+
+-- its listing, a line to a line
+abbrev pub pathListing : List ℕ
+pathListing = flatten (
+    -- nodes 5 parts 3 slots 5
+    (110 ∷ 111 ∷ 100 ∷ 101 ∷ 115 ∷ 32 ∷ 53 ∷ 32 ∷ 112 ∷ 97 ∷ 114 ∷ 116 ∷ 115 ∷ 32 ∷ 51 ∷ 32 ∷ 115 ∷ 108 ∷ 111 ∷ 116 ∷ 115 ∷ 32 ∷ 53 ∷ 10 ∷ [])
+    -- 0 0 0 1
+    ∷ (48 ∷ 32 ∷ 48 ∷ 32 ∷ 48 ∷ 32 ∷ 49 ∷ 10 ∷ [])
+    -- 1 1 0 4
+    ∷ (49 ∷ 32 ∷ 49 ∷ 32 ∷ 48 ∷ 32 ∷ 52 ∷ 10 ∷ [])
+    -- 2 3 1 3 4
+    ∷ (50 ∷ 32 ∷ 51 ∷ 32 ∷ 49 ∷ 32 ∷ 51 ∷ 32 ∷ 52 ∷ 10 ∷ [])
+    -- 3 4 1 4
+    ∷ (51 ∷ 32 ∷ 52 ∷ 32 ∷ 49 ∷ 32 ∷ 52 ∷ 10 ∷ [])
+    -- 4 2 2
+    ∷ (52 ∷ 32 ∷ 50 ∷ 32 ∷ 50 ∷ 10 ∷ [])
+    ∷ [])
+
+abbrev pub triangleOutcome : Outcome
+triangleOutcome = record {
+  reply = accepted (3 ∷ 1 ∷ 3 ∷ 7 ∷ []);
+  order = 0 ∷ 1 ∷ 2 ∷ [];
+  positions = 0 ∷ 1 ∷ 2 ∷ [];
+  sizes = 3 ∷ [];
+  parents = 65535 ∷ [];
+  columnStarts = 0 ∷ 2 ∷ 3 ∷ 3 ∷ [];
+  rows = 1 ∷ 2 ∷ 2 ∷ [];
+}
+
+unfoldable pub table : List Row
+table =
+    -- 1. One node: one part, no slot.
+    planned (record { nodes = 1; starts = 0 ∷ 0 ∷ []; neighbours = [] }) 1
+    (record {
+      reply = accepted (1 ∷ 1 ∷ 0 ∷ 0 ∷ []);
+      order = 0 ∷ [];
+      positions = 0 ∷ [];
+      sizes = 1 ∷ [];
+      parents = 65535 ∷ [];
+      columnStarts = 0 ∷ 0 ∷ [];
+      rows = [];
+    }) []
+    -- 2. Two nodes, no entry: order 0 1, two parts without father, no slot.
+    ∷ planned (record { nodes = 2; starts = 0 ∷ 0 ∷ 0 ∷ []; neighbours = [] }) 1
+    (record {
+      reply = accepted (2 ∷ 2 ∷ 0 ∷ 0 ∷ []);
+      order = 0 ∷ 1 ∷ [];
+      positions = 0 ∷ 1 ∷ [];
+      sizes = 1 ∷ 1 ∷ [];
+      parents = 65535 ∷ 65535 ∷ [];
+      columnStarts = 0 ∷ 0 ∷ 0 ∷ [];
+      rows = [];
+    }) []
+    -- 3. Triangle: one part, 3 slots, 7 multiplications. Rows buffer of 2: refusal 9; of 3: accepted.
+    ∷ planned triangle 3 triangleOutcome []
+    ∷ planned triangle 2 (refusal 9) []
+    -- 4. Path 0-1-2-3-4: listing below; 11 multiplications; file of 59 bytes; bound 6.
+    ∷ planned path 6 pathOutcome (bounded 6 ∷ file pathFile ∷ [])
+    ∷ read 5 6 pathFile pathOutcome
+    ∷ listed pathInput pathListing
+    -- 5. Ring 0-1-2-3: order 0 2 1 3, sizes 1 1 2, 5 slots, 12 multiplications; bound 5.
+    ∷ planned (record { nodes = 4; starts = 0 ∷ 2 ∷ 4 ∷ 6 ∷ 8 ∷ []; neighbours = 1 ∷ 3 ∷ 0 ∷ 2 ∷ 1 ∷ 3 ∷ 0 ∷ 2 ∷ [] }) 6
+    (record {
+      reply = accepted (4 ∷ 3 ∷ 5 ∷ 12 ∷ []);
+      order = 0 ∷ 2 ∷ 1 ∷ 3 ∷ [];
+      positions = 0 ∷ 2 ∷ 1 ∷ 3 ∷ [];
+      sizes = 1 ∷ 1 ∷ 2 ∷ [];
+      parents = 2 ∷ 2 ∷ 65535 ∷ [];
+      columnStarts = 0 ∷ 2 ∷ 4 ∷ 5 ∷ 5 ∷ [];
+      rows = 2 ∷ 3 ∷ 2 ∷ 3 ∷ 3 ∷ [];
+    }) (bounded 5 ∷ [])
+    -- 6. Star, centre 0, leaves 1 to 3: order 1 2 3 0, 3 slots.
+    ∷ planned (record { nodes = 4; starts = 0 ∷ 3 ∷ 4 ∷ 5 ∷ 6 ∷ []; neighbours = 1 ∷ 2 ∷ 3 ∷ 0 ∷ 0 ∷ 0 ∷ [] }) 4
+    (record {
+      reply = accepted (4 ∷ 4 ∷ 3 ∷ 6 ∷ []);
+      order = 1 ∷ 2 ∷ 3 ∷ 0 ∷ [];
+      positions = 3 ∷ 0 ∷ 1 ∷ 2 ∷ [];
+      sizes = 1 ∷ 1 ∷ 1 ∷ 1 ∷ [];
+      parents = 3 ∷ 3 ∷ 3 ∷ 65535 ∷ [];
+      columnStarts = 0 ∷ 1 ∷ 2 ∷ 3 ∷ 3 ∷ [];
+      rows = 3 ∷ 3 ∷ 3 ∷ [];
+    }) []
+    -- 7. n = 0: 1.
+    ∷ planned (record { nodes = 0; starts = 0 ∷ []; neighbours = [] }) 1 (refusal 1) []
+    -- 8. Two nodes, only 0 lists 1: 7.
+    ∷ planned (record { nodes = 2; starts = 0 ∷ 1 ∷ 1 ∷ []; neighbours = 1 ∷ [] }) 2 (refusal 7) []
+    -- 9. Node 0 of two lists 5, then 0: 4, not 5 or 6.
+    ∷ planned (record { nodes = 2; starts = 0 ∷ 2 ∷ 2 ∷ []; neighbours = 5 ∷ 0 ∷ [] }) 2 (refusal 4) []
+    -- 10. File of 17 bytes, NDP, version 2: 12. Its first 16 bytes: 10.
+    ∷ read 5 6 (78 ∷ 68 ∷ 80 ∷ 2 ∷ 0 ∷ replicate 12 0) (refusal 12)
+    ∷ read 5 6 (78 ∷ 68 ∷ 80 ∷ 2 ∷ 0 ∷ replicate 11 0) (refusal 10)
+    -- 11. n = 3, one part, column 0 has rows 1 and 2, column 1 none: 19.
+    ∷ faulty (record {
+      nodes = 3;
+      parts = 1;
+      slots = 2;
+      order = 0 ∷ 1 ∷ 2 ∷ [];
+      sizes = 3 ∷ [];
+      parents = 65535 ∷ [];
+      columnStarts = 0 ∷ 2 ∷ 2 ∷ 2 ∷ [];
+      rows = 1 ∷ 2 ∷ [];
+    }) 19
+    -- 12. n = 2, two fatherless parts, column 0 has row 1: 18.
+    ∷ faulty (record {
+      nodes = 2;
+      parts = 2;
+      slots = 1;
+      order = 0 ∷ 1 ∷ [];
+      sizes = 1 ∷ 1 ∷ [];
+      parents = 65535 ∷ 65535 ∷ [];
+      columnStarts = 0 ∷ 1 ∷ 1 ∷ [];
+      rows = 1 ∷ [];
+    }) 18
+    ∷ []
+
+-- every row of the table holds
+pub starred : every holds table ≡ true
+unfolding everything lent holdsFront sameReply agrees writes claimed holds table
+starred = refl

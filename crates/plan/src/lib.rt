@@ -1,0 +1,93 @@
+// The public kinds: a plan, the answers of the entry points, and the family of a refusal's number.
+ghost use mathlib.Core.Path.{_≡_};
+ghost use Rattle.plan.specs.Mesh.{maxNodes, maxEntries, noParent};
+ghost use Rattle.plan.specs.Refusals.{familyOf};
+
+// A plan by its counts. Its lists (order, positions, sizes, parents, column starts, rows) stand in the lent buffers.
+pub struct Plan {
+    pub nodes: u32,
+    pub parts: u32,
+    pub slots: u32,
+    pub multiplications: u64,
+}
+
+impl Plan {
+    // the most nodes that a mesh may have
+    pub const NODES: usize = 4096;
+    // the most neighbour entries that it may have
+    pub const ENTRIES: usize = 65536;
+    // the parent (document 01: father) of a part that has none
+    pub const NO_PARENT: u16 = 65535;
+
+    pub fn new(nodes: u32, parts: u32, slots: u32, multiplications: u64) -> Self
+        ensures { λ r. ⌜ r ≡ record { nodes = nodes; parts = parts; slots = slots; multiplications = multiplications } ⌝ }
+    {
+        Self {
+            nodes,
+            parts,
+            slots,
+            multiplications,
+        }
+    }
+
+    // The three limits are those of the book.
+    pub fn max_nodes() -> usize
+        ensures { λ r. ⌜ r ≡ maxNodes ⌝ }
+    {
+        Self::NODES
+    }
+
+    pub fn max_entries() -> usize
+        ensures { λ r. ⌜ r ≡ maxEntries ⌝ }
+    {
+        Self::ENTRIES
+    }
+
+    pub fn no_parent() -> u16
+        ensures { λ r. ⌜ r ≡ noParent ⌝ }
+    {
+        Self::NO_PARENT
+    }
+}
+
+// The answer of planning and of reading.
+pub enum PlanAnswer {
+    Accepted(Plan),
+    Refused(u32),
+}
+
+// The answer of writing: the length of the file, or a refusal.
+pub enum WriteAnswer {
+    Written(usize),
+    Refused(u32),
+}
+
+// The answer to the question about a pair of positions.
+pub enum PairAnswer {
+    Slot(u32),
+    Diagonal,
+    NoSlot,
+    Refused(u32),
+}
+
+// The family of a refusal's number.
+pub enum RefusalFamily {
+    Mesh,
+    File,
+    Program,
+    Question,
+    None,
+}
+
+// "A number's family is told by its range"
+pub fn family(number: u32) -> RefusalFamily
+    ensures { λ r. ⌜ r ≡ familyOf number ⌝ }
+{
+    match number {
+        1..=9 => RefusalFamily::Mesh,
+        10..=19 => RefusalFamily::File,
+        20 => RefusalFamily::Program,
+        21..=22 => RefusalFamily::Question,
+        _ => RefusalFamily::None,
+    }
+}
