@@ -5,7 +5,7 @@ use mathlib.Core.List.{List, [], _∷_, _++_, flatten}
 use Prim.Native.Nat.{ℕ, _+_, _-_}
 use lib.Dec.{eqb}
 use lib.ListN.{length, replicate}
-use Rattle.plan.specs.Lists.{every, same, written}
+use Rattle.plan.specs.Lists.{every, upFrom, same, written}
 use Rattle.plan.specs.Answers.{Reply, accepted, refused}
 use Rattle.plan.specs.Mesh.{Mesh}
 use Rattle.plan.specs.Parts.{bound}
@@ -32,24 +32,24 @@ pub data Row : Type 0 where
   -- the listing program, from its input to its output
   listed : (input output : List ℕ) → Row
 
--- what lent memory holds before, a number that no result has
-abbrev pub stale : ℕ
-stale = 9999
+-- What lent memory of so many entries holds before: numbers that no result has, each another one.
+unfoldable pub stale : ℕ → List ℕ
+stale size = upFrom 9000 size
 
 -- buffers for n nodes, each one entry longer than needed, and a rows buffer so long
 unfoldable pub lent : ℕ → ℕ → Buffers
 lent n rows = record {
-  order = replicate (n + 1) stale;
-  positions = replicate (n + 1) stale;
-  sizes = replicate (n + 1) stale;
-  parents = replicate (n + 1) stale;
-  columnStarts = replicate (n + 2) stale;
-  rows = replicate rows stale;
+  order = stale (n + 1);
+  positions = stale (n + 1);
+  sizes = stale (n + 1);
+  parents = stale (n + 1);
+  columnStarts = stale (n + 2);
+  rows = stale rows;
 }
 
--- whether a buffer of so many entries holds these at its front, and else what it held before
+-- whether memory of so many entries holds these at its front, and behind them what it held before
 unfoldable pub holdsFront : ℕ → List ℕ → List ℕ → Bool
-holdsFront size front buffer = same buffer (front ++ replicate (size - length front) stale)
+holdsFront size front memory = same memory (front ++ upFrom (9000 + length front) (size - length front))
 
 unfoldable pub sameReply : Reply → Reply → Bool
 sameReply a b = eqb (a .number) (b .number) && same (a .values) (b .values)
@@ -69,7 +69,7 @@ agrees n rows expected o =
 -- whether a writing into so many bytes replies so, and leaves these bytes at the front
 unfoldable pub writes : ℕ → Reply → List ℕ → WriteOutcome → Bool
 writes room reply bytes o =
-    sameReply (o .reply) reply && holdsFront room bytes (written (o .bytes) (replicate room stale))
+    sameReply (o .reply) reply && holdsFront room bytes (written (o .bytes) (stale room))
 
 unfoldable pub claimed : Mesh → Outcome → Claim → Bool
 claimed m o (bounded k) = eqb (bound m (o .order) (o .sizes) (o .parents)) k
@@ -257,5 +257,5 @@ table =
 
 -- every row of the table holds
 pub starred : every holds table ≡ true
-unfolding everything lent holdsFront sameReply agrees writes claimed holds table
+unfolding everything stale lent holdsFront sameReply agrees writes claimed holds table
 starred = refl
