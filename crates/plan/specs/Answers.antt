@@ -29,18 +29,18 @@ abbrev pub writeReply : WriteAnswer → Reply
 writeReply (write.Written bytes) = accepted (bytes ∷ [])
 writeReply (write.Refused k) = refused k
 
--- The pair question gives "its slot, "diagonal" or "no slot"": which of the three, as a number, and behind the first the slot's number.
-abbrev pub slot : ℕ
-slot = 1
+-- The pair question gives "its slot, "diagonal" or "no slot"": which of the three, by a number of the book's own, and behind the first the slot's number.
+abbrev pub slotCase : ℕ
+slotCase = 1
 
-abbrev pub diagonal : ℕ
-diagonal = 2
+abbrev pub diagonalCase : ℕ
+diagonalCase = 2
 
-abbrev pub noSlot : ℕ
-noSlot = 3
+abbrev pub noSlotCase : ℕ
+noSlotCase = 3
 
 abbrev pub pairReply : PairAnswer → Reply
-pairReply (pair.Slot s) = accepted (slot ∷ s ∷ [])
-pairReply pair.Diagonal = accepted (diagonal ∷ [])
-pairReply pair.NoSlot = accepted (noSlot ∷ [])
+pairReply (pair.Slot s) = accepted (slotCase ∷ s ∷ [])
+pairReply pair.Diagonal = accepted (diagonalCase ∷ [])
+pairReply pair.NoSlot = accepted (noSlotCase ∷ [])
 pairReply (pair.Refused k) = refused k

@@ -1,14 +1,14 @@
 -- Document 01, "From mesh to parts": George and Liu's choice of a region's part.
 use mathlib.Core.Bool.{Bool, cond}
 use mathlib.Core.List.{List, [], _∷_, map, headD, getLastD}
-use Prim.Native.Nat.{ℕ, zero, suc, _+_, _-_, _*_, _/_}
+use Prim.Native.Nat.{ℕ, zero, suc, _+_, _*_, _/_}
 use lib.Dec.{leb, ltb, eqb}
 use lib.ListN.{length, getD}
 use Rattle.plan.specs.Lists.{exists, keep}
 use Rattle.plan.specs.Mesh.{Mesh, neighboursOf, adjacent}
 use Rattle.plan.specs.Levels.{Graph, levels, eccentricity, components}
 
--- "degree is the length of the node's list", nodes of other regions included
+-- "degree is the length of the node's list": nodes already chosen count too, so the region does not matter here
 unfoldable pub degreeIn : Mesh → List ℕ → ℕ → ℕ
 degreeIn m region v = length (neighboursOf m v)
 
@@ -38,7 +38,7 @@ improves m region r x = ltb (eccentricity (adjacent m) region r) (eccentricity (
 unfoldable pub nextRoot : Mesh → List ℕ → ℕ → ℕ
 nextRoot m region r = headD (keep (improves m region r) (candidates m region r)) r
 
--- "and the search begins again from its last level": at most `most` times
+-- "and the search begins again from its last level": at most `most` times. Where the next root is r itself, the search ends.
 unfoldable pub rootFrom : ℕ → Mesh → List ℕ → ℕ → ℕ
 rootFrom zero m region r = r
 rootFrom (suc most) m region r =
@@ -46,7 +46,8 @@ rootFrom (suc most) m region r =
     let found : ℕ = rootFrom most m region next in
     cond (eqb next r) r found
 
--- Pseudo-peripheral root: document 01's starting root, searched from "the region's smallest node". ℓ grows each time and stays below the region's size.
+-- Pseudo-peripheral root: document 01's starting root, searched from "the region's smallest node". ℓ grows each time and there are no more levels than nodes, so as many turns as nodes
+-- are enough; the square leaves room for a rule under which ℓ need not grow.
 unfoldable pub rootOf : Mesh → List ℕ → ℕ
 rootOf m region = rootFrom (length region * length region) m region (headD region 0)
 
@@ -66,7 +67,7 @@ separator edge ls j = keep (λ v. exists (edge v) (getD ls (j + 1) [])) (getD ls
 unfoldable pub numbering : List ℕ → List ℕ
 numbering nodes = nodes
 
--- What of a choice is set by planning: which regions stay whole (by the region and its ℓ), which level is cut, how a separator is numbered.
+-- What another rule of cutting may change, named apart: which regions stay whole (by the region and its ℓ), which level is cut, how a separator is numbered.
 pub record Settings : Type 0 where
   pub whole : List ℕ → ℕ → Bool
   pub level : ℕ → ℕ
@@ -80,7 +81,7 @@ standard = record { whole = staysWhole; level = cutLevel; numbered = numbering }
 unfoldable pub choosePart : Settings → Mesh → List ℕ → List ℕ
 choosePart settings m region =
     let ls : List (List ℕ) = levels (adjacent m) region (rootOf m region) in
-    let l : ℕ = length ls - 1 in
+    let l : ℕ = eccentricity (adjacent m) region (rootOf m region) in
     let cut : List ℕ = settings .numbered (separator (adjacent m) ls (settings .level l)) in
     cond (settings .whole region l) region cut
 

@@ -1,4 +1,4 @@
--- Paths (document 01, "From mesh to parts"), and the three statements of demand 3 over the buffers that planning hands out (document 01, "The layout").
+-- Paths (document 01, "From mesh to parts"), and the three statements of the user's demand 3 (docs/GUIDE.md) over the buffers that planning hands out (document 01, "The layout").
 use mathlib.Core.Bool.{Bool, true, _&&_}
 use mathlib.Core.Path.{_≡_}
 use mathlib.Core.Logic.{_↔_}

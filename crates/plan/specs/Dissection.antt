@@ -12,7 +12,8 @@ pub data Forest : Type 0 where
   empty : Forest
   tree : (members : List ℕ) → (children others : Forest) → Forest
 
--- "What is left of the region falls into components, each a region; their parts' father is this part." At most `most` deep and wide.
+-- "A region is a connected component of the nodes not yet chosen." "What is left of the region falls into components, each a region; their parts' father is this part."
+-- At most `most` regions deep and wide.
 unfoldable pub dissect : ℕ → Graph → (List ℕ → List ℕ) → List (List ℕ) → Forest
 dissect zero edge choose regions = empty
 dissect (suc most) edge choose [] = empty
@@ -29,15 +30,11 @@ unfoldable pub parts : Forest → List (List ℕ)
 parts empty = []
 parts (tree members children others) = parts children ++ (members ∷ parts others)
 
-unfoldable pub partCount : Forest → ℕ
-partCount empty = 0
-partCount (tree members children others) = partCount children + suc (partCount others)
-
 -- the parents of a forest whose first part has number `first` and whose outermost parts have the parent `parent`
 unfoldable pub parentsFrom : ℕ → ℕ → Forest → List ℕ
 parentsFrom first parent empty = []
 parentsFrom first parent (tree members children others) =
-    let own : ℕ = first + partCount children in
+    let own : ℕ = first + length (parts children) in
     parentsFrom first own children ++ (parent ∷ parentsFrom (suc own) parent others)
 
 -- the parents by part number; "A part of a first region has no father."
@@ -54,4 +51,4 @@ sizes f = map length (parts f)
 
 -- The positions of nodes 0 to n − 1, node to position: document 01's places.
 unfoldable pub positions : ℕ → List ℕ → List ℕ
-positions n order = map (λ v. indexOf v order) (below n)
+positions n nodes = map (λ v. indexOf v nodes) (below n)

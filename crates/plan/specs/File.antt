@@ -3,7 +3,7 @@ use mathlib.Core.Bool.{Bool, true, not, _&&_, _||_}
 use mathlib.Core.List.{List, [], _∷_, _++_, map, flatten}
 use Prim.Native.Nat.{ℕ, _+_, _-_, _*_, _/_, _%_}
 use lib.Dec.{ltb, eqb}
-use lib.ListN.{length, getD}
+use lib.ListN.{getD}
 use Rattle.plan.specs.Lists.{exists, every, below, isIn, listAt, eachOnce, total, runningSums, ascending}
 use Rattle.plan.specs.Refusals.{Checks}
 use Rattle.plan.specs.Mesh.{noParent, badNodeCount, badStarts}

@@ -11,20 +11,20 @@ Graph = ℕ → ℕ → Bool
 
 -- "the next level is every node of the region next to the last level and in no earlier one". The levels so far stand the last one first.
 unfoldable pub nextLevel : Graph → List ℕ → List (List ℕ) → List ℕ
-nextLevel edge region levels =
-    keep (λ v. exists (λ u. edge u v) (headD levels []) && not (isIn v (flatten levels))) region
+nextLevel edge region ls =
+    keep (λ v. exists (λ u. edge u v) (headD ls []) && not (isIn v (flatten ls))) region
 
--- the levels so far with one more, which is none where it has no node
+-- the levels so far and one more in front, unless it has no node
 unfoldable pub addLevel : List ℕ → List (List ℕ) → List (List ℕ)
-addLevel [] levels = levels
-addLevel (v ∷ vs) levels = (v ∷ vs) ∷ levels
+addLevel [] ls = ls
+addLevel (v ∷ vs) ls = (v ∷ vs) ∷ ls
 
 -- level 0 and at most `more` levels after it, the last one first
 unfoldable pub levelsBack : ℕ → Graph → List ℕ → ℕ → List (List ℕ)
 levelsBack zero edge region root = (root ∷ []) ∷ []
 levelsBack (suc more) edge region root =
-    let levels : List (List ℕ) = levelsBack more edge region root in
-    addLevel (nextLevel edge region levels) levels
+    let ls : List (List ℕ) = levelsBack more edge region root in
+    addLevel (nextLevel edge region ls) ls
 
 -- "Levels from a root: level 0 is the root". Each level has a node of the region that no other has, so there are no more levels than nodes.
 unfoldable pub levels : Graph → List ℕ → ℕ → List (List ℕ)

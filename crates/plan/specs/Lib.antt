@@ -16,5 +16,6 @@ pub mod Writing
 pub mod RoundTrips
 pub mod Questions
 pub mod Listing
+pub mod Enough
 pub mod Everything
 pub mod Starred

@@ -35,17 +35,18 @@ inputMesh bytes =
       neighbours = decode16s bytes (neighboursAt bytes) 2 (entryCount bytes);
     }
 
--- 20: "Over 256 nodes, over 2,048 entries, an end before the last start or an incomplete number"
+-- 20: "Over 256 nodes, over 2,048 entries, an end before the last start or an incomplete number". The end comes before the last start where the bytes do not hold n + 1 starts;
+-- neighbours fewer or more than the last start says are check 2. Entries are the numbers that the input holds.
 unfoldable pub badInput : List ℕ → Bool
 badInput bytes =
     ltb (length bytes) 2 || ltb maxListedNodes (decode16 bytes 0) || ltb maxListedEntries (entryCount bytes)
     || ltb (length bytes) (neighboursAt bytes) || eqb ((length bytes - neighboursAt bytes) % 2) 1
 
--- 20 first, then the mesh's own checks; its buffers are long enough, so 8 and 9 do not come
+-- 20 first, then the mesh's own checks; the program's buffers are long enough (256 nodes have at most 32,640 slots), so 8 and 9 do not come
 unfoldable pub listingChecks : List ℕ → Checks
 listingChecks bytes = (20, badInput bytes) ∷ meshChecks (inputMesh bytes)
 
--- a number in decimal digits, the last `most` and one more
+-- a number's last `most` + 1 decimal digits, without leading zeros
 unfoldable pub decimalUpTo : ℕ → ℕ → List ℕ
 decimalUpTo zero x = (48 + x % 10) ∷ []
 decimalUpTo (suc most) x =

@@ -54,11 +54,11 @@ boundary m region = keep (λ v. not (isIn v region) && exists (adjacent m v) reg
 unfoldable pub boundarySize : Mesh → List ℕ → List ℕ → List ℕ → ℕ → ℕ
 boundarySize m order sizes parents q = length (boundary m (regionOfPart order sizes parents q))
 
--- "size × (nodes bordering the part's region) + size × (size − 1) / 2"
+-- demand 3: "size × (nodes bordering the part's region) + size × (size − 1) / 2"
 unfoldable pub partBound : ℕ → ℕ → ℕ
 partBound size bordering = size * bordering + size * (size - 1) / 2
 
--- "the sum over the parts" of that
+-- demand 3: "the sum over the parts of" that
 unfoldable pub bound : Mesh → List ℕ → List ℕ → List ℕ → ℕ
 bound m order sizes parents =
     total (map (λ q. partBound (getD sizes q 0) (boundarySize m order sizes parents q)) (below (length sizes)))

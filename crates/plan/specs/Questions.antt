@@ -6,11 +6,11 @@ use lib.Dec.{leb, ltb, eqb}
 use lib.ListN.{length, getD, take, drop}
 use Rattle.plan.specs.Lists.{exists, isIn, indexOf, listAt}
 use Rattle.plan.specs.Refusals.{Checks, firstFault}
-use Rattle.plan.specs.Answers.{Reply, accepted, refused, slot, diagonal, noSlot}
+use Rattle.plan.specs.Answers.{Reply, accepted, refused, slotCase, diagonalCase, noSlotCase}
 use Rattle.plan.specs.Mesh.{badNodeCount, badStarts}
 use Rattle.plan.specs.File.{badColumns}
 
--- 22: "starts not n + 1 long, first not 0, falling, last above the rows' length, or rows failing 17's rule"
+-- 22: "starts not n + 1 long, first not 0, falling, last above the rows' length, or rows failing 17's rule". Rows behind the last start are not looked at.
 unfoldable pub badLayout : ℕ → List ℕ → List ℕ → Bool
 badLayout n columnStarts rows =
     badStarts n columnStarts || ltb (length rows) (getD columnStarts n 0) || badColumns n columnStarts rows
@@ -34,11 +34,11 @@ questionChecks n columnStarts rows asked = layoutChecks n columnStarts rows ++ p
 unfoldable pub slotOf : List ℕ → List ℕ → ℕ → ℕ → List ℕ
 slotOf columnStarts rows i j =
     let r : List ℕ = listAt columnStarts rows j in
-    cond (isIn i r) (slot ∷ (getD columnStarts j 0 + indexOf i r) ∷ []) (noSlot ∷ [])
+    cond (isIn i r) (slotCase ∷ (getD columnStarts j 0 + indexOf i r) ∷ []) (noSlotCase ∷ [])
 
 -- by the number of the first fault: "a pair of positions, in either order, gives its slot, "diagonal" or "no slot""
 unfoldable pub pairFound : ℕ → List ℕ → List ℕ → ℕ → ℕ → Reply
-pairFound zero columnStarts rows a b = accepted (cond (eqb a b) (diagonal ∷ []) (slotOf columnStarts rows (max a b) (min a b)))
+pairFound zero columnStarts rows a b = accepted (cond (eqb a b) (diagonalCase ∷ []) (slotOf columnStarts rows (max a b) (min a b)))
 pairFound (suc k) columnStarts rows a b = refused (suc k)
 
 -- the first question: the slot of a pair of positions
@@ -58,6 +58,7 @@ pub record Span : Type 0 where
 -- by the number of the first fault: "a column's rows are shown as a stretch of the rows buffer itself. Where the second question is refused, the stretch is empty"
 unfoldable pub spanFound : ℕ → List ℕ → ℕ → Span
 spanFound zero columnStarts j = record { start = getD columnStarts j 0; count = getD columnStarts (j + 1) 0 - getD columnStarts j 0 }
+-- document 01 leaves open where an empty stretch lies; the span then starts at 0
 spanFound (suc k) columnStarts j = record { start = 0; count = 0 }
 
 -- the second question: which stretch it is, and what stands in it

@@ -6,7 +6,7 @@ use lib.Dec.{ltb, eqb}
 use lib.ListN.{length, take}
 use Rattle.plan.specs.Lists.{same}
 use Rattle.plan.specs.Refusals.{Checks, firstFault}
-use Rattle.plan.specs.Planning.{Contents, Capacity, buffersTooShort, rowsTooShort, Outcome, handOut}
+use Rattle.plan.specs.Planning.{Capacity, buffersTooShort, rowsTooShort, Outcome, handOut}
 use Rattle.plan.specs.File.{decode16, magic, version, fileLength, parse, badHeader, contentsChecks}
 
 -- 10: fewer than 17 bytes

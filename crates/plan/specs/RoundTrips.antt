@@ -1,4 +1,4 @@
--- Demand 2, the round trips, as statements: "A written plan, once read, is the same plan; a plan that was read is written back byte for byte."
+-- The user's demand 2 (docs/GUIDE.md), the round trips, as statements: "A written plan, once read, is the same plan; a plan that was read is written back byte for byte."
 use mathlib.Core.Bool.{true, false}
 use mathlib.Core.Path.{_≡_}
 use mathlib.Core.List.{List, [], _∷_}
@@ -27,8 +27,8 @@ handed o = record {
 }
 
 -- an accepted writing of these bytes
-abbrev pub wrote : List ℕ → WriteOutcome
-wrote bytes = record { reply = accepted (length bytes ∷ []); bytes = bytes }
+abbrev pub acceptedWriting : List ℕ → WriteOutcome
+acceptedWriting bytes = record { reply = accepted (length bytes ∷ []); bytes = bytes }
 
 -- Written, then read: an accepted writing, read into buffers that are long enough, hands out exactly the used entries.
 abbrev pub WrittenThenRead : Type 0
@@ -43,11 +43,11 @@ ReadThenWritten =
     (bytes : List ℕ) (room : Capacity) (c : Contents) (output : ℕ)
     → every (λ b. ltb b 256) bytes ≡ true → reading bytes room .reply .number ≡ 0
     → used c ≡ handed (reading bytes room) → length bytes ≤ output
-    → writing c output ≡ wrote bytes
+    → writing c output ≡ acceptedWriting bytes
 
 -- Planned is writable: what planning hands out is written, given room for the file.
 abbrev pub PlannedIsWritable : Type 0
 PlannedIsWritable =
     (m : Mesh) (room : Capacity) (c : Contents) (output : ℕ)
     → planning m room .reply .number ≡ 0 → used c ≡ handed (planning m room) → fileLength c ≤ output
-    → writing c output ≡ wrote (encode (used c))
+    → writing c output ≡ acceptedWriting (encode (used c))

@@ -1,5 +1,5 @@
 -- Document 01, "Meshes worked through": the starred meshes and files 1 to 12 in one table, and the one statement that every row of it holds.
-use mathlib.Core.Bool.{Bool, true, false, _&&_}
+use mathlib.Core.Bool.{Bool, true, _&&_}
 use mathlib.Core.Path.{_≡_, refl}
 use mathlib.Core.List.{List, [], _∷_, _++_, flatten}
 use Prim.Native.Nat.{ℕ, _+_, _-_}
@@ -17,10 +17,10 @@ use Rattle.plan.specs.RoundTrips.{handed}
 use Rattle.plan.specs.Listing.{listing}
 use Rattle.plan.specs.Everything.{everything}
 
--- What document 01 says of a planned mesh beside its outcome: demand 3's bound, and the bytes of its file.
+-- What document 01 says of a planned mesh beside its outcome: demand 3's bound, and the length of its file. The table gives the file's bytes too.
 pub data Claim : Type 0 where
   bounded : ℕ → Claim
-  file : List ℕ → Claim
+  file : (size : ℕ) → (bytes : List ℕ) → Claim
 
 pub data Row : Type 0 where
   -- planning a mesh, lent a rows buffer so long
@@ -73,9 +73,7 @@ writes room reply bytes o =
 
 unfoldable pub claimed : Mesh → Outcome → Claim → Bool
 claimed m o (bounded k) = eqb (bound m (o .order) (o .sizes) (o .parents)) k
-claimed m o (file bytes) =
-    let room : ℕ = length bytes + 1 in
-    writes room (accepted (length bytes ∷ [])) bytes (writing (handed o) room)
+claimed m o (file size bytes) = writes (size + 1) (accepted (size ∷ [])) bytes (writing (handed o) (size + 1))
 
 -- a refusal: no values, and nothing written
 abbrev pub refusal : ℕ → Outcome
@@ -197,7 +195,7 @@ table =
     ∷ planned triangle 3 triangleOutcome []
     ∷ planned triangle 2 (refusal 9) []
     -- 4. Path 0-1-2-3-4: listing below; 11 multiplications; file of 59 bytes; bound 6.
-    ∷ planned path 6 pathOutcome (bounded 6 ∷ file pathFile ∷ [])
+    ∷ planned path 6 pathOutcome (bounded 6 ∷ file 59 pathFile ∷ [])
     ∷ read 5 6 pathFile pathOutcome
     ∷ listed pathInput pathListing
     -- 5. Ring 0-1-2-3: order 0 2 1 3, sizes 1 1 2, 5 slots, 12 multiplications; bound 5.

@@ -57,7 +57,7 @@ writeOut (suc k) c = record { reply = refused (suc k); bytes = [] }
 unfoldable pub writing : Contents → ℕ → WriteOutcome
 writing c room = writeOut (firstFault (writeChecks c room)) c
 
--- The promise of writing: the answer and the output are those of `writing`; it "leaves all bytes beyond".
+-- The promise of writing: the answer and the output are those of `writing`; it "leaves all bytes beyond it".
 pub record Wrote (c : Contents) (answer : WriteAnswer) (found left : List ℕ) : Type 0 where
   pub reply : writeReply answer ≡ writing c (length found) .reply
   pub output : left ≡ written (writing c (length found) .bytes) found
