@@ -1,0 +1,91 @@
+-- Ascending lists: a set of numbers has one of them.
+use mathlib.Core.Path.{_≡_, refl, sym, ap₂, _∙_}
+use mathlib.Core.Logic.{inl, inr}
+use mathlib.Core.Bool.{Bool, true, false, cond, false≢true}
+use mathlib.Core.List.{List, [], _∷_, headD}
+use Prim.Native.Nat.{ℕ, zero, suc, _≤_, _<_}
+use native.Mathlib.Omega.{arith}
+use lib.Dec.{ltb}
+use borrow.Author.Tests.{ltb-true, lt-ltb}
+use Rattle.plan.specs.Lists.{keep, upFrom, below, isIn, ascending}
+use Rattle.theory.proofs.Bools.{and-left, and-right, and-both, iff-eq}
+use Rattle.theory.proofs.Lists.{isIn-head, isIn-tail, isIn-cons, of-keep, isIn-upFrom}
+
+pub ascending-tail : (x : ℕ) (l : List ℕ) → ascending (x ∷ l) ≡ true → ascending l ≡ true
+ascending-tail x [] h = refl
+ascending-tail x (y ∷ ys) h = and-right (ltb x y) _ h
+
+-- the first of an ascending list is below the others
+pub ascending-lt : (x : ℕ) (l : List ℕ) → ascending (x ∷ l) ≡ true → (y : ℕ) → isIn y l ≡ true → x < y
+ascending-lt x [] h y t = absurd (false≢true t)
+ascending-lt x (z ∷ zs) h y t =
+    let lt : x < z = ltb-true x z (and-left (ltb x z) _ h) in
+    elim (isIn-cons y z zs t) [
+      | inl e ↦ omega arith
+      | inr u ↦ omega (arith, ascending-lt z zs (and-right (ltb x z) _ h) y u)
+    ]
+
+-- an ascending list stays so behind a number that is below all of it
+pub ascending-cons : (x : ℕ) (l : List ℕ) → ascending l ≡ true → ((y : ℕ) → isIn y l ≡ true → x < y) → ascending (x ∷ l) ≡ true
+ascending-cons x [] h f = refl
+ascending-cons x (y ∷ ys) h f = and-both (ltb x y) _ (lt-ltb x y (f y (isIn-head y ys))) h
+
+pub ascending-upFrom : (k a : ℕ) → ascending (upFrom a k) ≡ true
+ascending-upFrom zero a = refl
+ascending-upFrom (suc k) a = ascending-cons a (upFrom (suc a) k) (ascending-upFrom k (suc a)) (λ y t. isIn-upFrom k (suc a) y t .0)
+
+pub ascending-keep : (p : ℕ → Bool) (l : List ℕ) → ascending l ≡ true → ascending (keep p l) ≡ true
+ascending-keep p [] h = refl
+ascending-keep p (x ∷ xs) h = go (p x) (ascending-keep p xs (ascending-tail x xs h))
+  where
+    go : (b : Bool) → ascending (keep p xs) ≡ true → ascending (cond b (x ∷ keep p xs) (keep p xs)) ≡ true
+    go true ih = ascending-cons x (keep p xs) ih (λ y t. ascending-lt x xs h y (of-keep p xs y t .0))
+    go false ih = ih
+
+-- what is kept from a range is ascending
+pub ascending-kept : (p : ℕ → Bool) (n : ℕ) → ascending (keep p (below n)) ≡ true
+ascending-kept p n = ascending-keep p (below n) (ascending-upFrom n 0)
+
+-- the first of an ascending list is its least
+pub headD-isIn : (d : ℕ) (l : List ℕ) (x : ℕ) → isIn x l ≡ true → isIn (headD l d) l ≡ true
+unfolding headD
+headD-isIn d [] x h = absurd (false≢true h)
+headD-isIn d (y ∷ ys) x h = isIn-head y ys
+
+pub headD-least : (d : ℕ) (l : List ℕ) → ascending l ≡ true → (x : ℕ) → isIn x l ≡ true → headD l d ≤ x
+unfolding headD
+headD-least d [] h x t = absurd (false≢true t)
+headD-least d (y ∷ ys) h x t = elim (isIn-cons x y ys t) [
+  | inl e ↦ omega arith
+  | inr u ↦ omega (arith, ascending-lt y ys h x u)
+]
+
+-- two ascending lists with the same elements are equal
+pub ascending-ext : (l r : List ℕ) → ascending l ≡ true → ascending r ≡ true → ((x : ℕ) → isIn x l ≡ isIn x r) → l ≡ r
+ascending-ext [] [] h k f = refl
+ascending-ext [] (y ∷ ys) h k f = absurd (false≢true (f y ∙ isIn-head y ys))
+ascending-ext (x ∷ xs) [] h k f = absurd (false≢true (sym (f x) ∙ isIn-head x xs))
+ascending-ext (x ∷ xs) (y ∷ ys) h k f =
+    ap₂ (λ (a : ℕ) (b : List ℕ). a ∷ b) heads
+    (ascending-ext xs ys (ascending-tail x xs h) (ascending-tail y ys k) (λ z. iff-eq _ _ (right z) (left z)))
+  where
+    le : y ≤ x
+    le = unfold headD in headD-least 0 (y ∷ ys) k x (sym (f x) ∙ isIn-head x xs)
+
+    ge : x ≤ y
+    ge = unfold headD in headD-least 0 (x ∷ xs) h y (f y ∙ isIn-head y ys)
+
+    heads : x ≡ y
+    heads = omega (arith, le, ge)
+
+    right : (z : ℕ) → isIn z xs ≡ true → isIn z ys ≡ true
+    right z t = elim (isIn-cons z y ys (sym (f z) ∙ isIn-tail z x xs t)) [
+      | inl e ↦ absurd (omega (arith, le, ge, e, ascending-lt x xs h z t))
+      | inr u ↦ u
+    ]
+
+    left : (z : ℕ) → isIn z ys ≡ true → isIn z xs ≡ true
+    left z t = elim (isIn-cons z x xs (f z ∙ isIn-tail z y ys t)) [
+      | inl e ↦ absurd (omega (arith, le, ge, e, ascending-lt y ys k z t))
+      | inr u ↦ u
+    ]

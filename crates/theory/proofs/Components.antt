@@ -1,0 +1,238 @@
+-- The components of a set: they partition it, each is connected, no edge joins two of them, and they come by smallest node.
+use mathlib.Core.Path.{_≡_, refl, sym, ap, subst, _∙_}
+use mathlib.Core.Logic.{inl, inr}
+use mathlib.Core.Bool.{Bool, true, false, not, cond, _||_, false≢true}
+use mathlib.Core.List.{List, [], _∷_, map, reverse, reverseAux, headD, flatten}
+use Prim.Native.Nat.{ℕ, zero, suc, _+_, _≤_, _<_}
+use native.Mathlib.Omega.{arith}
+use lib.Dec.{eqb}
+use lib.ListN.{length}
+use borrow.Author.Tests.{not-true, eq-eqb}
+use Rattle.plan.specs.Lists.{keep, isIn, without, ascending}
+use Rattle.plan.specs.Levels.{Graph, levelsBack, levels, component, componentsUpTo, components}
+use Rattle.theory.specs.Regions.{All, Apart, Walk, stay, go, count, Connected, Region}
+use Rattle.theory.proofs.Bools.{or-left, cond-true}
+use Rattle.theory.proofs.Lists.{isIn-head, isIn-tail, isIn-cons, isIn-append, isIn-append-left, isIn-append-right, isIn-append-cases, exists-isIn, in-keep, of-keep}
+use Rattle.theory.proofs.Ascending.{ascending-tail, ascending-lt, ascending-cons, ascending-keep}
+use Rattle.theory.proofs.Counting.{count-append, count-le, count-part, same-members}
+use Rattle.theory.proofs.Levels.{Levelled, first, after, of-next, levelled, levels-ended, root-reached, reached-closed}
+
+-- ---- the order of the levels does not matter to what they hold
+
+or-turn : (a b c : Bool) → (a || (b || c)) ≡ ((b || a) || c)
+or-turn true true c = refl
+or-turn true false c = refl
+or-turn false true c = refl
+or-turn false false c = refl
+
+flatten-aux : (x : ℕ) (ls acc : List (List ℕ)) → isIn x (flatten (reverseAux ls acc)) ≡ (isIn x (flatten ls) || isIn x (flatten acc))
+unfolding flatten
+flatten-aux x [] acc = refl
+flatten-aux x (l ∷ ls) acc =
+    flatten-aux x ls (l ∷ acc)
+    ∙ ap (λ (t : Bool). isIn x (flatten ls) || t) (isIn-append x l (flatten acc))
+    ∙ or-turn (isIn x (flatten ls)) (isIn x l) (isIn x (flatten acc))
+    ∙ ap (λ (t : Bool). t || isIn x (flatten acc)) (sym (isIn-append x l (flatten ls)))
+
+or-false : (b : Bool) → (b || false) ≡ b
+or-false true = refl
+or-false false = refl
+
+pub isIn-flatten-reverse : (x : ℕ) (ls : List (List ℕ)) → isIn x (flatten (reverse ls)) ≡ isIn x (flatten ls)
+unfolding flatten
+isIn-flatten-reverse x ls = flatten-aux x ls [] ∙ or-false (isIn x (flatten ls))
+
+module _ (edge : Graph) where
+  -- what the levels from v reach
+  abbrev reached : List ℕ → ℕ → List ℕ
+  reached nodes v = flatten (levelsBack (length nodes) edge nodes v)
+
+  pub in-component : (nodes : List ℕ) (v w : ℕ) → isIn w nodes ≡ true → isIn w (reached nodes v) ≡ true → isIn w (component edge nodes v) ≡ true
+  unfolding component levels
+  in-component nodes v w h r = in-keep (λ w. isIn w (flatten (levels edge nodes v))) nodes w h (isIn-flatten-reverse w (levelsBack (length nodes) edge nodes v) ∙ r)
+
+  pub of-component : (nodes : List ℕ) (v w : ℕ) → isIn w (component edge nodes v) ≡ true → (isIn w nodes ≡ true) × (isIn w (reached nodes v) ≡ true)
+  unfolding component levels
+  of-component nodes v w h =
+      let k = of-keep (λ w. isIn w (flatten (levels edge nodes v))) nodes w h in
+      (k .0, sym (isIn-flatten-reverse w (levelsBack (length nodes) edge nodes v)) ∙ k .1)
+
+  -- an edge of the set does not leave a component
+  pub component-closed : (nodes : List ℕ) (v a b : ℕ) → isIn a (component edge nodes v) ≡ true → isIn b nodes ≡ true → edge a b ≡ true → isIn b (component edge nodes v) ≡ true
+  component-closed nodes v a b ha hb e =
+      in-component nodes v b hb
+      (reached-closed edge nodes v (levelled edge nodes v (length nodes)) (levels-ended edge nodes v) a b (of-component nodes v a ha .1) hb e)
+
+  -- the component of the first node begins with it
+  pub component-head : (v : ℕ) (nodes : List ℕ) → component edge (v ∷ nodes) v ≡ v ∷ keep (λ w. isIn w (flatten (levels edge (v ∷ nodes) v))) nodes
+  unfolding component levels
+  component-head v nodes =
+      cond-true (isIn v (flatten (levels edge (v ∷ nodes) v))) _ _
+      (isIn-flatten-reverse v (levelsBack (length (v ∷ nodes)) edge (v ∷ nodes) v) ∙ root-reached edge (v ∷ nodes) v (levelled edge (v ∷ nodes) v (length (v ∷ nodes))))
+
+  -- what is left behind it
+  left-of : (v : ℕ) (nodes : List ℕ) → without (component edge (v ∷ nodes) v) nodes ≡ without (component edge (v ∷ nodes) v) (v ∷ nodes)
+  left-of v nodes = hide (isIn v (component edge (v ∷ nodes) v)) (ap (isIn v) (component-head v nodes) ∙ isIn-head v (keep (λ w. isIn w (flatten (levels edge (v ∷ nodes) v))) nodes))
+    where
+      hide : (b : Bool) → b ≡ true → without (component edge (v ∷ nodes) v) nodes
+          ≡ cond (not b) (v ∷ without (component edge (v ∷ nodes) v) nodes) (without (component edge (v ∷ nodes) v) nodes)
+      hide true t = refl
+      hide false t = absurd (false≢true t)
+
+  -- the component and what is left behind it make up the set
+  component-count : (v : ℕ) (nodes : List ℕ) (p : ℕ → Bool)
+      → count p (component edge (v ∷ nodes) v) + count p (without (component edge (v ∷ nodes) v) nodes) ≡ count p (v ∷ nodes)
+  unfolding component
+  component-count v nodes p = rw (left-of v nodes) (count-part p (λ w. isIn w (flatten (levels edge (v ∷ nodes) v))) (v ∷ nodes))
+
+  -- ---- the components together
+
+  few-left : (v : ℕ) (nodes : List ℕ) (most : ℕ) → length (v ∷ nodes) ≤ suc most → length (without (component edge (v ∷ nodes) v) nodes) ≤ most
+  few-left v nodes most l = omega (arith, count-le (λ w. not (isIn w (component edge (v ∷ nodes) v))) nodes)
+
+  count-up-to : (most : ℕ) (nodes : List ℕ) → length nodes ≤ most → (p : ℕ → Bool) → count p (flatten (componentsUpTo most edge nodes)) ≡ count p nodes
+  unfolding componentsUpTo flatten
+  count-up-to zero nodes l p = omega (arith, count-le p nodes)
+  count-up-to (suc most) [] l p = refl
+  count-up-to (suc most) (v ∷ nodes) l p =
+      let c : List ℕ = component edge (v ∷ nodes) v in
+      omega (
+        arith,
+        count-append p c (flatten (componentsUpTo most edge (without c nodes))),
+        count-up-to most (without c nodes) (few-left v nodes most l) p,
+        component-count v nodes p,
+      )
+
+  apart-up-to : (most : ℕ) (nodes : List ℕ) → length nodes ≤ most → Apart edge (componentsUpTo most edge nodes)
+  unfolding componentsUpTo
+  apart-up-to zero nodes l = tt
+  apart-up-to (suc most) [] l = tt
+  apart-up-to (suc most) (v ∷ nodes) l =
+      let c : List ℕ = component edge (v ∷ nodes) v in
+      let few : length (without c nodes) ≤ most = few-left v nodes most l in (
+        (λ a b ha hb e.
+            let k = of-keep (λ w. not (isIn w c)) nodes b (same-members (flatten (componentsUpTo most edge (without c nodes))) (without c nodes) (count-up-to most (without c nodes) few) b hb) in
+            absurd (false≢true (sym (not-true (isIn b c) (k .1)) ∙ component-closed (v ∷ nodes) v a b ha (isIn-tail b v nodes (k .0)) e))),
+        apart-up-to most (without c nodes) few,
+      )
+
+  some-up-to : (most : ℕ) (nodes : List ℕ) → All (λ r. 0 < length r) (componentsUpTo most edge nodes)
+  unfolding componentsUpTo
+  some-up-to zero nodes = tt
+  some-up-to (suc most) [] = tt
+  some-up-to (suc most) (v ∷ nodes) = (rw (component-head v nodes) (omega arith), some-up-to most (without (component edge (v ∷ nodes) v) nodes))
+
+  -- "components partition a set": flattened they hold each of its nodes, as often as the set does
+  pub components-count : (nodes : List ℕ) (p : ℕ → Bool) → count p (flatten (components edge nodes)) ≡ count p nodes
+  unfolding components
+  components-count nodes p = count-up-to (length nodes) nodes (omega arith) p
+
+  -- no edge joins two of them
+  pub components-apart : (nodes : List ℕ) → Apart edge (components edge nodes)
+  unfolding components
+  components-apart nodes = apart-up-to (length nodes) nodes (omega arith)
+
+  -- each has a node
+  pub components-some : (nodes : List ℕ) → All (λ r. 0 < length r) (components edge nodes)
+  unfolding components
+  components-some nodes = some-up-to (length nodes) nodes
+
+  -- ---- connected
+
+  last-held : (ls : List (List ℕ)) (x : ℕ) → isIn x (headD ls []) ≡ true → isIn x (flatten ls) ≡ true
+  unfolding flatten headD
+  last-held [] x t = absurd (false≢true t)
+  last-held (l ∷ ls) x t = isIn-append-left x l (flatten ls) t
+
+  -- a node that the levels hold is reached from the root by a way through nodes of the set that they hold
+  reached-walk : (nodes : List ℕ) (v : ℕ) (c : List ℕ) {ls : List (List ℕ)} → Levelled edge nodes v ls
+      → ((w : ℕ) → isIn w nodes ≡ true → isIn w (flatten ls) ≡ true → isIn w c ≡ true) → (w : ℕ) → isIn w (flatten ls) ≡ true → Walk edge c v w
+  unfolding flatten
+  reached-walk nodes v c first f w h = elim (isIn-append-cases w (v ∷ []) [] h) [
+    | inl s ↦ elim (isIn-cons w v [] s) [ inl e ↦ subst (λ (x : ℕ). Walk edge c v x) (sym e) stay | inr e ↦ absurd (false≢true e) ]
+    | inr s ↦ absurd (false≢true s)
+  ]
+  reached-walk nodes v c (after {l = l} {ls = ls} h e some) f w m =
+      let earlier : (x : ℕ) → isIn x (flatten ls) ≡ true → Walk edge c v x = reached-walk nodes v c h (λ x i t. f x i (isIn-append-right x l (flatten ls) t)) in
+      elim (isIn-append-cases w l (flatten ls) m) [
+        | inl s ↦
+            let n = of-next edge nodes ls w (subst (λ (x : List ℕ). isIn w x ≡ true) e s) in
+            let u = exists-isIn (λ u. edge u w) (headD ls []) (n .near) in
+            go (earlier (u .0) (last-held ls (u .0) (u .1))) (u .2) (f w (n .inside) m)
+        | inr s ↦ earlier w s
+      ]
+
+  -- a component is connected: from the node that it is the component of, a way inside it leads to each of its nodes
+  pub component-walk : (nodes : List ℕ) (v w : ℕ) → isIn w (component edge nodes v) ≡ true → Walk edge (component edge nodes v) v w
+  component-walk nodes v w h =
+      reached-walk nodes v (component edge nodes v) (levelled edge nodes v (length nodes)) (λ x i t. in-component nodes v x i t) w (of-component nodes v w h .1)
+
+  connected-first : (v : ℕ) (nodes : List ℕ) → Connected edge (component edge (v ∷ nodes) v)
+  unfolding headD
+  connected-first v nodes w h =
+      let e : headD (component edge (v ∷ nodes) v) 0 ≡ v = ap (λ (l : List ℕ). headD l 0) (component-head v nodes) in
+      subst (λ (x : ℕ). Walk edge (component edge (v ∷ nodes) v) x w) (sym e) (component-walk (v ∷ nodes) v w h)
+
+  connected-up-to : (most : ℕ) (nodes : List ℕ) → All (Connected edge) (componentsUpTo most edge nodes)
+  unfolding componentsUpTo
+  connected-up-to zero nodes = tt
+  connected-up-to (suc most) [] = tt
+  connected-up-to (suc most) (v ∷ nodes) = (connected-first v nodes, connected-up-to most (without (component edge (v ∷ nodes) v) nodes))
+
+  pub components-connected : (nodes : List ℕ) → All (Connected edge) (components edge nodes)
+  unfolding components
+  components-connected nodes = connected-up-to (length nodes) nodes
+
+  -- ---- by smallest node: each ascends, and their first nodes do
+
+  ascending-up-to : (most : ℕ) (nodes : List ℕ) → ascending nodes ≡ true → All (λ c. ascending c ≡ true) (componentsUpTo most edge nodes)
+  unfolding componentsUpTo component
+  ascending-up-to zero nodes h = tt
+  ascending-up-to (suc most) [] h = tt
+  ascending-up-to (suc most) (v ∷ nodes) h =
+      let c : List ℕ = component edge (v ∷ nodes) v in (
+        ascending-keep (λ w. isIn w (flatten (levels edge (v ∷ nodes) v))) (v ∷ nodes) h,
+        ascending-up-to most (without c nodes) (ascending-keep (λ w. not (isIn w c)) nodes (ascending-tail v nodes h)),
+      )
+
+  pub components-ascending : (nodes : List ℕ) → ascending nodes ≡ true → All (λ c. ascending c ≡ true) (components edge nodes)
+  unfolding components
+  components-ascending nodes h = ascending-up-to (length nodes) nodes h
+
+  -- the first node of each
+  abbrev pub heads : List (List ℕ) → List ℕ
+  heads cs = map (λ c. headD c 0) cs
+
+  heads-inside : (most : ℕ) (nodes : List ℕ) (x : ℕ) → isIn x (heads (componentsUpTo most edge nodes)) ≡ true → isIn x nodes ≡ true
+  unfolding componentsUpTo headD
+  heads-inside zero nodes x h = absurd (false≢true h)
+  heads-inside (suc most) [] x h = absurd (false≢true h)
+  heads-inside (suc most) (v ∷ nodes) x h =
+      let c : List ℕ = component edge (v ∷ nodes) v in
+      elim (isIn-cons x (headD c 0) (heads (componentsUpTo most edge (without c nodes))) h) [
+        | inl e ↦ or-left (eqb x v) _ (eq-eqb x v (e ∙ ap (λ (l : List ℕ). headD l 0) (component-head v nodes)))
+        | inr m ↦ isIn-tail x v nodes (of-keep (λ w. not (isIn w c)) nodes x (heads-inside most (without c nodes) x m) .0)
+      ]
+
+  heads-up-to : (most : ℕ) (nodes : List ℕ) → ascending nodes ≡ true → ascending (heads (componentsUpTo most edge nodes)) ≡ true
+  unfolding componentsUpTo headD
+  heads-up-to zero nodes h = refl
+  heads-up-to (suc most) [] h = refl
+  heads-up-to (suc most) (v ∷ nodes) h =
+      let c : List ℕ = component edge (v ∷ nodes) v in
+      let e : headD c 0 ≡ v = ap (λ (l : List ℕ). headD l 0) (component-head v nodes) in
+      ascending-cons (headD c 0) (heads (componentsUpTo most edge (without c nodes)))
+      (heads-up-to most (without c nodes) (ascending-keep (λ w. not (isIn w c)) nodes (ascending-tail v nodes h)))
+      (λ y t. omega (arith, e, ascending-lt v nodes h y (of-keep (λ w. not (isIn w c)) nodes y (heads-inside most (without c nodes) y t) .0)))
+
+  pub components-by-smallest : (nodes : List ℕ) → ascending nodes ≡ true → ascending (heads (components edge nodes)) ≡ true
+  unfolding components
+  components-by-smallest nodes h = heads-up-to (length nodes) nodes h
+
+  -- so the components of an ascending set are regions
+  regions-up-to : (cs : List (List ℕ)) → All (λ c. 0 < length c) cs → All (λ c. ascending c ≡ true) cs → All (Connected edge) cs → All (Region edge) cs
+  regions-up-to [] s a c = tt
+  regions-up-to (l ∷ ls) s a c = (record { some = s .0; ascends = a .0; connected = c .0 }, regions-up-to ls (s .1) (a .1) (c .1))
+
+  pub components-regions : (nodes : List ℕ) → ascending nodes ≡ true → All (Region edge) (components edge nodes)
+  components-regions nodes h = regions-up-to (components edge nodes) (components-some nodes) (components-ascending nodes h) (components-connected nodes)

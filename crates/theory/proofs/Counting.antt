@@ -1,0 +1,151 @@
+-- How many elements of a list pass a test. That every test counts alike in two lists says that they hold the same numbers, equally often.
+use mathlib.Core.Path.{_≡_, refl, sym, ap, _∙_}
+use mathlib.Core.Logic.{_⊎_, inl, inr}
+use mathlib.Core.Bool.{Bool, true, false, not, cond, false≢true}
+use mathlib.Core.List.{List, [], _∷_, _++_}
+use Prim.Native.Nat.{ℕ, zero, suc, _+_, _-_, _≤_, _<_}
+use native.Mathlib.Nat.{zero-add}
+use native.Mathlib.Omega.{arith}
+use lib.Dec.{eqb, ltb}
+use lib.ListN.{length}
+use borrow.Author.Tests.{le-ltb}
+use Rattle.plan.specs.Lists.{exists, keep, upFrom, below, isIn, without}
+use Rattle.theory.specs.Regions.{count}
+use Rattle.theory.proofs.Bools.{or-cases, or-left, or-right, tested, lt-or-le}
+use Rattle.theory.proofs.Lists.{isIn-cons, upFrom-add, without-keep}
+
+-- 1 for a passed test
+abbrev pub unit : Bool → ℕ
+unit true = 1
+unit false = 0
+
+pub unit-le : (b : Bool) → unit b ≤ 1
+unit-le true = omega arith
+unit-le false = omega arith
+
+pub unit-true : (b : Bool) → b ≡ true → unit b ≡ 1
+unit-true true t = refl
+unit-true false t = absurd (false≢true t)
+
+pub unit-false : (b : Bool) → b ≡ false → unit b ≡ 0
+unit-false true t = absurd (false≢true (sym t))
+unit-false false t = refl
+
+pub count-cons : (p : ℕ → Bool) (x : ℕ) (xs : List ℕ) → count p (x ∷ xs) ≡ unit (p x) + count p xs
+count-cons p x xs = go (p x)
+  where
+    go : (b : Bool) → length (cond b (x ∷ keep p xs) (keep p xs)) ≡ unit b + count p xs
+    go true = omega arith
+    go false = omega arith
+
+pub count-append : (p : ℕ → Bool) (xs ys : List ℕ) → count p (xs ++ ys) ≡ count p xs + count p ys
+count-append p [] ys = omega arith
+count-append p (x ∷ xs) ys = omega (arith, count-cons p x (xs ++ ys), count-cons p x xs, count-append p xs ys)
+
+pub count-all : (l : List ℕ) → count (λ x. true) l ≡ length l
+count-all [] = refl
+count-all (x ∷ l) = ap suc (count-all l)
+
+pub count-le : (p : ℕ → Bool) (l : List ℕ) → count p l ≤ length l
+count-le p [] = omega arith
+count-le p (x ∷ l) = omega (arith, count-cons p x l, unit-le (p x), count-le p l)
+
+-- something passes exactly where the count is not 0
+pub exists-count : (p : ℕ → Bool) (l : List ℕ) → exists p l ≡ true → 0 < count p l
+exists-count p [] h = absurd (false≢true h)
+exists-count p (x ∷ l) h = elim (or-cases (p x) (exists p l) h) [
+  | inl t ↦ omega (arith, count-cons p x l, unit-true (p x) t)
+  | inr t ↦ omega (arith, count-cons p x l, exists-count p l t)
+]
+
+pub count-exists : (p : ℕ → Bool) (l : List ℕ) → 0 < count p l → exists p l ≡ true
+count-exists p [] h = absurd (omega arith)
+count-exists p (x ∷ l) h = elim (tested (p x)) [
+  | inl t ↦ or-left (p x) (exists p l) t
+  | inr t ↦ or-right (p x) (exists p l) (count-exists p l (omega (arith, count-cons p x l, unit-false (p x) t)))
+]
+
+-- lists in which every test counts alike have the same members
+pub same-members : (xs ys : List ℕ) → ((p : ℕ → Bool) → count p xs ≡ count p ys) → (x : ℕ) → isIn x xs ≡ true → isIn x ys ≡ true
+same-members xs ys f x h = count-exists (eqb x) ys (omega (arith, f (eqb x), exists-count (eqb x) xs h))
+
+-- and the same length
+pub same-length : (xs ys : List ℕ) → ((p : ℕ → Bool) → count p xs ≡ count p ys) → length xs ≡ length ys
+same-length xs ys f = omega (arith, f (λ x. true), count-all xs, count-all ys)
+
+-- those that pass a test and those that do not make up the list
+pub count-split : (p q : ℕ → Bool) (l : List ℕ) → count p (keep q l) + count p (keep (λ v. not (q v)) l) ≡ count p l
+count-split p q [] = refl
+count-split p q (y ∷ l) = go (q y) (count-split p q l)
+  where
+    go : (b : Bool) → count p (keep q l) + count p (keep (λ v. not (q v)) l) ≡ count p l
+        → count p (cond b (y ∷ keep q l) (keep q l)) + count p (cond (not b) (y ∷ keep (λ v. not (q v)) l) (keep (λ v. not (q v)) l)) ≡ count p (y ∷ l)
+    go true ih = omega (arith, count-cons p y (keep q l), count-cons p y l)
+    go false ih = omega (arith, count-cons p y (keep (λ v. not (q v)) l), count-cons p y l)
+
+-- a part that is kept from a list, and what is left without it, make up the list
+pub count-part : (p q : ℕ → Bool) (l : List ℕ) → count p (keep q l) + count p (without (keep q l) l) ≡ count p l
+count-part p q l = rw (without-keep q l) (count-split p q l)
+
+-- fewer pass a stricter test
+unit-mono : (a b : Bool) → (a ≡ true → b ≡ true) → unit a ≤ unit b
+unit-mono true b f = omega (arith, unit-true b (f refl))
+unit-mono false b f = omega arith
+
+pub count-mono : (p q : ℕ → Bool) (l : List ℕ) → ((x : ℕ) → p x ≡ true → q x ≡ true) → count p l ≤ count q l
+count-mono p q [] h = omega arith
+count-mono p q (y ∷ l) h = omega (arith, count-cons p y l, count-cons q y l, unit-mono (p y) (q y) (h y), count-mono p q l h)
+
+pub count-less : (p q : ℕ → Bool) (x : ℕ) (l : List ℕ) → ((y : ℕ) → p y ≡ true → q y ≡ true) → isIn x l ≡ true → q x ≡ true → p x ≡ false → count p l < count q l
+count-less p q x [] h m a b = absurd (false≢true m)
+count-less p q x (y ∷ l) h m a b = elim (isIn-cons x y l m) [
+  | inl z ↦ omega (
+    arith,
+    count-cons p y l,
+    count-cons q y l,
+    unit-true (q y) (ap q (sym z) ∙ a),
+    unit-false (p y) (ap p (sym z) ∙ b),
+    count-mono p q l h,
+  )
+  | inr e ↦ omega (arith, count-cons p y l, count-cons q y l, unit-mono (p y) (q y) (h y), count-less p q x l h e a b)
+]
+
+-- a test that implies one of two others
+unit-or : (a b c : Bool) → (a ≡ true → (b ≡ true) ⊎ (c ≡ true)) → unit a ≤ unit b + unit c
+unit-or true b c h = elim (h refl) [ inl t ↦ omega (arith, unit-true b t) | inr t ↦ omega (arith, unit-true c t) ]
+unit-or false b c h = omega arith
+
+pub count-or : (p q r : ℕ → Bool) (a k : ℕ) → ((i : ℕ) → a ≤ i → i < a + k → p i ≡ true → (q i ≡ true) ⊎ (r i ≡ true))
+    → count p (upFrom a k) ≤ count q (upFrom a k) + count r (upFrom a k)
+count-or p q r a zero h = omega arith
+count-or p q r a (suc k) h =
+    omega (
+      arith,
+      count-cons p a (upFrom (suc a) k),
+      count-cons q a (upFrom (suc a) k),
+      count-cons r a (upFrom (suc a) k),
+      unit-or (p a) (q a) (r a) (h a (omega arith) (omega arith)),
+      count-or p q r (suc a) k (λ i l m. h i (omega arith) (omega arith)),
+    )
+
+-- at most e - a numbers from a on lie below e
+pub count-below : (e a k : ℕ) → count (λ i. ltb i e) (upFrom a k) ≤ e - a
+count-below e a zero = omega arith
+count-below e a (suc k) = elim (lt-or-le a e) [
+  | inl l ↦ omega (arith, count-cons (λ i. ltb i e) a (upFrom (suc a) k), unit-le (ltb a e), count-below e (suc a) k)
+  | inr l ↦ omega (arith, count-cons (λ i. ltb i e) a (upFrom (suc a) k), unit-false (ltb a e) (le-ltb a e l), count-below e (suc a) k)
+]
+
+-- the numbers from a on that pass are some of those below n that do
+pub count-later : (p : ℕ → Bool) (n a : ℕ) → count p (upFrom a (n - a)) ≤ count p (below n)
+count-later p n a = elim (lt-or-le n a) [
+  | inl l ↦ let e : n - a ≡ 0 = omega arith in rw e (omega arith)
+  | inr l ↦ let e : n ≡ a + (n - a) = omega arith in
+      omega (
+        arith,
+        ap (λ (k : ℕ). count p (below k)) e,
+        ap (count p) (upFrom-add 0 a (n - a)),
+        count-append p (below a) (upFrom (0 + a) (n - a)),
+        ap (λ (b : ℕ). count p (upFrom b (n - a))) (zero-add a),
+      )
+]

@@ -1,0 +1,129 @@
+-- Dissection by any choice that takes a non-empty part from each region: it holds each node once, and it is nested.
+use mathlib.Core.Path.{_≡_, sym, ap, subst, _∙_}
+use mathlib.Core.Bool.{Bool, true, not}
+use mathlib.Core.List.{List, [], _∷_, _++_, flatten}
+use Prim.Native.Nat.{ℕ, zero, suc, _+_, _≤_}
+use native.Mathlib.Omega.{arith}
+use lib.Dec.{eqb}
+use lib.ListN.{length, getD, length-append}
+use Rattle.plan.specs.Lists.{below, isIn, without}
+use Rattle.plan.specs.Mesh.{noParent}
+use Rattle.plan.specs.Levels.{Graph, components}
+use Rattle.plan.specs.Dissection.{Forest, dissect, dissection, parents, order, sizes}
+use Rattle.theory.specs.Regions.{All, Apart, count, Region, Takes}
+use Rattle.theory.specs.PartTree.{PartTree, Nested}
+use Rattle.theory.proofs.Lists.{flatten-nil, flatten-cons, length-upFrom}
+use Rattle.theory.proofs.Ascending.{ascending-keep, ascending-upFrom}
+use Rattle.theory.proofs.Counting.{count-append, count-all, count-le, same-members, same-length, exists-count, count-exists}
+use Rattle.theory.proofs.Components.{components-count, components-apart, components-regions}
+use Rattle.theory.proofs.Forest.{order-empty, order-tree}
+use Rattle.theory.proofs.Nested.{Separated, Full, forest-tree, forest-nested}
+
+module _ (edge : Graph) (choose : List ℕ → List ℕ) (takes : Takes edge choose) where
+  -- what the cut leaves of a region
+  abbrev left : List ℕ → List (List ℕ)
+  left r = components edge (without (choose r) r)
+
+  left-regions : (r : List ℕ) → Region edge r → All (Region edge) (left r)
+  left-regions r h = components-regions edge (without (choose r) r) (ascending-keep (λ v. not (isIn v (choose r))) r (h .ascends))
+
+  -- the part and what the cut leaves make up the region
+  part-count : (r : List ℕ) → Region edge r → (p : ℕ → Bool) → count p (choose r) + count p (flatten (left r)) ≡ count p r
+  part-count r h p = omega (arith, takes .rest r h p, components-count edge (without (choose r) r) p)
+
+  part-length : (r : List ℕ) → Region edge r → length (choose r) + length (flatten (left r)) ≡ length r
+  part-length r h = omega (arith, part-count r h (λ x. true), count-all (choose r), count-all (flatten (left r)), count-all r)
+
+  -- one step fewer is enough for what is left and for the other regions
+  enough-left : (r : List ℕ) (rs : List (List ℕ)) (most : ℕ) → Region edge r → length (flatten (r ∷ rs)) ≤ suc most → length (flatten (left r)) ≤ most
+  enough-left r rs most h l = omega (arith, ap length (flatten-cons r rs), part-length r h, takes .some r h, length-append r (flatten rs))
+
+  enough-others : (r : List ℕ) (rs : List (List ℕ)) (most : ℕ) → Region edge r → length (flatten (r ∷ rs)) ≤ suc most → length (flatten rs) ≤ most
+  enough-others r rs most h l = omega (arith, ap length (flatten-cons r rs), part-length r h, takes .some r h, length-append r (flatten rs))
+
+  -- every test counts alike in the regions and in the dissection
+  dissect-count : (most : ℕ) (rs : List (List ℕ)) → All (Region edge) rs → length (flatten rs) ≤ most
+      → (p : ℕ → Bool) → count p (order (dissect most edge choose rs)) ≡ count p (flatten rs)
+  unfolding dissect
+  dissect-count zero rs all l p = omega (arith, count-le p (flatten rs), ap (count p) order-empty)
+  dissect-count (suc most) [] all l p = ap (count p) order-empty ∙ sym (ap (count p) flatten-nil)
+  dissect-count (suc most) (r ∷ rs) all l p =
+      let c : Forest = dissect most edge choose (left r) in
+      let o : Forest = dissect most edge choose rs in
+      omega (
+        arith,
+        ap (count p) (order-tree (choose r) c o),
+        count-append p (order c) (choose r ++ order o),
+        count-append p (choose r) (order o),
+        dissect-count most (left r) (left-regions r (all .0)) (enough-left r rs most (all .0) l) p,
+        dissect-count most rs (all .1) (enough-others r rs most (all .0) l) p,
+        part-count r (all .0) p,
+        ap (count p) (flatten-cons r rs),
+        count-append p r (flatten rs),
+      )
+
+  dissect-full : (most : ℕ) (rs : List (List ℕ)) → All (Region edge) rs → Full (dissect most edge choose rs)
+  unfolding dissect
+  dissect-full zero rs all = tt
+  dissect-full (suc most) [] all = tt
+  dissect-full (suc most) (r ∷ rs) all =
+      (dissect-full most (left r) (left-regions r (all .0)), dissect-full most rs (all .1), takes .some r (all .0))
+
+  dissect-separated : (most : ℕ) (rs : List (List ℕ)) → All (Region edge) rs → Apart edge rs → length (flatten rs) ≤ most
+      → Separated edge (dissect most edge choose rs)
+  unfolding dissect
+  dissect-separated zero rs all apart l = tt
+  dissect-separated (suc most) [] all apart l = tt
+  dissect-separated (suc most) (r ∷ rs) all apart l =
+      let c : Forest = dissect most edge choose (left r) in
+      let fc : length (flatten (left r)) ≤ most = enough-left r rs most (all .0) l in
+      let fo : length (flatten rs) ≤ most = enough-others r rs most (all .0) l in (
+        dissect-separated most (left r) (left-regions r (all .0)) (components-apart edge (without (choose r) r)) fc,
+        dissect-separated most rs (all .1) (apart .1) fo,
+        λ a b ha hb. apart .0 a b
+            (count-exists (eqb a) r (omega (
+              arith,
+              exists-count (eqb a) (order c ++ choose r) ha,
+              count-append (eqb a) (order c) (choose r),
+              dissect-count most (left r) (left-regions r (all .0)) fc (eqb a),
+              part-count r (all .0) (eqb a),
+            )))
+            (same-members (order (dissect most edge choose rs)) (flatten rs) (dissect-count most rs (all .1) fo) b hb),
+      )
+
+  module _ (n : ℕ) where
+    first-regions : All (Region edge) (components edge (below n))
+    first-regions = components-regions edge (below n) (ascending-upFrom n 0)
+
+    enough : length (flatten (components edge (below n))) ≤ n
+    enough = omega (arith, same-length (flatten (components edge (below n))) (below n) (components-count edge (below n)), length-upFrom n 0)
+
+    -- the order holds each node once: every test counts alike in it and in 0, .., n - 1
+    pub order-count : (p : ℕ → Bool) → count p (order (dissection edge choose n)) ≡ count p (below n)
+    unfolding dissection
+    order-count p = dissect-count n (components edge (below n)) first-regions enough p ∙ components-count edge (below n) p
+
+    pub order-length : length (order (dissection edge choose n)) ≡ n
+    order-length = same-length (order (dissection edge choose n)) (below n) order-count ∙ length-upFrom n 0
+
+    full : Full (dissection edge choose n)
+    unfolding dissection
+    full = dissect-full n (components edge (below n)) first-regions
+
+    separated : Separated edge (dissection edge choose n)
+    unfolding dissection
+    separated = dissect-separated n (components edge (below n)) first-regions (components-apart edge (below n)) enough
+
+    -- the sizes sum to n, and the parents are later parts
+    pub dissection-tree : PartTree n (sizes (dissection edge choose n)) (parents (dissection edge choose n))
+    dissection-tree =
+        let t : Forest = dissection edge choose n in
+        subst (λ (k : ℕ). PartTree k (sizes t) (parents t)) order-length (forest-tree t full)
+
+    -- every edge joins a position with one in its own part or an ancestor's
+    pub dissection-nested : n ≤ noParent → let t : Forest = dissection edge choose n in
+        Nested n (λ a b. edge (getD (order t) a 0) (getD (order t) b 0)) (sizes t) (parents t)
+    dissection-nested small =
+        let t : Forest = dissection edge choose n in
+        subst (λ (k : ℕ). Nested k (λ a b. edge (getD (order t) a 0) (getD (order t) b 0)) (sizes t) (parents t)) order-length
+        (forest-nested edge t full (omega (arith, order-length)) separated)

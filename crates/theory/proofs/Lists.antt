@@ -1,0 +1,245 @@
+-- Laws of the book's lists: membership, tests over lists, ranges, places.
+use mathlib.Core.Path.{_≡_, refl, sym, ap, ap₂, _∙_}
+use mathlib.Core.Logic.{_⊎_, inl, inr}
+use mathlib.Core.Bool.{Bool, true, false, not, _&&_, _||_, cond, false≢true}
+use mathlib.Core.List.{List, [], _∷_, _++_, map, flatten, append-assoc}
+use Prim.Native.Nat.{ℕ, zero, suc, _+_, _≤_, _<_}
+use native.Mathlib.Nat.{zero-add, add-zero, suc-add, add-suc}
+use native.Mathlib.Omega.{arith}
+use lib.Dec.{eqb}
+use lib.ListN.{length, getD}
+use borrow.Author.Tests.{eqb-true, eq-eqb}
+use Rattle.plan.specs.Lists.{exists, every, keep, upFrom, below, isIn, without, indexOf, total}
+use Rattle.theory.proofs.Bools.{or-cases, or-left, or-right, and-left, and-right, and-both, iff-eq, clash, refuted, eqb-same, eq-or-ne}
+
+-- ---- membership
+
+pub isIn-head : (x : ℕ) (l : List ℕ) → isIn x (x ∷ l) ≡ true
+isIn-head x l = or-left (eqb x x) _ (eqb-same x)
+
+pub isIn-tail : (x y : ℕ) (l : List ℕ) → isIn x l ≡ true → isIn x (y ∷ l) ≡ true
+isIn-tail x y l h = or-right (eqb x y) _ h
+
+pub isIn-cons : (x y : ℕ) (l : List ℕ) → isIn x (y ∷ l) ≡ true → (x ≡ y) ⊎ (isIn x l ≡ true)
+isIn-cons x y l h = elim (or-cases (eqb x y) (isIn x l) h) [ inl e ↦ inl (eqb-true x y e) | inr m ↦ inr m ]
+
+pub isIn-append-left : (x : ℕ) (xs ys : List ℕ) → isIn x xs ≡ true → isIn x (xs ++ ys) ≡ true
+isIn-append-left x [] ys h = absurd (false≢true h)
+isIn-append-left x (y ∷ xs) ys h = elim (or-cases (eqb x y) (isIn x xs) h) [
+  | inl e ↦ or-left (eqb x y) _ e
+  | inr m ↦ or-right (eqb x y) _ (isIn-append-left x xs ys m)
+]
+
+pub isIn-append-right : (x : ℕ) (xs ys : List ℕ) → isIn x ys ≡ true → isIn x (xs ++ ys) ≡ true
+isIn-append-right x [] ys h = h
+isIn-append-right x (y ∷ xs) ys h = or-right (eqb x y) _ (isIn-append-right x xs ys h)
+
+pub isIn-append-cases : (x : ℕ) (xs ys : List ℕ) → isIn x (xs ++ ys) ≡ true → (isIn x xs ≡ true) ⊎ (isIn x ys ≡ true)
+isIn-append-cases x [] ys h = inr h
+isIn-append-cases x (y ∷ xs) ys h = elim (or-cases (eqb x y) (isIn x (xs ++ ys)) h) [
+  | inl e ↦ inl (or-left (eqb x y) _ e)
+  | inr m ↦ elim (isIn-append-cases x xs ys m) [ inl a ↦ inl (or-right (eqb x y) _ a) | inr a ↦ inr a ]
+]
+
+pub isIn-append : (x : ℕ) (xs ys : List ℕ) → isIn x (xs ++ ys) ≡ (isIn x xs || isIn x ys)
+isIn-append x xs ys = iff-eq _ _
+    (λ h. elim (isIn-append-cases x xs ys h) [ inl a ↦ or-left (isIn x xs) _ a | inr a ↦ or-right (isIn x xs) _ a ])
+    (λ h. elim (or-cases (isIn x xs) (isIn x ys) h) [ inl a ↦ isIn-append-left x xs ys a | inr a ↦ isIn-append-right x xs ys a ])
+
+pub isIn-getD : (l : List ℕ) (i d : ℕ) → i < length l → isIn (getD l i d) l ≡ true
+isIn-getD [] i d h = absurd (omega arith)
+isIn-getD (y ∷ ys) zero d h = isIn-head y ys
+isIn-getD (y ∷ ys) (suc i) d h = isIn-tail (getD ys i d) y ys (isIn-getD ys i d (omega arith))
+
+-- ---- every element, some element
+
+pub every-isIn : (p : ℕ → Bool) (l : List ℕ) → every p l ≡ true → (x : ℕ) → isIn x l ≡ true → p x ≡ true
+every-isIn p [] h x t = absurd (false≢true t)
+every-isIn p (y ∷ ys) h x t = elim (isIn-cons x y ys t) [
+  | inl e ↦ ap p e ∙ and-left (p y) _ h
+  | inr u ↦ every-isIn p ys (and-right (p y) _ h) x u
+]
+
+pub isIn-every : (p : ℕ → Bool) (l : List ℕ) → ((x : ℕ) → isIn x l ≡ true → p x ≡ true) → every p l ≡ true
+isIn-every p [] f = refl
+isIn-every p (y ∷ ys) f = and-both (p y) _ (f y (isIn-head y ys)) (isIn-every p ys (λ x t. f x (isIn-tail x y ys t)))
+
+pub exists-isIn : (p : ℕ → Bool) (l : List ℕ) → exists p l ≡ true → (x : ℕ) × (isIn x l ≡ true) × (p x ≡ true)
+exists-isIn p [] h = absurd (false≢true h)
+exists-isIn p (y ∷ ys) h = elim (or-cases (p y) (exists p ys) h) [
+  | inl t ↦ (y, isIn-head y ys, t)
+  | inr t ↦ (let r = exists-isIn p ys t in (r .0, isIn-tail (r .0) y ys (r .1), r .2))
+]
+
+pub isIn-exists : (p : ℕ → Bool) (l : List ℕ) (x : ℕ) → isIn x l ≡ true → p x ≡ true → exists p l ≡ true
+isIn-exists p [] x h t = absurd (false≢true h)
+isIn-exists p (y ∷ ys) x h t = elim (isIn-cons x y ys h) [
+  | inl e ↦ or-left (p y) _ (sym (ap p e) ∙ t)
+  | inr u ↦ or-right (p y) _ (isIn-exists p ys x u t)
+]
+
+-- where no element passes, each one fails
+pub exists-none : (p : ℕ → Bool) (l : List ℕ) → exists p l ≡ false → (x : ℕ) → isIn x l ≡ true → p x ≡ false
+exists-none p l h x m = refuted (p x) (λ t. clash (exists p l) (isIn-exists p l x m t) h)
+
+pub none-exists : (p : ℕ → Bool) (l : List ℕ) → ((x : ℕ) → isIn x l ≡ true → p x ≡ false) → exists p l ≡ false
+none-exists p l f = refuted (exists p l) (λ t. let r = exists-isIn p l t in clash (p (r .0)) (r .2) (f (r .0) (r .1)))
+
+-- ---- what passes a test
+
+pub in-keep : (p : ℕ → Bool) (l : List ℕ) (x : ℕ) → isIn x l ≡ true → p x ≡ true → isIn x (keep p l) ≡ true
+in-keep p [] x h k = absurd (false≢true h)
+in-keep p (y ∷ l) x h k = go (p y) refl (isIn-cons x y l h) (λ m. in-keep p l x m k)
+  where
+    go : (b : Bool) → p y ≡ b → (x ≡ y) ⊎ (isIn x l ≡ true) → (isIn x l ≡ true → isIn x (keep p l) ≡ true) → isIn x (cond b (y ∷ keep p l) (keep p l)) ≡ true
+    go true e (inl m) ih = or-left (eqb x y) _ (eq-eqb x y m)
+    go true e (inr m) ih = isIn-tail x y (keep p l) (ih m)
+    go false e (inl m) ih = clash (p x) k (ap p m ∙ e)
+    go false e (inr m) ih = ih m
+
+pub of-keep : (p : ℕ → Bool) (l : List ℕ) (x : ℕ) → isIn x (keep p l) ≡ true → (isIn x l ≡ true) × (p x ≡ true)
+of-keep p [] x h = absurd (false≢true h)
+of-keep p (y ∷ l) x h = go (p y) refl h (of-keep p l x)
+  where
+    go : (b : Bool) → p y ≡ b → isIn x (cond b (y ∷ keep p l) (keep p l)) ≡ true → (isIn x (keep p l) ≡ true → (isIn x l ≡ true) × (p x ≡ true)) → (isIn x (y ∷ l) ≡ true) × (p x ≡ true)
+    go true e h ih = elim (isIn-cons x y (keep p l) h) [
+      | inl m ↦ (or-left (eqb x y) _ (eq-eqb x y m), ap p m ∙ e)
+      | inr m ↦ (isIn-tail x y l (ih m .0), ih m .1)
+    ]
+    go false e h ih = (isIn-tail x y l (ih h .0), ih h .1)
+
+pub isIn-keep : (p : ℕ → Bool) (l : List ℕ) (x : ℕ) → isIn x (keep p l) ≡ (isIn x l && p x)
+isIn-keep p l x = iff-eq _ _
+    (λ h. and-both (isIn x l) _ (of-keep p l x h .0) (of-keep p l x h .1))
+    (λ h. in-keep p l x (and-left (isIn x l) _ h) (and-right (isIn x l) _ h))
+
+-- tests that agree on a list keep the same
+pub keep-ext : (p q : ℕ → Bool) (l : List ℕ) → ((x : ℕ) → isIn x l ≡ true → p x ≡ q x) → keep p l ≡ keep q l
+keep-ext p q [] h = refl
+keep-ext p q (y ∷ l) h = rw (h y (isIn-head y l), keep-ext p q l (λ x m. h x (isIn-tail x y l m)))
+
+pub keep-keep : (p q : ℕ → Bool) (l : List ℕ) → keep p (keep q l) ≡ keep (λ v. q v && p v) l
+keep-keep p q [] = refl
+keep-keep p q (y ∷ l) = go (q y) (keep-keep p q l)
+  where
+    go : (b : Bool) → keep p (keep q l) ≡ keep (λ v. q v && p v) l → keep p (cond b (y ∷ keep q l) (keep q l)) ≡ cond (b && p y) (y ∷ keep (λ v. q v && p v) l) (keep (λ v. q v && p v) l)
+    go true e = rw e
+    go false e = e
+
+pub keep-all : (l : List ℕ) → keep (λ v. true) l ≡ l
+keep-all [] = refl
+keep-all (x ∷ l) = ap (λ (k : List ℕ). x ∷ k) (keep-all l)
+
+-- what is left of a list without the elements that pass a test
+pub without-keep : (q : ℕ → Bool) (l : List ℕ) → without (keep q l) l ≡ keep (λ v. not (q v)) l
+without-keep q l = keep-ext (λ v. not (isIn v (keep q l))) (λ v. not (q v)) l
+    (λ x m. ap not (iff-eq (isIn x (keep q l)) (q x) (λ t. of-keep q l x t .1) (λ t. in-keep q l x m t)))
+
+-- ---- ranges
+
+pub isIn-upFrom : (k a x : ℕ) → isIn x (upFrom a k) ≡ true → (a ≤ x) × (x < a + k)
+isIn-upFrom zero a x h = absurd (false≢true h)
+isIn-upFrom (suc k) a x h = elim (isIn-cons x a (upFrom (suc a) k) h) [
+  | inl e ↦ omega arith
+  | inr t ↦ omega (arith, isIn-upFrom k (suc a) x t)
+]
+
+pub upFrom-isIn : (k a x : ℕ) → a ≤ x → x < a + k → isIn x (upFrom a k) ≡ true
+upFrom-isIn zero a x le lt = absurd (omega arith)
+upFrom-isIn (suc k) a x le lt = elim (eq-or-ne x a) [
+  | inl s ↦ or-left (eqb x a) _ (eq-eqb x a s)
+  | inr s ↦ isIn-tail x a (upFrom (suc a) k) (upFrom-isIn k (suc a) x (omega arith) (omega arith))
+]
+
+pub isIn-below : (n x : ℕ) → isIn x (below n) ≡ true → x < n
+isIn-below n x h = let p = isIn-upFrom n 0 x h in omega arith
+
+pub below-isIn : (n x : ℕ) → x < n → isIn x (below n) ≡ true
+below-isIn n x lt = upFrom-isIn n 0 x (omega arith) (omega arith)
+
+pub length-upFrom : (k a : ℕ) → length (upFrom a k) ≡ k
+length-upFrom zero a = refl
+length-upFrom (suc k) a = ap suc (length-upFrom k (suc a))
+
+pub getD-upFrom : (k a i d : ℕ) → i < k → getD (upFrom a k) i d ≡ a + i
+getD-upFrom zero a i d lt = absurd (omega arith)
+getD-upFrom (suc k) a zero d lt = omega arith
+getD-upFrom (suc k) a (suc i) d lt = omega (arith, getD-upFrom k (suc a) i d (omega arith))
+
+pub upFrom-add : (a k m : ℕ) → upFrom a (k + m) ≡ upFrom a k ++ upFrom (a + k) m
+upFrom-add a zero m = simp (zero-add, add-zero)
+upFrom-add a (suc k) m = rw (suc-add, add-suc) (ap (λ (l : List ℕ). a ∷ l) (upFrom-add (suc a) k m ∙ simp suc-add))
+
+-- one more at the end
+pub upFrom-snoc : (a k : ℕ) → upFrom a (suc k) ≡ upFrom a k ++ ((a + k) ∷ [])
+upFrom-snoc a zero = rw add-zero
+upFrom-snoc a (suc k) = ap (λ (l : List ℕ). a ∷ l) (upFrom-snoc (suc a) k ∙ simp (suc-add, add-suc))
+
+module _ {A : Type 0} where
+  pub getD-map-upFrom : (h : ℕ → A) (d : A) (k a i : ℕ) → i < k → getD (map h (upFrom a k)) i d ≡ h (a + i)
+  getD-map-upFrom h d zero a i lt = absurd (omega arith)
+  getD-map-upFrom h d (suc k) a zero lt = ap h (omega arith)
+  getD-map-upFrom h d (suc k) a (suc i) lt = getD-map-upFrom h d k (suc a) i (omega arith) ∙ ap h (omega arith)
+
+  pub getD-map-below : (h : ℕ → A) (d : A) (n i : ℕ) → i < n → getD (map h (below n)) i d ≡ h i
+  getD-map-below h d n i lt = getD-map-upFrom h d n 0 i lt ∙ ap h (omega arith)
+
+  pub length-map-upFrom : (h : ℕ → A) (k a : ℕ) → length (map h (upFrom a k)) ≡ k
+  length-map-upFrom h zero a = refl
+  length-map-upFrom h (suc k) a = ap suc (length-map-upFrom h k (suc a))
+
+  pub map-ext-upFrom : (f g : ℕ → A) (k a : ℕ) → ((i : ℕ) → a ≤ i → i < a + k → f i ≡ g i) → map f (upFrom a k) ≡ map g (upFrom a k)
+  map-ext-upFrom f g zero a h = refl
+  map-ext-upFrom f g (suc k) a h = ap₂ (λ (x : A) (l : List A). x ∷ l) (h a (omega arith) (omega arith)) (map-ext-upFrom f g k (suc a) (λ i l m. h i (omega arith) (omega arith)))
+
+  pub map-append : {B : Type 0} (f : A → B) (xs ys : List A) → map f (xs ++ ys) ≡ map f xs ++ map f ys
+  map-append f [] ys = refl
+  map-append {B} f (x ∷ xs) ys = ap (λ (l : List B). f x ∷ l) (map-append f xs ys)
+
+  pub flatten-append : (xs ys : List (List A)) → flatten (xs ++ ys) ≡ flatten xs ++ flatten ys
+  unfolding flatten
+  flatten-append [] ys = refl
+  flatten-append (x ∷ xs) ys = rw (flatten-append xs ys) (sym (append-assoc x (flatten xs) (flatten ys)))
+
+  pub flatten-nil : _≡_ {A = List A} (flatten []) []
+  unfolding flatten
+  flatten-nil = refl
+
+  pub flatten-cons : (x : List A) (xs : List (List A)) → flatten (x ∷ xs) ≡ x ++ flatten xs
+  unfolding flatten
+  flatten-cons x xs = refl
+
+pub total-append : (xs ys : List ℕ) → total (xs ++ ys) ≡ total xs + total ys
+total-append [] ys = omega arith
+total-append (x ∷ xs) ys = omega (arith, total-append xs ys)
+
+-- ---- the place of an element
+
+pub getD-indexOf : (l : List ℕ) (x d : ℕ) → indexOf x l < length l → getD l (indexOf x l) d ≡ x
+getD-indexOf [] x d h = absurd (omega arith)
+getD-indexOf (y ∷ ys) x d h = go (eqb x y) refl h (getD-indexOf ys x d)
+  where
+    go : (b : Bool) → eqb x y ≡ b → cond b 0 (suc (indexOf x ys)) < suc (length ys) → (indexOf x ys < length ys → getD ys (indexOf x ys) d ≡ x) → getD (y ∷ ys) (cond b 0 (suc (indexOf x ys))) d ≡ x
+    go true e lt ih = sym (eqb-true x y e)
+    go false e lt ih = ih (omega arith)
+
+pub indexOf-le : (l : List ℕ) (i d : ℕ) → i < length l → indexOf (getD l i d) l ≤ i
+indexOf-le [] i d h = absurd (omega arith)
+indexOf-le (y ∷ ys) zero d h = go (eqb y y) (eqb-same y)
+  where
+    go : (b : Bool) → b ≡ true → cond b 0 (suc (indexOf y ys)) ≤ 0
+    go true e = omega arith
+    go false e = absurd (false≢true e)
+indexOf-le (y ∷ ys) (suc i) d h = go (eqb (getD ys i d) y) (indexOf-le ys i d (omega arith))
+  where
+    go : (b : Bool) → indexOf (getD ys i d) ys ≤ i → cond b 0 (suc (indexOf (getD ys i d) ys)) ≤ suc i
+    go true le = omega arith
+    go false le = omega arith
+
+pub indexOf-lt : (l : List ℕ) (x : ℕ) → isIn x l ≡ true → indexOf x l < length l
+indexOf-lt [] x h = absurd (false≢true h)
+indexOf-lt (y ∷ ys) x h = go (eqb x y) refl h (indexOf-lt ys x)
+  where
+    go : (b : Bool) → eqb x y ≡ b → (b || isIn x ys) ≡ true → (isIn x ys ≡ true → indexOf x ys < length ys) → cond b 0 (suc (indexOf x ys)) < suc (length ys)
+    go true e m ih = omega arith
+    go false e m ih = omega (arith, ih m)

@@ -1,0 +1,1 @@
+// Theorems about the book's definitions. They stand in proofs/; the crate holds no code.
