@@ -1,14 +1,15 @@
 -- Document 01, "Meshes worked through": the starred meshes and files 1 to 12 in one table, and the one statement that every row of it holds.
-use mathlib.Core.Bool.{Bool, true, _&&_}
+use mathlib.Core.Bool.{Bool, true, false, _&&_, Bool·beq}
 use mathlib.Core.Path.{_≡_, refl}
 use mathlib.Core.List.{List, [], _∷_, _++_, flatten}
 use Prim.Native.Nat.{ℕ, _+_, _-_}
 use lib.Dec.{eqb}
-use lib.ListN.{length, replicate}
+use lib.ListN.{length, getD, replicate}
 use Rattle.plan.specs.Lists.{every, upFrom, same, written}
 use Rattle.plan.specs.Answers.{Reply, accepted, refused}
 use Rattle.plan.specs.Mesh.{Mesh}
 use Rattle.plan.specs.Parts.{bound}
+use Rattle.plan.specs.Demand3.{isPath, allEarlier, hasSlot}
 use Rattle.plan.specs.Planning.{Contents, Buffers, capacity, Outcome, planning, fill}
 use Rattle.plan.specs.File.{encode}
 use Rattle.plan.specs.Reading.{reading}
@@ -17,9 +18,11 @@ use Rattle.plan.specs.RoundTrips.{handed}
 use Rattle.plan.specs.Listing.{listing}
 use Rattle.plan.specs.Everything.{everything}
 
--- What document 01 says of a planned mesh beside its outcome: demand 3's bound, and the length of its file. The table gives the file's bytes too.
+-- What document 01 says of a planned mesh beside its outcome: demand 3's bound, and the length of its file. The table gives the file's bytes too,
+-- and for two paths whether they give row i of column j a slot: every node between must be earlier than j.
 pub data Claim : Type 0 where
   bounded : ℕ → Claim
+  onPath : (i j : ℕ) → (between : List ℕ) → (slot : Bool) → Claim
   file : (size : ℕ) → (bytes : List ℕ) → Claim
 
 pub data Row : Type 0 where
@@ -73,6 +76,10 @@ writes room reply bytes o =
 
 unfoldable pub claimed : Mesh → Outcome → Claim → Bool
 claimed m o (bounded k) = eqb (bound m (o .order) (o .sizes) (o .parents)) k
+claimed m o (onPath i j between slot) =
+    isPath m (getD (o .order) j 0 ∷ (between ++ (getD (o .order) i 0 ∷ [])))
+    && Bool·beq (allEarlier (o .order) j between) slot
+    && Bool·beq (hasSlot (o .columnStarts) (o .rows) i j) slot
 claimed m o (file size bytes) = writes (size + 1) (accepted (size ∷ [])) bytes (writing (handed o) (size + 1))
 
 -- a refusal: no values, and nothing written
@@ -198,7 +205,7 @@ table =
     ∷ planned path 6 pathOutcome (bounded 6 ∷ file 59 pathFile ∷ [])
     ∷ read 5 6 pathFile pathOutcome
     ∷ listed pathInput pathListing
-    -- 5. Ring 0-1-2-3: order 0 2 1 3, sizes 1 1 2, 5 slots, 12 multiplications; bound 5.
+    -- 5. Ring 0-1-2-3: order 0 2 1 3, sizes 1 1 2, 5 slots, 12 multiplications; bound 5. The path 1-0-3 passes node 0, which is earlier than node 1.
     ∷ planned (record { nodes = 4; starts = 0 ∷ 2 ∷ 4 ∷ 6 ∷ 8 ∷ []; neighbours = 1 ∷ 3 ∷ 0 ∷ 2 ∷ 1 ∷ 3 ∷ 0 ∷ 2 ∷ [] }) 6
     (record {
       reply = accepted (4 ∷ 3 ∷ 5 ∷ 12 ∷ []);
@@ -208,8 +215,8 @@ table =
       parents = 2 ∷ 2 ∷ 65535 ∷ [];
       columnStarts = 0 ∷ 2 ∷ 4 ∷ 5 ∷ 5 ∷ [];
       rows = 2 ∷ 3 ∷ 2 ∷ 3 ∷ 3 ∷ [];
-    }) (bounded 5 ∷ [])
-    -- 6. Star, centre 0, leaves 1 to 3: order 1 2 3 0, 3 slots.
+    }) (bounded 5 ∷ onPath 3 2 (0 ∷ []) true ∷ [])
+    -- 6. Star, centre 0, leaves 1 to 3: order 1 2 3 0, 3 slots. The path 1-0-2 passes node 0, which is later than node 1.
     ∷ planned (record { nodes = 4; starts = 0 ∷ 3 ∷ 4 ∷ 5 ∷ 6 ∷ []; neighbours = 1 ∷ 2 ∷ 3 ∷ 0 ∷ 0 ∷ 0 ∷ [] }) 4
     (record {
       reply = accepted (4 ∷ 4 ∷ 3 ∷ 6 ∷ []);
@@ -219,7 +226,7 @@ table =
       parents = 3 ∷ 3 ∷ 3 ∷ 65535 ∷ [];
       columnStarts = 0 ∷ 1 ∷ 2 ∷ 3 ∷ 3 ∷ [];
       rows = 3 ∷ 3 ∷ 3 ∷ [];
-    }) []
+    }) (onPath 1 0 (0 ∷ []) false ∷ [])
     -- 7. n = 0: 1.
     ∷ planned (record { nodes = 0; starts = 0 ∷ []; neighbours = [] }) 1 (refusal 1) []
     -- 8. Two nodes, only 0 lists 1: 7.
