@@ -1,8 +1,8 @@
--- The order of the tree: `Under parents p q` says that part q is part p or a ancestor of it.
-use mathlib.Core.Path.{_≡_, sym, subst}
+-- The order of the tree: `Under parents p q` says that part q is part p or an ancestor of it; and ancestors end.
+use mathlib.Core.Path.{_≡_, refl, sym, ap, subst, _∙_}
 use mathlib.Core.Logic.{inl, inr, _≢_}
 use mathlib.Core.Bool.{true, false, _||_, false≢true}
-use mathlib.Core.List.{List, [], _∷_}
+use mathlib.Core.List.{List, [], _∷_, getLastD}
 use Prim.Native.Nat.{ℕ, zero, suc, _+_, _≤_, _<_}
 use native.Mathlib.Omega.{arith}
 use lib.Dec.{eqb}
@@ -11,7 +11,7 @@ use borrow.Author.Tests.{eqb-true, eqb-false, eq-eqb, ne-eqb}
 use Rattle.plan.specs.Lists.{isIn}
 use Rattle.plan.specs.Mesh.{noParent}
 use Rattle.plan.specs.Parts.{parentOf, ancestorsUpTo, ancestors, atOrAbove}
-use Rattle.theory.proofs.Bools.{or-cases, or-left, or-right, tested, cond-true, cond-false, eqb-same}
+use Rattle.theory.proofs.Bools.{or-cases, or-left, or-right, tested, cond-true, cond-false, eqb-same, eq-or-ne}
 
 pub data Under (parents : List ℕ) : ℕ → ℕ → Type 0 where
   here : {p : ℕ} → Under parents p p
@@ -76,3 +76,38 @@ module _ (parents : List ℕ) (later : (p : ℕ) → parentOf parents p ≢ noPa
     pub test-of-under : (p q : ℕ) → Under parents p q → atOrAbove parents p q ≡ true
     unfolding atOrAbove ancestors
     test-of-under p q u = list-of-under (length parents) (omega arith) u
+
+    -- a part with no room for a later one has no parent
+    no-later : (p : ℕ) → length parents ≤ p + 0 → parentOf parents p ≡ noParent
+    no-later p l = elim (eq-or-ne (parentOf parents p) noParent) [
+      | inl e ↦ e
+      | inr h ↦ absurd (omega (arith, later p h, known p h))
+    ]
+
+    -- the last of enough ancestors has no parent
+    pub last-ancestor : (k p d : ℕ) → length parents ≤ p + k → parentOf parents (getLastD (p ∷ ancestorsUpTo k parents p) d) ≡ noParent
+    unfolding getLastD
+    last-ancestor zero p d l = unfold ancestorsUpTo in no-later p l
+    last-ancestor (suc k) p d l = elim (tested (eqb (parentOf parents p) noParent)) [
+      | inl e ↦ rw (chain-end parents k p e) (eqb-true (parentOf parents p) noParent e)
+      | inr e ↦ rw (chain-step parents k p e)
+          (last-ancestor k (parentOf parents p) d (omega (arith, later p (eqb-false (parentOf parents p) noParent e))))
+    ]
+
+    -- two counts that are large enough give the same ancestors
+    same-ancestors : (k m p : ℕ) → length parents ≤ p + k → length parents ≤ p + m → ancestorsUpTo k parents p ≡ ancestorsUpTo m parents p
+    same-ancestors zero zero p l h = refl
+    same-ancestors zero (suc m) p l h = unfold ancestorsUpTo in sym (chain-end parents m p (eq-eqb _ _ (no-later p l)))
+    same-ancestors (suc k) zero p l h = unfold ancestorsUpTo in chain-end parents k p (eq-eqb _ _ (no-later p h))
+    same-ancestors (suc k) (suc m) p l h = elim (tested (eqb (parentOf parents p) noParent)) [
+      | inl e ↦ chain-end parents k p e ∙ sym (chain-end parents m p e)
+      | inr e ↦
+          let f : ℕ = parentOf parents p in
+          let up : p < f = later p (eqb-false f noParent e) in
+          chain-step parents k p e ∙ ap (λ (fs : List ℕ). f ∷ fs) (same-ancestors k m f (omega arith) (omega arith)) ∙ sym (chain-step parents m p e)
+    ]
+
+    -- any count from the number of parts on gives the same ancestors
+    pub ancestors-same : (k p : ℕ) → length parents ≤ k → ancestorsUpTo k parents p ≡ ancestors parents p
+    unfolding ancestors
+    ancestors-same k p l = same-ancestors k (length parents) p (omega arith) (omega arith)

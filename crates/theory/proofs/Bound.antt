@@ -43,7 +43,7 @@ triangle : (m : ℕ) → suc m * (suc m - 1) ≡ m * (m - 1) + 2 * m
 triangle zero = refl
 triangle (suc m) = rw (one-less (suc m), one-less m) (omega arith)
 
-block : (B : ℕ) (f : ℕ → ℕ) (m base : ℕ) → ((t : ℕ) → t < m → f (base + t) ≤ B + (m - suc t))
+pub block : (B : ℕ) (f : ℕ → ℕ) (m base : ℕ) → ((t : ℕ) → t < m → f (base + t) ≤ B + (m - suc t))
     → 2 * total (map f (upFrom base m)) ≤ 2 * (m * B) + m * (m - 1)
 block B f zero base h = omega arith
 block B f (suc m) base h =
@@ -52,7 +52,7 @@ block B f (suc m) base h =
     λ t l. rw (suc-add, ← add-suc base t) (omega (arith, h (suc t) (omega arith))) in
     omega (arith, first, block B f m (suc base) others, triangle m)
 
-half : (x y z : ℕ) → 2 * x ≤ 2 * y + z → x ≤ y + z / 2
+pub half : (x y z : ℕ) → 2 * x ≤ 2 * y + z → x ≤ y + z / 2
 half x y z h = omega arith
 
 columns : (b f : ℕ → ℕ) (ss : List ℕ) (base k : ℕ)

@@ -1,8 +1,8 @@
 -- The components of a set: they partition it, each is connected, no edge joins two of them, and they come by smallest node.
 use mathlib.Core.Path.{_≡_, refl, sym, ap, subst, _∙_}
 use mathlib.Core.Logic.{inl, inr}
-use mathlib.Core.Bool.{Bool, true, false, not, cond, _||_, false≢true}
-use mathlib.Core.List.{List, [], _∷_, map, reverse, reverseAux, headD, flatten}
+use mathlib.Core.Bool.{Bool, true, false, not, cond, false≢true}
+use mathlib.Core.List.{List, [], _∷_, map, headD, flatten}
 use Prim.Native.Nat.{ℕ, zero, suc, _+_, _≤_, _<_}
 use native.Mathlib.Omega.{arith}
 use lib.Dec.{eqb}
@@ -10,37 +10,13 @@ use lib.ListN.{length}
 use borrow.Author.Tests.{not-true, eq-eqb}
 use Rattle.plan.specs.Lists.{keep, isIn, without, ascending}
 use Rattle.plan.specs.Levels.{Graph, levelsBack, levels, component, componentsUpTo, components}
+use Rattle.plan.specs.Enough.{ComponentsWhole}
 use Rattle.theory.specs.Regions.{All, Apart, Walk, stay, go, count, Connected, Region}
 use Rattle.theory.proofs.Bools.{or-left, cond-true}
-use Rattle.theory.proofs.Lists.{isIn-head, isIn-tail, isIn-cons, isIn-append, isIn-append-left, isIn-append-right, isIn-append-cases, exists-isIn, in-keep, of-keep}
+use Rattle.theory.proofs.Lists.{isIn-head, isIn-tail, isIn-cons, isIn-append-left, isIn-append-right, isIn-append-cases, exists-isIn, in-keep, of-keep, isIn-flatten-reverse}
 use Rattle.theory.proofs.Ascending.{ascending-tail, ascending-lt, ascending-cons, ascending-keep}
 use Rattle.theory.proofs.Counting.{count-append, count-le, count-part, same-members}
 use Rattle.theory.proofs.Levels.{Levelled, first, after, of-next, levelled, levels-ended, root-reached, reached-closed}
-
--- ---- the order of the levels does not matter to what they hold
-
-or-turn : (a b c : Bool) → (a || (b || c)) ≡ ((b || a) || c)
-or-turn true true c = refl
-or-turn true false c = refl
-or-turn false true c = refl
-or-turn false false c = refl
-
-flatten-aux : (x : ℕ) (ls acc : List (List ℕ)) → isIn x (flatten (reverseAux ls acc)) ≡ (isIn x (flatten ls) || isIn x (flatten acc))
-unfolding flatten
-flatten-aux x [] acc = refl
-flatten-aux x (l ∷ ls) acc =
-    flatten-aux x ls (l ∷ acc)
-    ∙ ap (λ (t : Bool). isIn x (flatten ls) || t) (isIn-append x l (flatten acc))
-    ∙ or-turn (isIn x (flatten ls)) (isIn x l) (isIn x (flatten acc))
-    ∙ ap (λ (t : Bool). t || isIn x (flatten acc)) (sym (isIn-append x l (flatten ls)))
-
-or-false : (b : Bool) → (b || false) ≡ b
-or-false true = refl
-or-false false = refl
-
-pub isIn-flatten-reverse : (x : ℕ) (ls : List (List ℕ)) → isIn x (flatten (reverse ls)) ≡ isIn x (flatten ls)
-unfolding flatten
-isIn-flatten-reverse x ls = flatten-aux x ls [] ∙ or-false (isIn x (flatten ls))
 
 module _ (edge : Graph) where
   -- what the levels from v reach
@@ -126,6 +102,28 @@ module _ (edge : Graph) where
   pub components-count : (nodes : List ℕ) (p : ℕ → Bool) → count p (flatten (components edge nodes)) ≡ count p nodes
   unfolding components
   components-count nodes p = count-up-to (length nodes) nodes (omega arith) p
+
+  -- the empty set has no component
+  none-up-to : (most : ℕ) → componentsUpTo most edge [] ≡ []
+  unfolding componentsUpTo
+  none-up-to zero = refl
+  none-up-to (suc most) = refl
+
+  -- two counts that are large enough give the same components
+  same-up-to : (most more : ℕ) (nodes : List ℕ) → length nodes ≤ most → length nodes ≤ more → componentsUpTo most edge nodes ≡ componentsUpTo more edge nodes
+  unfolding componentsUpTo
+  same-up-to zero more [] l k = sym (none-up-to more)
+  same-up-to zero more (v ∷ nodes) l k = absurd (omega arith)
+  same-up-to (suc most) more [] l k = sym (none-up-to more)
+  same-up-to (suc most) zero (v ∷ nodes) l k = absurd (omega arith)
+  same-up-to (suc most) (suc more) (v ∷ nodes) l k =
+      let c : List ℕ = component edge (v ∷ nodes) v in
+      ap (λ (cs : List (List ℕ)). c ∷ cs) (same-up-to most more (without c nodes) (few-left v nodes most l) (few-left v nodes more k))
+
+  -- any count from the number of nodes on gives the same components
+  pub components-same : (most : ℕ) (nodes : List ℕ) → length nodes ≤ most → componentsUpTo most edge nodes ≡ components edge nodes
+  unfolding components
+  components-same most nodes l = same-up-to most (length nodes) nodes l (omega arith)
 
   -- no edge joins two of them
   pub components-apart : (nodes : List ℕ) → Apart edge (components edge nodes)
@@ -236,3 +234,7 @@ module _ (edge : Graph) where
 
   pub components-regions : (nodes : List ℕ) → ascending nodes ≡ true → All (Region edge) (components edge nodes)
   components-regions nodes h = regions-up-to (components edge nodes) (components-some nodes) (components-ascending nodes h) (components-connected nodes)
+
+-- the components together hold every node, as often as the set does
+pub components-whole : ComponentsWhole
+components-whole edge nodes v = components-count edge nodes (eqb v)

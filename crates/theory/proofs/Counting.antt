@@ -2,17 +2,17 @@
 use mathlib.Core.Path.{_≡_, refl, sym, ap, _∙_}
 use mathlib.Core.Logic.{_⊎_, inl, inr}
 use mathlib.Core.Bool.{Bool, true, false, not, cond, false≢true}
-use mathlib.Core.List.{List, [], _∷_, _++_}
+use mathlib.Core.List.{List, [], _∷_, _++_, map}
 use Prim.Native.Nat.{ℕ, zero, suc, _+_, _-_, _≤_, _<_}
 use native.Mathlib.Nat.{zero-add}
 use native.Mathlib.Omega.{arith}
 use lib.Dec.{eqb, ltb}
-use lib.ListN.{length}
-use borrow.Author.Tests.{le-ltb}
+use lib.ListN.{length, getD}
+use borrow.Author.Tests.{eq-eqb, ne-eqb, le-ltb}
 use Rattle.plan.specs.Lists.{exists, keep, upFrom, below, isIn, without}
 use Rattle.theory.specs.Regions.{count}
-use Rattle.theory.proofs.Bools.{or-cases, or-left, or-right, tested, lt-or-le}
-use Rattle.theory.proofs.Lists.{isIn-cons, upFrom-add, without-keep}
+use Rattle.theory.proofs.Bools.{or-cases, or-left, or-right, tested, clash, eq-or-ne, lt-or-le}
+use Rattle.theory.proofs.Lists.{isIn-cons, isIn-getD, isIn-upFrom, none-exists, keep-ext, upFrom-add, without-keep}
 
 -- 1 for a passed test
 abbrev pub unit : Bool → ℕ
@@ -65,6 +65,17 @@ count-exists p (x ∷ l) h = elim (tested (p x)) [
   | inr t ↦ or-right (p x) (exists p l) (count-exists p l (omega (arith, count-cons p x l, unit-false (p x) t)))
 ]
 
+-- where nothing passes the count is 0
+pub count-none : (p : ℕ → Bool) (l : List ℕ) → ((x : ℕ) → isIn x l ≡ true → p x ≡ false) → count p l ≡ 0
+count-none p l f = elim (lt-or-le 0 (count p l)) [
+  | inl h ↦ clash (exists p l) (count-exists p l h) (none-exists p l f)
+  | inr h ↦ omega arith
+]
+
+-- tests that agree on a list count alike in it
+pub count-ext : (p q : ℕ → Bool) (l : List ℕ) → ((x : ℕ) → isIn x l ≡ true → p x ≡ q x) → count p l ≡ count q l
+count-ext p q l f = ap length (keep-ext p q l f)
+
 -- lists in which every test counts alike have the same members
 pub same-members : (xs ys : List ℕ) → ((p : ℕ → Bool) → count p xs ≡ count p ys) → (x : ℕ) → isIn x xs ≡ true → isIn x ys ≡ true
 same-members xs ys f x h = count-exists (eqb x) ys (omega (arith, f (eqb x), exists-count (eqb x) xs h))
@@ -110,6 +121,49 @@ count-less p q x (y ∷ l) h m a b = elim (isIn-cons x y l m) [
   | inr e ↦ omega (arith, count-cons p y l, count-cons q y l, unit-mono (p y) (q y) (h y), count-less p q x l h e a b)
 ]
 
+-- a test that all elements pass, by its count
+pub count-full : (p : ℕ → Bool) (l : List ℕ) → count p l ≡ length l → (x : ℕ) → isIn x l ≡ true → p x ≡ true
+count-full p l e x h = elim (tested (p x)) [
+  | inl t ↦ t
+  | inr t ↦ absurd (omega (arith, e, count-all l, count-less p (λ y. true) x l (λ y u. refl) h refl t))
+]
+
+-- a test that falls into two
+pub count-sum : (p q r : ℕ → Bool) (l : List ℕ) → ((x : ℕ) → unit (p x) ≡ unit (q x) + unit (r x)) → count p l ≡ count q l + count r l
+count-sum p q r [] h = refl
+count-sum p q r (y ∷ l) h = omega (arith, count-cons p y l, count-cons q y l, count-cons r y l, h y, count-sum p q r l h)
+
+-- a test of mapped elements
+pub count-map : (p : ℕ → Bool) (f : ℕ → ℕ) (l : List ℕ) → count p (map f l) ≡ count (λ x. p (f x)) l
+count-map p f [] = refl
+count-map p f (y ∷ l) = omega (arith, count-cons p (f y) (map f l), count-cons (λ x. p (f x)) y l, count-map p f l)
+
+-- a number stands once in a range that holds it
+pub count-once : (k a x : ℕ) → a ≤ x → x < a + k → count (eqb x) (upFrom a k) ≡ 1
+count-once zero a x l m = absurd (omega arith)
+count-once (suc k) a x l m = elim (eq-or-ne x a) [
+  | inl e ↦ omega (
+    arith,
+    count-cons (eqb x) a (upFrom (suc a) k),
+    unit-true (eqb x a) (eq-eqb x a e),
+    count-none (eqb x) (upFrom (suc a) k) (λ y h. ne-eqb x y (λ s. omega (arith, isIn-upFrom k (suc a) y h))),
+  )
+  | inr e ↦ omega (arith, count-cons (eqb x) a (upFrom (suc a) k), unit-false (eqb x a) (ne-eqb x a e), count-once k (suc a) x (omega arith) (omega arith))
+]
+
+-- a number at two places is counted twice
+pub count-twice : (l : List ℕ) (a b d : ℕ) → a < b → b < length l → getD l a d ≡ getD l b d → 1 < count (eqb (getD l b d)) l
+count-twice [] a b d l h e = absurd (omega arith)
+count-twice (y ∷ ys) a zero d l h e = absurd (omega arith)
+count-twice (y ∷ ys) zero (suc b) d l h e =
+    omega (
+      arith,
+      count-cons (eqb (getD ys b d)) y ys,
+      unit-true (eqb (getD ys b d) y) (eq-eqb (getD ys b d) y (sym e)),
+      exists-count (eqb (getD ys b d)) ys (isIn-getD ys b d (omega arith)),
+    )
+count-twice (y ∷ ys) (suc a) (suc b) d l h e = omega (arith, count-cons (eqb (getD ys b d)) y ys, count-twice ys a b d (omega arith) (omega arith) e)
+
 -- a test that implies one of two others
 unit-or : (a b c : Bool) → (a ≡ true → (b ≡ true) ⊎ (c ≡ true)) → unit a ≤ unit b + unit c
 unit-or true b c h = elim (h refl) [ inl t ↦ omega (arith, unit-true b t) | inr t ↦ omega (arith, unit-true c t) ]
@@ -149,3 +203,16 @@ count-later p n a = elim (lt-or-le n a) [
         ap (λ (b : ℕ). count p (upFrom b (n - a))) (zero-add a),
       )
 ]
+
+-- where none up to j passes, those below n that pass come after j
+pub count-after : (p : ℕ → Bool) (n j : ℕ) → j < n → ((i : ℕ) → i ≤ j → p i ≡ false) → count p (below n) ≡ count p (upFrom (suc j) (n - suc j))
+count-after p n j h none =
+    let e : n ≡ suc j + (n - suc j) = omega arith in
+    omega (
+      arith,
+      ap (λ (k : ℕ). count p (below k)) e,
+      ap (count p) (upFrom-add 0 (suc j) (n - suc j)),
+      count-append p (below (suc j)) (upFrom (0 + suc j) (n - suc j)),
+      ap (λ (b : ℕ). count p (upFrom b (n - suc j))) (zero-add (suc j)),
+      count-none p (below (suc j)) (λ i m. none i (omega (arith, isIn-upFrom (suc j) 0 i m))),
+    )

@@ -1,5 +1,5 @@
 -- Dissection by any choice that takes a non-empty part from each region: it holds each node once, and it is nested.
-use mathlib.Core.Path.{_≡_, sym, ap, subst, _∙_}
+use mathlib.Core.Path.{_≡_, refl, sym, ap, ap₂, subst, _∙_}
 use mathlib.Core.Bool.{Bool, true, not}
 use mathlib.Core.List.{List, [], _∷_, _++_, flatten}
 use Prim.Native.Nat.{ℕ, zero, suc, _+_, _≤_}
@@ -9,7 +9,7 @@ use lib.ListN.{length, getD, length-append}
 use Rattle.plan.specs.Lists.{below, isIn, without}
 use Rattle.plan.specs.Mesh.{noParent}
 use Rattle.plan.specs.Levels.{Graph, components}
-use Rattle.plan.specs.Dissection.{Forest, dissect, dissection, parents, order, sizes}
+use Rattle.plan.specs.Dissection.{Forest, tree, dissect, dissection, parts, parents, order, sizes}
 use Rattle.theory.specs.Regions.{All, Apart, count, Region, Takes}
 use Rattle.theory.specs.PartTree.{PartTree, Nested}
 use Rattle.theory.proofs.Lists.{flatten-nil, flatten-cons, length-upFrom}
@@ -17,14 +17,14 @@ use Rattle.theory.proofs.Ascending.{ascending-keep, ascending-upFrom}
 use Rattle.theory.proofs.Counting.{count-append, count-all, count-le, same-members, same-length, exists-count, count-exists}
 use Rattle.theory.proofs.Components.{components-count, components-apart, components-regions}
 use Rattle.theory.proofs.Forest.{order-empty, order-tree}
-use Rattle.theory.proofs.Nested.{Separated, Full, forest-tree, forest-nested}
+use Rattle.theory.proofs.Nested.{Separated, Full, parts-le, forest-tree, forest-nested}
 
 module _ (edge : Graph) (choose : List ℕ → List ℕ) (takes : Takes edge choose) where
   -- what the cut leaves of a region
-  abbrev left : List ℕ → List (List ℕ)
+  abbrev pub left : List ℕ → List (List ℕ)
   left r = components edge (without (choose r) r)
 
-  left-regions : (r : List ℕ) → Region edge r → All (Region edge) (left r)
+  pub left-regions : (r : List ℕ) → Region edge r → All (Region edge) (left r)
   left-regions r h = components-regions edge (without (choose r) r) (ascending-keep (λ v. not (isIn v (choose r))) r (h .ascends))
 
   -- the part and what the cut leaves make up the region
@@ -35,10 +35,10 @@ module _ (edge : Graph) (choose : List ℕ → List ℕ) (takes : Takes edge cho
   part-length r h = omega (arith, part-count r h (λ x. true), count-all (choose r), count-all (flatten (left r)), count-all r)
 
   -- one step fewer is enough for what is left and for the other regions
-  enough-left : (r : List ℕ) (rs : List (List ℕ)) (most : ℕ) → Region edge r → length (flatten (r ∷ rs)) ≤ suc most → length (flatten (left r)) ≤ most
+  pub enough-left : (r : List ℕ) (rs : List (List ℕ)) (most : ℕ) → Region edge r → length (flatten (r ∷ rs)) ≤ suc most → length (flatten (left r)) ≤ most
   enough-left r rs most h l = omega (arith, ap length (flatten-cons r rs), part-length r h, takes .some r h, length-append r (flatten rs))
 
-  enough-others : (r : List ℕ) (rs : List (List ℕ)) (most : ℕ) → Region edge r → length (flatten (r ∷ rs)) ≤ suc most → length (flatten rs) ≤ most
+  pub enough-others : (r : List ℕ) (rs : List (List ℕ)) (most : ℕ) → Region edge r → length (flatten (r ∷ rs)) ≤ suc most → length (flatten rs) ≤ most
   enough-others r rs most h l = omega (arith, ap length (flatten-cons r rs), part-length r h, takes .some r h, length-append r (flatten rs))
 
   -- every test counts alike in the regions and in the dissection
@@ -61,6 +61,25 @@ module _ (edge : Graph) (choose : List ℕ → List ℕ) (takes : Takes edge cho
         ap (count p) (flatten-cons r rs),
         count-append p r (flatten rs),
       )
+
+  -- where there is a region, there is a node
+  none-left : (r : List ℕ) (rs : List (List ℕ)) → Region edge r → length (flatten (r ∷ rs)) ≤ 0 → ⊥
+  none-left r rs h l = omega (arith, ap length (flatten-cons r rs), length-append r (flatten rs), h .some)
+
+  -- two counts that are large enough give the same dissection
+  pub dissect-same : (most more : ℕ) (rs : List (List ℕ)) → All (Region edge) rs → length (flatten rs) ≤ most → length (flatten rs) ≤ more
+      → dissect most edge choose rs ≡ dissect more edge choose rs
+  unfolding dissect
+  dissect-same zero zero rs all l k = refl
+  dissect-same zero (suc more) [] all l k = refl
+  dissect-same zero (suc more) (r ∷ rs) all l k = absurd (none-left r rs (all .0) l)
+  dissect-same (suc most) zero [] all l k = refl
+  dissect-same (suc most) zero (r ∷ rs) all l k = absurd (none-left r rs (all .0) k)
+  dissect-same (suc most) (suc more) [] all l k = refl
+  dissect-same (suc most) (suc more) (r ∷ rs) all l k =
+      ap₂ (λ (c o : Forest). tree (choose r) c o)
+      (dissect-same most more (left r) (left-regions r (all .0)) (enough-left r rs most (all .0) l) (enough-left r rs more (all .0) k))
+      (dissect-same most more rs (all .1) (enough-others r rs most (all .0) l) (enough-others r rs more (all .0) k))
 
   dissect-full : (most : ℕ) (rs : List (List ℕ)) → All (Region edge) rs → Full (dissect most edge choose rs)
   unfolding dissect
@@ -92,10 +111,10 @@ module _ (edge : Graph) (choose : List ℕ → List ℕ) (takes : Takes edge cho
       )
 
   module _ (n : ℕ) where
-    first-regions : All (Region edge) (components edge (below n))
+    pub first-regions : All (Region edge) (components edge (below n))
     first-regions = components-regions edge (below n) (ascending-upFrom n 0)
 
-    enough : length (flatten (components edge (below n))) ≤ n
+    pub enough : length (flatten (components edge (below n))) ≤ n
     enough = omega (arith, same-length (flatten (components edge (below n))) (below n) (components-count edge (below n)), length-upFrom n 0)
 
     -- the order holds each node once: every test counts alike in it and in 0, .., n - 1
@@ -109,6 +128,10 @@ module _ (edge : Graph) (choose : List ℕ → List ℕ) (takes : Takes edge cho
     full : Full (dissection edge choose n)
     unfolding dissection
     full = dissect-full n (components edge (below n)) first-regions
+
+    -- there are at most as many parts as nodes
+    pub parts-few : length (parts (dissection edge choose n)) ≤ n
+    parts-few = omega (arith, parts-le (dissection edge choose n) full, order-length)
 
     separated : Separated edge (dissection edge choose n)
     unfolding dissection

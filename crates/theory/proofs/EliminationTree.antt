@@ -1,9 +1,9 @@
 -- The elimination tree of a mesh's columns: what the row-by-row and the column-by-column algorithms rest on.
-use mathlib.Core.Path.{_≡_, sym, ap, subst, _∙_}
+use mathlib.Core.Path.{_≡_, refl, sym, ap, subst, _∙_}
 use mathlib.Core.Logic.{_⊎_, inl, inr, _≢_, _↔_}
 use mathlib.Core.Bool.{Bool, true, false, false≢true}
-use mathlib.Core.List.{List, _∷_}
-use Prim.Native.Nat.{ℕ, _≤_, _<_}
+use mathlib.Core.List.{List, [], _∷_, headD}
+use Prim.Native.Nat.{ℕ, zero, suc, _+_, _≤_, _<_}
 use native.Mathlib.Omega.{arith}
 use lib.ListN.{getD}
 use Rattle.plan.specs.Lists.{isIn, every, ascending}
@@ -22,9 +22,14 @@ pub data Climb (m : Mesh) (order : List ℕ) (i : ℕ) : ℕ → Type 0 where
   start : {k : ℕ} → k < i → edgeAt m order i k ≡ true → Climb m order i k
   up : {k : ℕ} → Climb m order i k → firstRow m order k < i → Climb m order i (firstRow m order k)
 
+-- p is j, or met on the way up the parents from j: an ancestor of column j in the elimination tree
+pub data Above (m : Mesh) (order : List ℕ) (j : ℕ) : ℕ → Type 0 where
+  self : Above m order j j
+  parent : {p : ℕ} → Above m order j p → Above m order j (firstRow m order p)
+
 module _ (m : Mesh) (order : List ℕ) where
-  pub slot-bound : (i j : ℕ) → isRow m order i j ≡ true → (j < i) × (i < m .nodes)
-  slot-bound i j h = let t = row-fact m order i j h in (t .1 .later, t .0)
+  pub row-range : (i j : ℕ) → isRow m order i j ≡ true → (j < i) × (i < m .nodes)
+  row-range i j h = let t = row-fact m order i j h in (t .1 .later, t .0)
 
   -- (a) a row of column k past the parent p is a row of column p
   pub row-of-first : (i k : ℕ) → isRow m order i k ≡ true → firstRow m order k < i → isRow m order i (firstRow m order k) ≡ true
@@ -39,7 +44,7 @@ module _ (m : Mesh) (order : List ℕ) where
   row-origin i j h = go (slot-source (edgeAt m order) i j (row-fact m order i j h .1))
     where
       bound : (j < i) × (i < m .nodes)
-      bound = slot-bound i j h
+      bound = row-range i j h
 
       go : (edgeAt m order j i ≡ true) ⊎ Shared (edgeAt m order) i j → (edgeAt m order j i ≡ true) ⊎ ((k : ℕ) × (k < j) × (isRow m order i k ≡ true) × (isRow m order j k ≡ true))
       go (inl e) = inl e
@@ -104,6 +109,39 @@ module _ (m : Mesh) (order : List ℕ) where
       back (inr t) =
           let q : Parent (edgeAt m order) j (t .0) = subst (λ p. Parent (edgeAt m order) p (t .0)) (t .1) (first-fact m order i (t .0) (t .2)) in
           row-test m order i j li (child-slot (edgeAt m order) i j (t .3) (record { column = t .0; first = q; high = row-fact m order i (t .0) (t .2) .1 }))
+
+  -- a parent that is a position is later than its column
+  pub first-later : (k : ℕ) → firstRow m order k < m .nodes → k < firstRow m order k
+  unfolding firstRow isRow headD
+  first-later k h = go (column m order k) refl h
+    where
+      go : (l : List ℕ) → column m order k ≡ l → headD l (m .nodes) < m .nodes → k < headD l (m .nodes)
+      go [] e lt = absurd (omega arith)
+      go (p ∷ rest) e lt = row-fact m order p k (ap (isIn p) e ∙ isIn-head p rest) .1 .later
+
+  -- (e) a row of column j later than an ancestor p of j is a row of column p, so p's parent is at most that row
+  pub row-of-above : (i j : ℕ) → isRow m order i j ≡ true → {p : ℕ} → Above m order j p → p < i → isRow m order i p ≡ true
+  row-of-above i j h self lt = h
+  row-of-above i j h (parent {p = p} a) lt =
+      let later : p < firstRow m order p = first-later p (omega (arith, row-range i j h)) in
+      row-of-first i p (row-of-above i j h a (omega arith)) lt
+
+  pub parent-at-most : (i j : ℕ) → isRow m order i j ≡ true → {p : ℕ} → Above m order j p → p < i → firstRow m order p ≤ i
+  parent-at-most i j h {p} a lt = first-le i p (row-of-above i j h a lt)
+
+  -- all rows of a column are its ancestors: the way up from p meets row i
+  meets : (steps i j : ℕ) → isRow m order i j ≡ true → (p : ℕ) → Above m order j p → p < i → i ≤ p + steps → Above m order j i
+  meets zero i j h p a lt enough = absurd (omega arith)
+  meets (suc steps) i j h p a lt enough =
+      let le : firstRow m order p ≤ i = parent-at-most i j h a lt in
+      let later : p < firstRow m order p = first-later p (omega (arith, row-range i j h)) in
+      elim (eq-or-ne (firstRow m order p) i) [
+        | inl e ↦ subst (λ (x : ℕ). Above m order j x) e (parent a)
+        | inr e ↦ meets steps i j h (firstRow m order p) (parent a) (omega arith) (omega arith)
+      ]
+
+  pub row-is-ancestor : (i j : ℕ) → isRow m order i j ≡ true → Above m order j i
+  row-is-ancestor i j h = meets i i j h j self (row-range i j h .0) (omega arith)
 
   -- (e) check 19: a column's rows after its first are all in the first row's column
   pub rows-joins-first : (j p : ℕ) (rest : List ℕ) → column m order j ≡ p ∷ rest → every (λ i. isIn i (column m order p)) rest ≡ true

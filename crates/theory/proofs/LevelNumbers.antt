@@ -1,33 +1,17 @@
--- Levels by number: each after level 0 is a part of the region, has a node, and every node of it is next to the level before.
-use mathlib.Core.Path.{_≡_, refl, subst}
-use mathlib.Core.Logic.{inl, inr}
-use mathlib.Core.Bool.{Bool, true, not, _&&_}
-use mathlib.Core.List.{List, [], _∷_, reverse, reverseAux, headD, flatten}
-use Prim.Native.Nat.{ℕ, zero, suc, _+_, _-_, _<_}
+-- Levels by number: level 0 is the root, and each next one is every node of the region next to the last level and in no earlier one.
+use mathlib.Core.Path.{_≡_, refl, sym, ap, ap₂, _∙_}
+use mathlib.Core.Bool.{Bool, true, false, not, _&&_}
+use mathlib.Core.List.{List, [], _∷_, headD, flatten}
+use Prim.Native.Nat.{ℕ, zero, suc, _-_, _<_}
 use native.Mathlib.Omega.{arith}
-use lib.ListN.{length, getD, length-reverse}
+use lib.ListN.{length, getD, take, drop, length-reverse}
+use lib.Seq.{drop-cons}
+use borrow.Author.Tests.{not-true}
 use Rattle.plan.specs.Lists.{exists, keep, isIn}
 use Rattle.plan.specs.Levels.{Graph, nextLevel, levelsBack, levels}
-use Rattle.theory.proofs.Bools.{lt-or-le}
-use Rattle.theory.proofs.Levels.{Levelled, first, after, of-next, levelled}
-
--- an element of a list that stands the other way round
-turned-behind : {A : Type 0} (l acc : List A) (d : A) (t : ℕ) → getD (reverseAux l acc) (length l + t) d ≡ getD acc t d
-turned-behind [] acc d t = let e : 0 + t ≡ t = omega arith in rw e
-turned-behind (x ∷ xs) acc d t = let e : suc (length xs) + t ≡ length xs + suc t = omega arith in rw e (turned-behind xs (x ∷ acc) d (suc t))
-
-turned-front : {A : Type 0} (l acc : List A) (d : A) (i : ℕ) → i < length l → getD (reverseAux l acc) i d ≡ getD l (length l - suc i) d
-turned-front [] acc d i h = absurd (omega arith)
-turned-front (x ∷ xs) acc d i h = elim (lt-or-le i (length xs)) [
-  | inl l ↦ let e : suc (length xs) - suc i ≡ suc (length xs - suc i) = omega arith in rw e (turned-front xs (x ∷ acc) d i l)
-  | inr l ↦
-      let e : i ≡ length xs + 0 = omega arith in
-      let z : suc (length xs) - suc (length xs + 0) ≡ 0 = omega arith in
-      rw (e, z) (turned-behind xs (x ∷ acc) d 0)
-]
-
-pub getD-reverse : {A : Type 0} (l : List A) (d : A) (i : ℕ) → i < length l → getD (reverse l) i d ≡ getD l (length l - suc i) d
-getD-reverse l d i h = turned-front l [] d i h
+use Rattle.theory.proofs.Bools.{and-left, and-right}
+use Rattle.theory.proofs.Lists.{of-keep, keep-ext, take-reverse, getD-reverse, isIn-flatten-reverse}
+use Rattle.theory.proofs.Levels.{Levelled, first, after, levelled}
 
 -- a list kept from another by some test
 pub record Kept (region l : List ℕ) : Type 0 where
@@ -35,29 +19,34 @@ pub record Kept (region l : List ℕ) : Type 0 where
   pub same : l ≡ keep test region
 
 module _ (edge : Graph) (region : List ℕ) (root : ℕ) where
-  -- the levels with the last one first: number i of them is level ℓ - i
-  kept-back : {ls : List (List ℕ)} → Levelled edge region root ls → (i : ℕ) → suc i < length ls → Kept region (getD ls i [])
-  unfolding nextLevel
-  kept-back first i h = absurd (omega arith)
-  kept-back (after {l = l} {ls = ls} v e some) zero h = record { test = λ v. exists (λ u. edge u v) (headD ls []) && not (isIn v (flatten ls)); same = e }
-  kept-back (after v e some) (suc i) h = kept-back v i (omega arith)
+  -- ---- the last one first: number i of them is level ℓ - i
 
+  -- there is a level
+  some-levels : {ls : List (List ℕ)} → Levelled edge region root ls → 0 < length ls
+  some-levels first = omega arith
+  some-levels (after v e some) = omega arith
+
+  -- the last of them is the root
+  first-back : {ls : List (List ℕ)} → Levelled edge region root ls → (i : ℕ) → suc i ≡ length ls → getD ls i [] ≡ root ∷ []
+  first-back first zero h = refl
+  first-back first (suc i) h = absurd (omega arith)
+  first-back (after v e some) zero h = absurd (omega (arith, some-levels v))
+  first-back (after v e some) (suc i) h = first-back v i (omega arith)
+
+  -- each other one is the next level of those behind it
+  next-back : {ls : List (List ℕ)} → Levelled edge region root ls → (i : ℕ) → suc i < length ls → getD ls i [] ≡ nextLevel edge region (drop (suc i) ls)
+  next-back first i h = absurd (omega arith)
+  next-back (after v e some) zero h = e
+  next-back (after v e some) (suc i) h = next-back v i (omega arith)
+
+  -- each has a node
   some-back : {ls : List (List ℕ)} → Levelled edge region root ls → (i : ℕ) → i < length ls → 0 < length (getD ls i [])
   some-back first zero h = omega arith
   some-back first (suc i) h = absurd (omega arith)
   some-back (after v e some) zero h = some
   some-back (after v e some) (suc i) h = some-back v i (omega arith)
 
-  head-first : (ls : List (List ℕ)) → headD ls [] ≡ getD ls 0 []
-  unfolding headD
-  head-first [] = refl
-  head-first (l ∷ ls) = refl
-
-  near-back : {ls : List (List ℕ)} → Levelled edge region root ls → (i : ℕ) → suc i < length ls → (v : ℕ) → isIn v (getD ls i []) ≡ true → exists (λ u. edge u v) (getD ls (suc i) []) ≡ true
-  near-back first i h v m = absurd (omega arith)
-  near-back (after {l = l} {ls = ls} w e some) zero h v m =
-      rw (← head-first ls) (of-next edge region ls v (subst (λ (x : List ℕ). isIn v x ≡ true) e m) .near)
-  near-back (after w e some) (suc i) h v m = near-back w i (omega arith) v m
+  -- ---- in their order
 
   abbrev back : List (List ℕ)
   back = levelsBack (length region) edge region root
@@ -70,11 +59,45 @@ module _ (edge : Graph) (region : List ℕ) (root : ℕ) where
   unfolding levels
   level-back j h = getD-reverse back [] j h
 
+  -- there is a level
+  pub levels-some : 0 < length (levels edge region root)
+  levels-some = omega (arith, levels-length, some-levels (levelled edge region root (length region)))
+
+  -- "level 0 is the root"
+  pub level-first : getD (levels edge region root) 0 [] ≡ root ∷ []
+  level-first =
+      let some : 0 < length back = some-levels (levelled edge region root (length region)) in
+      level-back 0 some ∙ first-back (levelled edge region root (length region)) (length back - 1) (omega arith)
+
+  -- the levels before level j + 1, the last one first: the first of them is level j
+  head-before : (j : ℕ) → j < length back → headD (drop (length back - suc j) back) [] ≡ getD (levels edge region root) j []
+  unfolding headD
+  head-before j h =
+      ap (λ (ls : List (List ℕ)). headD ls []) (drop-cons back (length back - suc j) [] (omega arith)) ∙ sym (level-back j h)
+
+  -- and together they hold what the first j + 1 levels hold
+  held-before : (j v : ℕ) → j < length back → isIn v (flatten (drop (length back - suc j) back)) ≡ isIn v (flatten (take (suc j) (levels edge region root)))
+  unfolding levels
+  held-before j v h =
+      sym (isIn-flatten-reverse v (drop (length back - suc j) back)) ∙ ap (λ (ls : List (List ℕ)). isIn v (flatten ls)) (sym (take-reverse (suc j) back h))
+
+  -- "the next level is every node of the region next to the last level and in no earlier one"
+  pub level-next : (j : ℕ) → suc j < length (levels edge region root) → getD (levels edge region root) (suc j) []
+      ≡ keep (λ v. exists (λ u. edge u v) (getD (levels edge region root) j []) && not (isIn v (flatten (take (suc j) (levels edge region root))))) region
+  unfolding nextLevel
+  level-next j h =
+      let i : ℕ = length back - suc (suc j) in
+      let e : suc i ≡ length back - suc j = omega (arith, levels-length) in
+      let l : j < length back = omega (arith, levels-length) in
+      level-back (suc j) (omega (arith, levels-length))
+      ∙ next-back (levelled edge region root (length region)) i (omega (arith, levels-length))
+      ∙ ap (λ (k : ℕ). nextLevel edge region (drop k back)) e
+      ∙ keep-ext _ _ region (λ v m. ap₂ (λ (last : List ℕ) (b : Bool). exists (λ u. edge u v) last && not b) (head-before j l) (held-before j v l))
+
   -- a level after level 0 is kept from the region
   pub level-kept : (j : ℕ) → 0 < j → j < length (levels edge region root) → Kept region (getD (levels edge region root) j [])
-  level-kept j p h =
-      rw (level-back j (omega (arith, levels-length)))
-      (kept-back (levelled edge region root (length region)) (length back - suc j) (omega (arith, levels-length)))
+  level-kept zero p h = absurd (omega arith)
+  level-kept (suc j) p h = record { test = _; same = level-next j h }
 
   -- every level has a node
   pub level-some : (j : ℕ) → j < length (levels edge region root) → 0 < length (getD (levels edge region root) j [])
@@ -82,11 +105,19 @@ module _ (edge : Graph) (region : List ℕ) (root : ℕ) where
       rw (level-back j (omega (arith, levels-length)))
       (some-back (levelled edge region root (length region)) (length back - suc j) (omega (arith, levels-length)))
 
-  -- and every node of a level after level 0 is next to a node of the level before
+  -- the test of level j + 1, at a node of it
+  level-test : (j : ℕ) → suc j < length (levels edge region root) → (v : ℕ) → isIn v (getD (levels edge region root) (suc j) []) ≡ true
+      → (exists (λ u. edge u v) (getD (levels edge region root) j []) && not (isIn v (flatten (take (suc j) (levels edge region root))))) ≡ true
+  level-test j h v m =
+      of-keep (λ v. exists (λ u. edge u v) (getD (levels edge region root) j []) && not (isIn v (flatten (take (suc j) (levels edge region root))))) region v
+      (ap (isIn v) (sym (level-next j h)) ∙ m) .1
+
+  -- every node of a level after level 0 is next to a node of the level before
   pub level-near : (j : ℕ) → suc j < length (levels edge region root) → (v : ℕ) → isIn v (getD (levels edge region root) (suc j) []) ≡ true
       → exists (λ u. edge u v) (getD (levels edge region root) j []) ≡ true
-  level-near j h v m =
-      let i : ℕ = length back - suc (suc j) in
-      let e : length back - suc j ≡ suc i = omega (arith, levels-length) in
-      rw (level-back j (omega (arith, levels-length)), e)
-      (near-back (levelled edge region root (length region)) i (omega (arith, levels-length)) v (rw (level-back (suc j) (omega (arith, levels-length))) at m))
+  level-near j h v m = and-left (exists (λ u. edge u v) (getD (levels edge region root) j [])) _ (level-test j h v m)
+
+  -- and in no level before
+  pub level-fresh : (j : ℕ) → suc j < length (levels edge region root) → (v : ℕ) → isIn v (getD (levels edge region root) (suc j) []) ≡ true
+      → isIn v (flatten (take (suc j) (levels edge region root))) ≡ false
+  level-fresh j h v m = not-true _ (and-right (exists (λ u. edge u v) (getD (levels edge region root) j [])) _ (level-test j h v m))

@@ -1,14 +1,15 @@
--- Levels from a root: they end, they are disjoint, each is next to the one before, and together they are closed under edges of the region.
+-- Levels from a root, the last one first: they end, more turns change nothing, and together they are closed under edges of the region.
 use mathlib.Core.Path.{_≡_, refl, sym, ap, subst, _∙_}
 use mathlib.Core.Logic.{_⊎_, inl, inr}
 use mathlib.Core.Bool.{Bool, true, false, not, _&&_, false≢true}
 use mathlib.Core.List.{List, [], _∷_, _++_, headD, flatten}
-use Prim.Native.Nat.{ℕ, zero, suc, _+_, _≤_, _<_}
+use Prim.Native.Nat.{ℕ, zero, suc, _+_, _-_, _≤_, _<_}
 use native.Mathlib.Omega.{arith}
 use lib.ListN.{length}
 use borrow.Author.Tests.{not-true}
 use Rattle.plan.specs.Lists.{exists, isIn}
 use Rattle.plan.specs.Levels.{Graph, nextLevel, addLevel, levelsBack}
+use Rattle.plan.specs.Enough.{LevelsEnd}
 use Rattle.theory.specs.Regions.{count}
 use Rattle.theory.proofs.Bools.{and-left, and-right, and-both, tested, clash, not-flips}
 use Rattle.theory.proofs.Lists.{isIn-head, isIn-cons, isIn-append-left, isIn-append-right, isIn-append-cases, isIn-exists, in-keep, of-keep}
@@ -123,6 +124,12 @@ module _ (edge : Graph) (region : List ℕ) where
         let turn : suc d + k ≡ suc (d + k) = omega arith in
         rw (turn, same, e)
 
+    -- so any larger number of turns gives the same levels
+    pub levels-same : (k : ℕ) → length region ≤ k → levelsBack k edge region root ≡ levelsBack (length region) edge region root
+    levels-same k h =
+        let e : k ≡ k - length region + length region = omega arith in
+        ap (λ (n : ℕ). levelsBack n edge region root) e ∙ levels-stay (length region) (k - length region) levels-ended
+
     -- ---- what the levels hold
 
     -- the root is in them
@@ -171,3 +178,7 @@ module _ (edge : Graph) (region : List ℕ) where
             ∙ in-next ls b (record { inside = hb; near = isIn-exists (λ u. edge u b) (headD ls []) a t e; fresh = u })))
       ]
     ]
+
+-- no level comes after the last
+pub levels-end : LevelsEnd
+levels-end edge region root = levels-ended edge region root

@@ -1,13 +1,14 @@
--- Laws of the book's lists: membership, tests over lists, ranges, places.
+-- Laws of the book's lists: membership, tests over lists, ranges, places, lists the other way round.
 use mathlib.Core.Path.{_≡_, refl, sym, ap, ap₂, _∙_}
 use mathlib.Core.Logic.{_⊎_, inl, inr}
-use mathlib.Core.Bool.{Bool, true, false, not, _&&_, _||_, cond, false≢true}
-use mathlib.Core.List.{List, [], _∷_, _++_, map, flatten, append-assoc}
-use Prim.Native.Nat.{ℕ, zero, suc, _+_, _≤_, _<_}
+use mathlib.Core.Bool.{Bool, true, false, not, _&&_, _||_, cond, false≢true, or-assoc, or-comm, or-false}
+use mathlib.Core.List.{List, [], _∷_, _++_, map, reverse, reverseAux, flatten, append-assoc, reverse-cons, reverse-append}
+use Prim.Native.Nat.{ℕ, zero, suc, _+_, _-_, _≤_, _<_}
 use native.Mathlib.Nat.{zero-add, add-zero, suc-add, add-suc}
 use native.Mathlib.Omega.{arith}
 use lib.Dec.{eqb}
-use lib.ListN.{length, getD}
+use lib.ListN.{length, getD, take, drop, take-append-drop, length-drop, length-reverse}
+use lib.Seq.{ext-getD, drop-cons, getD-take, take-at, getD-at}
 use borrow.Author.Tests.{eqb-true, eq-eqb}
 use Rattle.plan.specs.Lists.{exists, every, keep, upFrom, below, isIn, without, indexOf, total}
 use Rattle.theory.proofs.Bools.{or-cases, or-left, or-right, and-left, and-right, and-both, iff-eq, clash, refuted, eqb-same, eq-or-ne}
@@ -51,6 +52,19 @@ isIn-getD [] i d h = absurd (omega arith)
 isIn-getD (y ∷ ys) zero d h = isIn-head y ys
 isIn-getD (y ∷ ys) (suc i) d h = isIn-tail (getD ys i d) y ys (isIn-getD ys i d (omega arith))
 
+pub isIn-take : (x k : ℕ) (l : List ℕ) → isIn x (take k l) ≡ true → isIn x l ≡ true
+isIn-take x zero l h = absurd (false≢true h)
+isIn-take x (suc k) [] h = absurd (false≢true h)
+isIn-take x (suc k) (y ∷ l) h = elim (or-cases (eqb x y) (isIn x (take k l)) h) [
+  | inl e ↦ or-left (eqb x y) _ e
+  | inr m ↦ or-right (eqb x y) _ (isIn-take x k l m)
+]
+
+pub isIn-drop : (x k : ℕ) (l : List ℕ) → isIn x (drop k l) ≡ true → isIn x l ≡ true
+isIn-drop x zero l h = h
+isIn-drop x (suc k) [] h = absurd (false≢true h)
+isIn-drop x (suc k) (y ∷ l) h = isIn-tail x y l (isIn-drop x k l h)
+
 -- ---- every element, some element
 
 pub every-isIn : (p : ℕ → Bool) (l : List ℕ) → every p l ≡ true → (x : ℕ) → isIn x l ≡ true → p x ≡ true
@@ -84,6 +98,20 @@ exists-none p l h x m = refuted (p x) (λ t. clash (exists p l) (isIn-exists p l
 
 pub none-exists : (p : ℕ → Bool) (l : List ℕ) → ((x : ℕ) → isIn x l ≡ true → p x ≡ false) → exists p l ≡ false
 none-exists p l f = refuted (exists p l) (λ t. let r = exists-isIn p l t in clash (p (r .0)) (r .2) (f (r .0) (r .1)))
+
+-- a test of mapped elements
+pub exists-map : (p : ℕ → Bool) (f : ℕ → ℕ) (l : List ℕ) → exists p (map f l) ≡ exists (λ x. p (f x)) l
+exists-map p f [] = refl
+exists-map p f (y ∷ l) = ap (λ (b : Bool). p (f y) || b) (exists-map p f l)
+
+-- a test of the elements that pass another
+pub exists-keep : (p q : ℕ → Bool) (l : List ℕ) → exists p (keep q l) ≡ exists (λ x. q x && p x) l
+exists-keep p q [] = refl
+exists-keep p q (y ∷ l) = go (q y) (exists-keep p q l)
+  where
+    go : (b : Bool) → exists p (keep q l) ≡ exists (λ x. q x && p x) l → exists p (cond b (y ∷ keep q l) (keep q l)) ≡ (b && p y || exists (λ x. q x && p x) l)
+    go true e = ap (λ (b : Bool). p y || b) e
+    go false e = e
 
 -- ---- what passes a test
 
@@ -209,6 +237,11 @@ module _ {A : Type 0} where
   unfolding flatten
   flatten-cons x xs = refl
 
+-- a list is its elements place by place
+pub map-getD : (l : List ℕ) → map (λ i. getD l i 0) (below (length l)) ≡ l
+map-getD l = ext-getD 0 (map (λ i. getD l i 0) (below (length l))) l (length-map-upFrom (λ i. getD l i 0) (length l) 0)
+    (λ i h. getD-map-below (λ i. getD l i 0) 0 (length l) i (omega (arith, length-map-upFrom (λ i. getD l i 0) (length l) 0)))
+
 pub total-append : (xs ys : List ℕ) → total (xs ++ ys) ≡ total xs + total ys
 total-append [] ys = omega arith
 total-append (x ∷ xs) ys = omega (arith, total-append xs ys)
@@ -243,3 +276,57 @@ indexOf-lt (y ∷ ys) x h = go (eqb x y) refl h (indexOf-lt ys x)
     go : (b : Bool) → eqb x y ≡ b → (b || isIn x ys) ≡ true → (isIn x ys ≡ true → indexOf x ys < length ys) → cond b 0 (suc (indexOf x ys)) < suc (length ys)
     go true e m ih = omega arith
     go false e m ih = omega (arith, ih m)
+
+-- ---- one of several lists
+
+-- an element of one of the first k lists is in them together
+pub isIn-flatten-take : (ls : List (List ℕ)) (k i x : ℕ) → i < k → isIn x (getD ls i []) ≡ true → isIn x (flatten (take k ls)) ≡ true
+unfolding flatten
+isIn-flatten-take [] k i x lt m = absurd (false≢true m)
+isIn-flatten-take (l ∷ ls) zero i x lt m = absurd (omega arith)
+isIn-flatten-take (l ∷ ls) (suc k) zero x lt m = isIn-append-left x l (flatten (take k ls)) m
+isIn-flatten-take (l ∷ ls) (suc k) (suc i) x lt m = isIn-append-right x l (flatten (take k ls)) (isIn-flatten-take ls k i x (omega arith) m)
+
+-- ---- a place within a list, a list the other way round
+
+module _ {A : Type 0} where
+  -- what stands at a place does not depend on the default
+  pub getD-default : (l : List A) (i : ℕ) (d e : A) → i < length l → getD l i d ≡ getD l i e
+  getD-default [] i d e h = absurd (omega arith)
+  getD-default (x ∷ l) zero d e h = refl
+  getD-default (x ∷ l) (suc i) d e h = getD-default l i d e (omega arith)
+
+  -- the first k of a list the other way round are its last k
+  pub take-reverse : (k : ℕ) (l : List A) → k ≤ length l → take k (reverse l) ≡ reverse (drop (length l - k) l)
+  take-reverse k l h =
+      let m : ℕ = length l - k in
+      let few : length (drop m l) ≡ k = length-drop m l ∙ omega arith in
+      ap (λ (r : List A). take k (reverse r)) (sym (take-append-drop m l))
+      ∙ ap (take k) (reverse-append (take m l) (drop m l))
+      ∙ take-at (reverse (drop m l)) (reverse (take m l)) k (length-reverse (drop m l) ∙ few)
+
+  -- and its element i is element i from the end
+  pub getD-reverse : (l : List A) (d : A) (i : ℕ) → i < length l → getD (reverse l) i d ≡ getD l (length l - suc i) d
+  getD-reverse l d i h =
+      let m : ℕ = length l - suc i in
+      let behind : List A = drop (suc m) l in
+      let few : length behind ≡ i = length-drop (suc m) l ∙ omega arith in
+      sym (getD-take (suc i) (reverse l) i d (omega arith))
+      ∙ ap (λ (r : List A). getD r i d) (take-reverse (suc i) l h ∙ ap reverse (drop-cons l m d (omega arith)) ∙ reverse-cons (getD l m d) behind)
+      ∙ getD-at (reverse behind) (getD l m d) [] d i (length-reverse behind ∙ few)
+
+-- ---- membership in lists of lists
+
+isIn-flatten-reverseAux : (x : ℕ) (ls acc : List (List ℕ)) → isIn x (flatten (reverseAux ls acc)) ≡ (isIn x (flatten ls) || isIn x (flatten acc))
+unfolding flatten
+isIn-flatten-reverseAux x [] acc = refl
+isIn-flatten-reverseAux x (l ∷ ls) acc =
+    isIn-flatten-reverseAux x ls (l ∷ acc)
+    ∙ ap (λ (t : Bool). isIn x (flatten ls) || t) (isIn-append x l (flatten acc))
+    ∙ sym (or-assoc (isIn x (flatten ls)) (isIn x l) (isIn x (flatten acc)))
+    ∙ ap (λ (t : Bool). t || isIn x (flatten acc)) (or-comm (isIn x (flatten ls)) (isIn x l) ∙ sym (isIn-append x l (flatten ls)))
+
+-- the order of the lists does not matter to what they hold
+pub isIn-flatten-reverse : (x : ℕ) (ls : List (List ℕ)) → isIn x (flatten (reverse ls)) ≡ isIn x (flatten ls)
+unfolding flatten
+isIn-flatten-reverse x ls = isIn-flatten-reverseAux x ls [] ∙ or-false (isIn x (flatten ls))

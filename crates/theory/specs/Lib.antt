@@ -1,5 +1,5 @@
+pub mod Regions
 pub mod Facts
 pub mod Positions
-pub mod Regions
 pub mod PartTree
 pub mod Sensible

@@ -1,0 +1,62 @@
+-- Lists that stand one after the other, found again by their starts.
+use mathlib.Core.Path.{_≡_, refl, sym, ap, _∙_}
+use mathlib.Core.Bool.{false}
+use mathlib.Core.List.{List, [], _∷_, _++_, map, flatten, append-assoc}
+use Prim.Native.Nat.{ℕ, zero, suc, _+_, _-_, _<_}
+use native.Mathlib.Omega.{arith}
+use lib.ListN.{length, getD, length-append}
+use lib.Seq.{take-at, drop-at}
+use borrow.Author.Tests.{le-ltb}
+use Rattle.plan.specs.Lists.{listAt, total, runningSums, falls}
+use Rattle.theory.proofs.Lists.{flatten-nil, flatten-cons}
+
+-- ---- running sums; `more` is whatever stands behind them
+
+pub sums-first : (a : ℕ) (cs more : List ℕ) → getD (runningSums a cs ++ more) 0 0 ≡ a
+sums-first a [] more = refl
+sums-first a (c ∷ cs) more = refl
+
+pub sums-last : (a : ℕ) (cs more : List ℕ) → getD (runningSums a cs ++ more) (length cs) 0 ≡ a + total cs
+sums-last a [] more = omega arith
+sums-last a (c ∷ cs) more = sums-last (a + c) cs more ∙ omega arith
+
+-- each differs from the one before by its count
+pub sums-next : (a : ℕ) (cs more : List ℕ) (j : ℕ) → j < length cs → getD (runningSums a cs ++ more) (j + 1) 0 ≡ getD (runningSums a cs ++ more) j 0 + getD cs j 0
+sums-next a [] more j h = absurd (omega arith)
+sums-next a (c ∷ cs) more zero h = sums-first (a + c) cs more
+sums-next a (c ∷ cs) more (suc j) h = let next : suc j + 1 ≡ suc (j + 1) = omega arith in rw next (sums-next (a + c) cs more j (omega arith))
+
+pub sums-length : (a : ℕ) (cs : List ℕ) → length (runningSums a cs) ≡ length cs + 1
+sums-length a [] = refl
+sums-length a (c ∷ cs) = omega (arith, sums-length (a + c) cs)
+
+pub sums-rise : (a : ℕ) (cs : List ℕ) → falls (runningSums a cs) ≡ false
+sums-rise a [] = refl
+sums-rise a (c ∷ []) = rw (le-ltb (a + c) a (omega arith))
+sums-rise a (c ∷ (d ∷ cs)) = rw (le-ltb (a + c) a (omega arith)) (sums-rise (a + c) (d ∷ cs))
+
+-- ---- lists one after the other
+
+pub total-lengths : (ls : List (List ℕ)) → total (map length ls) ≡ length (flatten ls)
+total-lengths [] = ap length (sym flatten-nil)
+total-lengths (l ∷ ls) = omega (arith, total-lengths ls, ap length (flatten-cons l ls), length-append l (flatten ls))
+
+-- behind entries that do not count, with the first start after them, each list is found by its starts, whatever stands behind
+list-from : (ls : List (List ℕ)) (a : ℕ) (front more rest : List ℕ) → length front ≡ a → (j : ℕ) → j < length ls
+    → listAt (runningSums a (map length ls) ++ more) (front ++ (flatten ls ++ rest)) j ≡ getD ls j []
+unfolding listAt
+list-from [] a front more rest e j h = absurd (omega arith)
+list-from (l ∷ ls) a front more rest e zero h =
+    let size : a + length l - a ≡ length l = omega arith in
+    rw (sums-first (a + length l) (map length ls) more, size, drop-at front (flatten (l ∷ ls) ++ rest) a e, flatten-cons l ls, append-assoc l (flatten ls) rest)
+    (take-at l (flatten ls ++ rest) (length l) refl)
+list-from (l ∷ ls) a front more rest e (suc j) h =
+    let same : front ++ (flatten (l ∷ ls) ++ rest) ≡ (front ++ l) ++ (flatten ls ++ rest) =
+    ap (λ (x : List ℕ). front ++ (x ++ rest)) (flatten-cons l ls)
+    ∙ ap (λ (x : List ℕ). front ++ x) (append-assoc l (flatten ls) rest) ∙ sym (append-assoc front l (flatten ls ++ rest)) in
+    let next : suc j + 1 ≡ suc (j + 1) = omega arith in
+    rw (next, same) (list-from ls (a + length l) (front ++ l) more rest (omega (arith, length-append front l)) j (omega arith))
+
+pub list-of-starts : (ls : List (List ℕ)) (more rest : List ℕ) (j : ℕ) → j < length ls
+    → listAt (runningSums 0 (map length ls) ++ more) (flatten ls ++ rest) j ≡ getD ls j []
+list-of-starts ls more rest j h = list-from ls 0 [] more rest refl j h

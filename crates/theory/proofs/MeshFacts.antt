@@ -1,0 +1,120 @@
+-- What checks 1 to 7 give: a mesh that passes them is `Checked`.
+use mathlib.Core.Path.{_≡_, ap}
+use mathlib.Core.Logic.{inl, inr}
+use mathlib.Core.Bool.{Bool, true, false, not, _||_}
+use mathlib.Core.List.{[]}
+use Prim.Native.Nat.{ℕ, _+_, _-_, _≤_, _<_}
+use native.Mathlib.Omega.{arith}
+use lib.Dec.{leb, eqb}
+use lib.ListN.{length, getD, drop, List·getD-eq-default}
+use borrow.Author.Tests.{eqb-true, eqb-false, leb-false, ltb-false, not-false}
+use Rattle.plan.specs.Lists.{exists, below, isIn, listAt, ascending}
+use Rattle.plan.specs.Refusals.{firstFault}
+use Rattle.plan.specs.Mesh.{maxNodes, Mesh, neighboursOf, adjacent, badNodeCount, badStarts, badMeshStarts, tooManyEntries, neighbourOutside, listsItself, notAscending, oneSided, meshChecks}
+use Rattle.theory.specs.Facts.{Checked}
+use Rattle.theory.proofs.Bools.{or-false-left, or-false-right, lt-or-le, clash}
+use Rattle.theory.proofs.Lists.{below-isIn, exists-none, isIn-take, isIn-drop}
+use Rattle.theory.proofs.Refusals.{no-fault}
+
+-- the seven checks, each without a fault
+record Passed (m : Mesh) : Type 0 where
+  count : badNodeCount (m .nodes) ≡ false
+  starts : badMeshStarts m ≡ false
+  inside : neighbourOutside m ≡ false
+  loopless : listsItself m ≡ false
+  ascends : notAscending m ≡ false
+  mirrored : oneSided m ≡ false
+
+passed-each : (m : Mesh) → firstFault (meshChecks m) ≡ 0 → Passed m
+unfolding meshChecks
+passed-each m h =
+    let c1 = no-fault 1 (badNodeCount (m .nodes)) _ (omega arith) h in
+    let c2 = no-fault 2 (badMeshStarts m) _ (omega arith) (c1 .1) in
+    let c3 = no-fault 3 (tooManyEntries m) _ (omega arith) (c2 .1) in
+    let c4 = no-fault 4 (neighbourOutside m) _ (omega arith) (c3 .1) in
+    let c5 = no-fault 5 (listsItself m) _ (omega arith) (c4 .1) in
+    let c6 = no-fault 6 (notAscending m) _ (omega arith) (c5 .1) in
+    let c7 = no-fault 7 (oneSided m) _ (omega arith) (c6 .1) in
+    record { count = c1 .0; starts = c2 .0; inside = c4 .0; loopless = c5 .0; ascends = c6 .0; mirrored = c7 .0 }
+
+-- check 1
+node-count : (n : ℕ) → badNodeCount n ≡ false → (0 < n) × (n ≤ maxNodes)
+unfolding badNodeCount
+node-count n h =
+    let ne = eqb-false n 0 (or-false-left (eqb n 0) _ h) in
+    let le : n ≤ maxNodes = ltb-false maxNodes n (or-false-right (eqb n 0) _ h) in
+    (omega arith, le)
+
+-- check 2: the starts are n + 1 long
+starts-full : (m : Mesh) → badMeshStarts m ≡ false → length (m .starts) ≡ m .nodes + 1
+unfolding badMeshStarts badStarts
+starts-full m h =
+    let full : Bool = eqb (length (m .starts)) (m .nodes + 1) in
+    let bad : badStarts (m .nodes) (m .starts) ≡ false = or-false-left (badStarts (m .nodes) (m .starts)) _ h in
+    eqb-true (length (m .starts)) (m .nodes + 1) (not-false full (or-false-left (not full) _ (or-false-left (not full || not (eqb (getD (m .starts) 0 0) 0)) _ bad)))
+
+-- past the nodes the lists are empty
+pub list-out : (m : Mesh) (v : ℕ) → length (m .starts) ≡ m .nodes + 1 → m .nodes ≤ v → neighboursOf m v ≡ []
+unfolding neighboursOf listAt
+list-out m v full le =
+    let none : getD (m .starts) (v + 1) 0 ≡ 0 = List·getD-eq-default (m .starts) 0 (omega (arith, full)) in
+    let nothing : 0 - getD (m .starts) v 0 ≡ 0 = omega arith in
+    rw (none, nothing)
+
+module _ (m : Mesh) (h : Passed m) where
+  full : length (m .starts) ≡ m .nodes + 1
+  full = starts-full m (h .starts)
+
+  -- a node with a neighbour is below n
+  listed : (v w : ℕ) → adjacent m v w ≡ true → v < m .nodes
+  unfolding adjacent
+  listed v w a = elim (lt-or-le v (m .nodes)) [
+    | inl l ↦ l
+    | inr l ↦ clash (isIn w (neighboursOf m v)) a (ap (isIn w) (list-out m v full l))
+  ]
+
+  -- check 4: and so is the neighbour
+  inside : (v w : ℕ) → adjacent m v w ≡ true → w < m .nodes
+  unfolding adjacent neighboursOf listAt neighbourOutside
+  inside v w a =
+      leb-false (m .nodes) w
+      (exists-none (leb (m .nodes)) (m .neighbours) (h .inside) w (isIn-drop w (getD (m .starts) v 0) (m .neighbours) (isIn-take w (getD (m .starts) (v + 1) 0 - getD (m .starts) v 0) (drop (getD (m .starts) v 0) (m .neighbours)) a)))
+
+  -- check 5
+  loopless : (v : ℕ) → adjacent m v v ≡ false
+  unfolding listsItself
+  loopless v = elim (lt-or-le v (m .nodes)) [
+    | inl l ↦ exists-none (λ v. adjacent m v v) (below (m .nodes)) (h .loopless) v (below-isIn (m .nodes) v l)
+    | inr l ↦ unfold adjacent in ap (isIn v) (list-out m v full l)
+  ]
+
+  -- check 6
+  ascends : (v : ℕ) → ascending (neighboursOf m v) ≡ true
+  unfolding notAscending
+  ascends v = elim (lt-or-le v (m .nodes)) [
+    | inl l ↦ not-false _ (exists-none (λ v. not (ascending (neighboursOf m v))) (below (m .nodes)) (h .ascends) v (below-isIn (m .nodes) v l))
+    | inr l ↦ ap ascending (list-out m v full l)
+  ]
+
+  -- check 7
+  mirror : (v w : ℕ) → adjacent m v w ≡ true → adjacent m w v ≡ true
+  unfolding oneSided
+  mirror v w a =
+      let one : exists (λ w. not (adjacent m w v)) (neighboursOf m v) ≡ false =
+      exists-none (λ v. exists (λ w. not (adjacent m w v)) (neighboursOf m v)) (below (m .nodes)) (h .mirrored) v (below-isIn (m .nodes) v (listed v w a)) in
+      not-false (adjacent m w v) (exists-none (λ w. not (adjacent m w v)) (neighboursOf m v) one w (unfold adjacent in a))
+
+-- a mesh that passes checks 1 to 7
+pub checked : (m : Mesh) → firstFault (meshChecks m) ≡ 0 → Checked m
+checked m h =
+    let p : Passed m = passed-each m h in
+    let c = node-count (m .nodes) (p .count) in
+    record {
+      some = c .0;
+      few = c .1;
+      full = full m p;
+      inside = λ v w a. (listed m p v w a, inside m p v w a);
+      loopless = loopless m p;
+      ascends = ascends m p;
+      symmetric = record { mirror = mirror m p };
+    }

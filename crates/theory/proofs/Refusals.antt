@@ -1,0 +1,23 @@
+-- The first fault of a list of checks: 0 where no check finds one.
+use mathlib.Core.Path.{_≡_, refl}
+use mathlib.Core.Bool.{Bool, true, false, cond}
+use mathlib.Core.List.{[], _∷_, _++_}
+use Prim.Native.Nat.{ℕ, _<_}
+use native.Mathlib.Omega.{arith}
+use Rattle.plan.specs.Refusals.{Checks, firstFault}
+
+-- where there is none, a check found nothing, and neither did those after it
+pub no-fault : (k : ℕ) (b : Bool) (cs : Checks) → 0 < k → firstFault ((k, b) ∷ cs) ≡ 0 → (b ≡ false) × (firstFault cs ≡ 0)
+unfolding firstFault
+no-fault k true cs p h = absurd (omega arith)
+no-fault k false cs p h = (refl, h)
+
+-- nor did those that come first of a longer list
+pub no-fault-first : (xs ys : Checks) → firstFault (xs ++ ys) ≡ 0 → firstFault xs ≡ 0
+unfolding firstFault
+no-fault-first [] ys h = refl
+no-fault-first (c ∷ xs) ys h = go (c .1) h (no-fault-first xs ys)
+  where
+    go : (b : Bool) → cond b (c .0) (firstFault (xs ++ ys)) ≡ 0 → (firstFault (xs ++ ys) ≡ 0 → firstFault xs ≡ 0) → cond b (c .0) (firstFault xs) ≡ 0
+    go true h ih = h
+    go false h ih = ih h
