@@ -6,10 +6,12 @@ use mathlib.Core.List.{List, [], _∷_, headD}
 use Prim.Native.Nat.{ℕ, zero, suc, _≤_, _<_}
 use native.Mathlib.Omega.{arith}
 use lib.Dec.{ltb}
-use borrow.Author.Tests.{ltb-true, lt-ltb}
-use Rattle.plan.specs.Lists.{keep, upFrom, below, isIn, ascending}
-use Rattle.theory.proofs.Bools.{and-left, and-right, and-both, iff-eq}
-use Rattle.theory.proofs.Lists.{isIn-head, isIn-tail, isIn-cons, of-keep, isIn-upFrom}
+use lib.ListN.{length, getD}
+use borrow.Author.Tests.{ltb-true, lt-ltb, ltb-false}
+use Rattle.plan.specs.Lists.{falls, keep, upFrom, below, isIn, ascending}
+use Rattle.theory.proofs.Bools.{or-false-left, or-false-right, and-left, and-right, and-both, iff-eq}
+use Rattle.theory.proofs.Lists.{isIn-head, isIn-tail, isIn-cons, isIn-getD, of-keep}
+use Rattle.theory.proofs.Ranges.{isIn-upFrom}
 
 pub ascending-tail : (x : ℕ) (l : List ℕ) → ascending (x ∷ l) ≡ true → ascending l ≡ true
 ascending-tail x [] h = refl
@@ -46,12 +48,13 @@ ascending-keep p (x ∷ xs) h = go (p x) (ascending-keep p xs (ascending-tail x 
 pub ascending-kept : (p : ℕ → Bool) (n : ℕ) → ascending (keep p (below n)) ≡ true
 ascending-kept p n = ascending-keep p (below n) (ascending-upFrom n 0)
 
--- the first of an ascending list is its least
+-- the first of a list with a member is a member
 pub headD-isIn : (d : ℕ) (l : List ℕ) (x : ℕ) → isIn x l ≡ true → isIn (headD l d) l ≡ true
 unfolding headD
 headD-isIn d [] x h = absurd (false≢true h)
 headD-isIn d (y ∷ ys) x h = isIn-head y ys
 
+-- and of an ascending list the least
 pub headD-least : (d : ℕ) (l : List ℕ) → ascending l ≡ true → (x : ℕ) → isIn x l ≡ true → headD l d ≤ x
 unfolding headD
 headD-least d [] h x t = absurd (false≢true t)
@@ -89,3 +92,20 @@ ascending-ext (x ∷ xs) (y ∷ ys) h k f =
       | inl e ↦ absurd (omega (arith, le, ge, e, ascending-lt y ys k z t))
       | inr u ↦ u
     ]
+
+-- an earlier place of an ascending list holds a lesser number
+pub ascending-getD : (l : List ℕ) → ascending l ≡ true → (i j : ℕ) → i < j → j < length l → getD l i 0 < getD l j 0
+ascending-getD [] h i j lt le = absurd (omega arith)
+ascending-getD (x ∷ l) h i zero lt le = absurd (omega arith)
+ascending-getD (x ∷ l) h zero (suc j) lt le = ascending-lt x l h (getD l j 0) (isIn-getD l j 0 (omega arith))
+ascending-getD (x ∷ l) h (suc i) (suc j) lt le = ascending-getD l (ascending-tail x l h) i j (omega arith) (omega arith)
+
+-- an earlier place of a list that does not fall holds no greater number
+pub falls-getD : (l : List ℕ) → falls l ≡ false → (i j : ℕ) → i ≤ j → j < length l → getD l i 0 ≤ getD l j 0
+falls-getD [] h i j le lt = absurd (omega arith)
+falls-getD (x ∷ l) h (suc i) zero le lt = absurd (omega arith)
+falls-getD (x ∷ l) h zero zero le lt = omega arith
+falls-getD (x ∷ []) h i (suc j) le lt = absurd (omega arith)
+falls-getD (x ∷ (y ∷ ys)) h zero (suc j) le lt =
+    omega (arith, ltb-false y x (or-false-left (ltb y x) _ h), falls-getD (y ∷ ys) (or-false-right (ltb y x) _ h) zero j (omega arith) (omega arith))
+falls-getD (x ∷ (y ∷ ys)) h (suc i) (suc j) le lt = falls-getD (y ∷ ys) (or-false-right (ltb y x) _ h) i j (omega arith) (omega arith)

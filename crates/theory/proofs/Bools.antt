@@ -1,11 +1,10 @@
 -- Tests as facts: a test holds where it equals `true`, and fails where it equals `false`.
-use mathlib.Core.Path.{_≡_, refl, sym, ap, _∙_}
+use mathlib.Core.Path.{_≡_, refl, sym, _∙_}
 use mathlib.Core.Logic.{_⊎_, inl, inr, _≢_}
 use mathlib.Core.Bool.{Bool, true, false, not, cond, _&&_, _||_, false≢true}
-use Prim.Native.Nat.{ℕ, zero, suc, _+_, _≤_, _<_}
-use native.Mathlib.Omega.{arith}
+use Prim.Native.Nat.{ℕ, _≤_, _<_}
 use lib.Dec.{eqb, ltb}
-use borrow.Author.Tests.{eqb-true, eqb-false, not-true, ltb-true, ltb-false}
+use borrow.Author.Tests.{eqb-true, eqb-false, not-true, ltb-true, ltb-false, eq-eqb}
 
 pub or-cases : (a b : Bool) → (a || b) ≡ true → (a ≡ true) ⊎ (b ≡ true)
 or-cases true b h = inl refl
@@ -48,7 +47,7 @@ pub tested : (b : Bool) → (b ≡ true) ⊎ (b ≡ false)
 tested true = inl refl
 tested false = inr refl
 
--- and not both
+-- a test is not both true and false
 pub clash : {P : Type 0} (b : Bool) → b ≡ true → b ≡ false → P
 clash b t f = absurd (false≢true (sym f ∙ t))
 
@@ -63,10 +62,6 @@ iff-eq true b f g = sym (f refl)
 iff-eq false true f g = g refl
 iff-eq false false f g = refl
 
-pub not-flips : (b : Bool) → b ≡ false → not b ≡ true
-not-flips true h = absurd (false≢true (sym h))
-not-flips false h = refl
-
 pub cond-true : {A : Type 0} (b : Bool) (x y : A) → b ≡ true → cond b x y ≡ x
 cond-true true x y h = refl
 cond-true false x y h = absurd (false≢true h)
@@ -76,13 +71,10 @@ cond-false true x y h = absurd (false≢true (sym h))
 cond-false false x y h = refl
 
 pub eqb-same : (a : ℕ) → eqb a a ≡ true
-eqb-same a = borrow.Author.Tests.eq-eqb a a refl
+eqb-same a = eq-eqb a a refl
 
 pub not-eqb : (a b : ℕ) → not (eqb a b) ≡ true → a ≢ b
 not-eqb a b h = eqb-false a b (not-true (eqb a b) h)
-
-pub ne-not-eqb : (a b : ℕ) → a ≢ b → not (eqb a b) ≡ true
-ne-not-eqb a b h = not-flips (eqb a b) (refuted (eqb a b) (λ e. h (eqb-true a b e)))
 
 -- the two case splits on numbers
 pub eq-or-ne : (a b : ℕ) → (a ≡ b) ⊎ (a ≢ b)
@@ -90,30 +82,3 @@ eq-or-ne a b = elim (tested (eqb a b)) [ inl e ↦ inl (eqb-true a b e) | inr e 
 
 pub lt-or-le : (a b : ℕ) → (a < b) ⊎ (b ≤ a)
 lt-or-le a b = elim (tested (ltb a b)) [ inl e ↦ inl (ltb-true a b e) | inr e ↦ inr (ltb-false a b e) ]
-
--- the least number that passes a test
-pub record Least (q : ℕ → Bool) : Type 0 where
-  pub value : ℕ
-  pub passes : q value ≡ true
-  pub least : (i : ℕ) → q i ≡ true → value ≤ i
-
-least-from : (q : ℕ → Bool) (d lo : ℕ) → q (lo + d) ≡ true → ((i : ℕ) → q i ≡ true → lo ≤ i) → Least q
-least-from q zero lo h low = record { value = lo + zero; passes = h; least = λ i t. omega (arith, low i t) }
-least-from q (suc d) lo h low = go (tested (q lo)) (least-from q d (suc lo))
-  where
-    shift : suc lo + d ≡ lo + suc d
-    shift = omega arith
-
-    above : q lo ≡ false → (i : ℕ) → q i ≡ true → (lo ≡ i) ⊎ (lo ≢ i) → suc lo ≤ i
-    above e i t (inl s) = clash (q i) t (ap q (sym s) ∙ e)
-    above e i t (inr s) = omega (arith, low i t)
-
-    go : (q lo ≡ true) ⊎ (q lo ≡ false) → (q (suc lo + d) ≡ true → ((i : ℕ) → q i ≡ true → suc lo ≤ i) → Least q) → Least q
-    go (inl e) f = record { value = lo; passes = e; least = low }
-    go (inr e) f = f (rw shift h) (λ i t. above e i t (eq-or-ne lo i))
-
-pub least-of : (q : ℕ → Bool) (j : ℕ) → q j ≡ true → Least q
-least-of q j h = least-from q j 0 (rw zero-plus h) (λ i t. omega arith)
-  where
-    zero-plus : 0 + j ≡ j
-    zero-plus = omega arith

@@ -2,8 +2,8 @@
 use mathlib.Core.Path.{_≡_, refl, ap}
 use mathlib.Core.Logic.{inl, inr}
 use mathlib.Core.Bool.{Bool, true}
-use mathlib.Core.List.{List, [], _∷_, map}
-use Prim.Native.Nat.{ℕ, zero, suc, _+_, _-_, _*_, _/_, _≤_, _<_}
+use mathlib.Core.List.{List, [], _∷_, map, map-append}
+use Prim.Native.Nat.{ℕ, suc, _+_, _-_, _*_, _≤_, _<_}
 use native.Mathlib.Nat.{zero-add, add-zero, suc-add, add-suc, add-assoc}
 use native.Mathlib.Omega.{arith}
 use lib.Dec.{ltb}
@@ -12,14 +12,15 @@ use borrow.Author.Tests.{lt-ltb}
 use Rattle.plan.specs.Lists.{upFrom, below, total}
 use Rattle.plan.specs.Levels.{Graph}
 use Rattle.plan.specs.Parts.{partOf, partBound}
-use Rattle.theory.specs.Regions.{count}
+use Rattle.theory.specs.Counting.{count}
 use Rattle.theory.specs.PartTree.{PartTree, Nested, borders, bordering}
 use Rattle.theory.proofs.Bools.{eq-or-ne}
-use Rattle.theory.proofs.Lists.{upFrom-add, total-append, map-append}
+use Rattle.theory.proofs.Ranges.{isIn-upFrom, upFrom-add}
+use Rattle.theory.proofs.Sums.{total-append, block, half}
 use Rattle.theory.proofs.Counting.{count-or, count-below, count-later}
-use Rattle.theory.proofs.PartOf.{part-first, part-add, endOf, end-first, end-add, same-part-end}
 use Rattle.theory.proofs.Via.{Via}
-use Rattle.theory.proofs.Ancestors.{row-borders}
+use Rattle.theory.proofs.PartOf.{part-first, part-add, endOf, end-first, end-add, same-part-end}
+use Rattle.theory.proofs.NestedRows.{row-borders}
 
 -- the bound, part after part: b gives each part's border, k is the first part's number
 abbrev bounds : (ℕ → ℕ) → ℕ → List ℕ → ℕ
@@ -35,26 +36,7 @@ bounds-total b g (s ∷ ss) k h =
     λ t l. rw (suc-add, ← add-suc k t) (h (suc t) (omega arith)) in
     omega (arith, first, bounds-total b g ss (suc k) others)
 
--- one part of m positions: its columns have at most B + (m - 1), .., B + 0 rows
-one-less : (m : ℕ) → suc m - 1 ≡ m
-one-less m = omega arith
-
-triangle : (m : ℕ) → suc m * (suc m - 1) ≡ m * (m - 1) + 2 * m
-triangle zero = refl
-triangle (suc m) = rw (one-less (suc m), one-less m) (omega arith)
-
-pub block : (B : ℕ) (f : ℕ → ℕ) (m base : ℕ) → ((t : ℕ) → t < m → f (base + t) ≤ B + (m - suc t))
-    → 2 * total (map f (upFrom base m)) ≤ 2 * (m * B) + m * (m - 1)
-block B f zero base h = omega arith
-block B f (suc m) base h =
-    let first : f base ≤ B + (suc m - 1) = rw add-zero at (h 0 (omega arith)) in
-    let others : (t : ℕ) → t < m → f (suc base + t) ≤ B + (m - suc t) =
-    λ t l. rw (suc-add, ← add-suc base t) (omega (arith, h (suc t) (omega arith))) in
-    omega (arith, first, block B f m (suc base) others, triangle m)
-
-pub half : (x y z : ℕ) → 2 * x ≤ 2 * y + z → x ≤ y + z / 2
-half x y z h = omega arith
-
+-- all columns of the parts, where column t of a part with border b has at most b rows and one for each later position of the part
 columns : (b f : ℕ → ℕ) (ss : List ℕ) (base k : ℕ)
     → ((t : ℕ) → t < total ss → f (base + t) ≤ b (k + partOf ss t) + (endOf ss t - suc t))
     → total (map f (upFrom base (total ss))) ≤ bounds b k ss
@@ -88,10 +70,10 @@ module _ (n : ℕ) (edge : Graph) (sizes parents : List ℕ) (parts : PartTree n
       let e : ℕ = endOf sizes j in
       let split : count (λ i. row i j) (upFrom (suc j) (n - suc j))
       ≤ count (borders n edge sizes parents q) (upFrom (suc j) (n - suc j)) + count (λ i. ltb i e) (upFrom (suc j) (n - suc j)) =
-      count-or (λ i. row i j) (borders n edge sizes parents q) (λ i. ltb i e) (suc j) (n - suc j)
-      (λ i ji hi t. elim (eq-or-ne (partOf sizes i) q) [
+      count-or (λ i. row i j) (borders n edge sizes parents q) (λ i. ltb i e) (upFrom (suc j) (n - suc j))
+      (λ i m t. let r = isIn-upFrom (n - suc j) (suc j) i m in elim (eq-or-ne (partOf sizes i) q) [
         | inl same ↦ inr (lt-ltb i e (same-part-end sizes i j (omega (arith, parts .whole)) same))
-        | inr other ↦ inl (row-borders n edge sizes parents parts mirror nested j i ji (omega arith) (sound i j ji (omega arith) t) other)
+        | inr other ↦ inl (row-borders n edge sizes parents parts mirror nested j i (r .0) (omega arith) (sound i j (r .0) (omega arith) t) other)
       ]) in
       omega (arith, split, count-later (borders n edge sizes parents q) n (suc j), count-below e (suc j) (n - suc j))
 

@@ -9,14 +9,14 @@ use borrow.Author.Tests.{eqb-true}
 use Rattle.plan.specs.Lists.{exists, keep, below, isIn}
 use Rattle.plan.specs.Mesh.{Mesh, adjacent}
 use Rattle.plan.specs.Parts.{partOf, atOrAbove, nodesWhere, regionOfPart, boundary, boundarySize}
-use Rattle.theory.specs.Regions.{count}
-use Rattle.theory.specs.Facts.{Order}
-use Rattle.theory.specs.Positions.{edgeAt}
+use Rattle.theory.specs.Counting.{count, Order}
+use Rattle.theory.specs.Rows.{edgeAt}
 use Rattle.theory.specs.PartTree.{borders, bordering}
 use Rattle.theory.proofs.Bools.{and-left, and-right, and-both, iff-eq, eqb-same}
-use Rattle.theory.proofs.Lists.{exists-isIn, isIn-exists, isIn-below, below-isIn, exists-map, exists-keep, map-getD}
+use Rattle.theory.proofs.Lists.{exists-isIn, isIn-exists, exists-map, exists-keep, in-keep}
+use Rattle.theory.proofs.Ranges.{isIn-below, below-isIn, map-getD}
 use Rattle.theory.proofs.Counting.{count-ext, count-map}
-use Rattle.theory.proofs.Orders.{order-full, order-distinct}
+use Rattle.theory.proofs.Orders.{order-length, order-inside, order-distinct}
 
 module _ (m : Mesh) (order : List ℕ) (once : Order (m .nodes) order) (test : ℕ → Bool) where
   abbrev node : ℕ → ℕ
@@ -28,15 +28,12 @@ module _ (m : Mesh) (order : List ℕ) (once : Order (m .nodes) order) (test : �
   exists-where p =
       exists-map p node (keep test (below (length order)))
       ∙ exists-keep (λ i. p (node i)) test (below (length order))
-      ∙ ap (λ (n : ℕ). exists (λ i. test i && p (node i)) (below n)) (order-full (m .nodes) order once)
+      ∙ ap (λ (n : ℕ). exists (λ i. test i && p (node i)) (below n)) (order-length (m .nodes) order once)
 
   -- the node at a position is among them where the position passes
   isIn-where : (i : ℕ) → i < m .nodes → isIn (node i) (nodesWhere test order) ≡ test i
   isIn-where i l = exists-where (eqb (node i)) ∙ iff-eq _ _ there back
     where
-      passes : ℕ → Bool
-      passes k = test k && eqb (node i) (node k)
-
       there : exists (λ k. test k && eqb (node i) (node k)) (below (m .nodes)) ≡ true → test i ≡ true
       there h =
           let r = exists-isIn (λ k. test k && eqb (node i) (node k)) (below (m .nodes)) h in
@@ -59,6 +56,12 @@ module _ (m : Mesh) (order sizes parents : List ℕ) (once : Order (m .nodes) or
       let inside : ℕ → Bool = λ x. atOrAbove parents (partOf sizes x) q in
       ap₂ (λ (a b : Bool). not a && b) (isIn-where m order once inside i l) (exists-where m order once inside (adjacent m (getD order i 0)))
 
+  -- the node at a position that borders is one of the nodes bordering the region
+  pub in-boundary : (i : ℕ) → i < m .nodes → borders (m .nodes) (edgeAt m order) sizes parents q i ≡ true → isIn (getD order i 0) (boundary m (regionOfPart order sizes parents q)) ≡ true
+  unfolding boundary bordersRegion
+  in-boundary i l h = in-keep bordersRegion (below (m .nodes)) (getD order i 0) (below-isIn (m .nodes) (getD order i 0) (order-inside (m .nodes) order once i l)) (borders-at i l ∙ h)
+
+  -- "Nodes bordering it", as many by nodes as by positions
   pub boundary-size : boundarySize m order sizes parents q ≡ bordering (m .nodes) (edgeAt m order) sizes parents q
   unfolding boundarySize boundary bordering bordersRegion
   boundary-size =
@@ -66,5 +69,5 @@ module _ (m : Mesh) (order sizes parents : List ℕ) (once : Order (m .nodes) or
       sym (once bordersRegion)
       ∙ ap (count bordersRegion) (sym (map-getD order))
       ∙ count-map bordersRegion (λ i. getD order i 0) (below (length order))
-      ∙ ap (λ (k : ℕ). count (λ i. bordersRegion (getD order i 0)) (below k)) (order-full n order once)
+      ∙ ap (λ (k : ℕ). count (λ i. bordersRegion (getD order i 0)) (below k)) (order-length n order once)
       ∙ count-ext (λ i. bordersRegion (getD order i 0)) (borders n (edgeAt m order) sizes parents q) (below n) (λ i h. borders-at i (isIn-below n i h))

@@ -1,7 +1,7 @@
 -- George and Liu's choice, under any sensible settings, takes a non-empty part from its region.
 use mathlib.Core.Path.{_≡_, refl, sym, ap, _∙_}
 use mathlib.Core.Logic.{inl, inr}
-use mathlib.Core.Bool.{Bool, true, not, _&&_}
+use mathlib.Core.Bool.{Bool, true, _&&_}
 use mathlib.Core.List.{List, []}
 use Prim.Native.Nat.{ℕ, _+_, _-_, suc, _<_}
 use native.Mathlib.Numerals.{add-one}
@@ -11,27 +11,28 @@ use borrow.Author.Tests.{leb-false}
 use Rattle.plan.specs.Lists.{exists, keep, isIn, without}
 use Rattle.plan.specs.Mesh.{Mesh, adjacent}
 use Rattle.plan.specs.Levels.{Graph, levels, eccentricity}
-use Rattle.plan.specs.Choice.{rootOf, staysWhole, cutLevel, separator, numbering, Settings, standard, choosePart}
-use Rattle.theory.specs.Regions.{count, Takes}
+use Rattle.plan.specs.Choice.{georgeLiu, rootOf, staysWhole, cutLevel, separator, numbering, Settings, standard, choosePart}
+use Rattle.theory.specs.Counting.{count, Alike}
+use Rattle.theory.specs.Regions.{Takes}
 use Rattle.theory.specs.Sensible.{Sensible}
-use Rattle.theory.proofs.Bools.{tested, cond-true, cond-false, iff-eq}
-use Rattle.theory.proofs.Lists.{isIn-getD, exists-isIn, isIn-exists, keep-ext, keep-keep, keep-all}
+use Rattle.theory.proofs.Bools.{tested, iff-eq, cond-true, cond-false}
+use Rattle.theory.proofs.Lists.{isIn-getD, exists-isIn, isIn-exists, keep-keep, Kept, keep-all, without-same}
 use Rattle.theory.proofs.Counting.{exists-count, same-members, same-length, count-part}
-use Rattle.theory.proofs.LevelNumbers.{Kept, level-kept, level-some, level-near}
+use Rattle.theory.proofs.LevelNumbers.{level-kept, level-some, level-near}
 
 -- a separator at a level strictly between the first and the last is kept from the region, and has a node
 module _ (edge : Graph) (region : List ℕ) (root : ℕ) where
   abbrev ls : List (List ℕ)
   ls = levels edge region root
 
-  pub separator-kept : (j : ℕ) → 0 < j → j < length ls → Kept region (separator edge ls j)
+  separator-kept : (j : ℕ) → 0 < j → j < length ls → Kept region (separator edge ls j)
   unfolding separator
   separator-kept j p h =
       let k : Kept region (getD ls j []) = level-kept edge region root j p h in
       let meets : ℕ → Bool = λ v. exists (edge v) (getD ls (j + 1) []) in
       record { test = λ v. k .test v && meets v; same = ap (keep meets) (k .same) ∙ keep-keep meets (k .test) region }
 
-  pub separator-some : (j : ℕ) → suc j < length ls → 0 < length (separator edge ls j)
+  separator-some : (j : ℕ) → suc j < length ls → 0 < length (separator edge ls j)
   unfolding separator
   separator-some j h =
       let next : List ℕ = getD ls (suc j) [] in
@@ -42,12 +43,8 @@ module _ (edge : Graph) (region : List ℕ) (root : ℕ) where
       (exists-count (λ w. exists (edge w) next) (getD ls j [])
       (isIn-exists (λ w. exists (edge w) next) (getD ls j []) (u .0) (u .1) (isIn-exists (edge (u .0)) next v hv (u .2))))
 
--- lists with the same members leave the same
-without-same : (s t l : List ℕ) → ((x : ℕ) → isIn x s ≡ isIn x t) → without s l ≡ without t l
-without-same s t l f = keep-ext (λ x. not (isIn x s)) (λ x. not (isIn x t)) l (λ x m. ap not (f x))
-
 -- a part that counts like one that is kept from a region makes up the region with what is left
-part-rest : (r s part : List ℕ) → Kept r s → ((p : ℕ → Bool) → count p part ≡ count p s) → (p : ℕ → Bool) → count p part + count p (without part r) ≡ count p r
+part-rest : (r s part : List ℕ) → Kept r s → Alike part s → (p : ℕ → Bool) → count p part + count p (without part r) ≡ count p r
 part-rest r s part k same p =
     rw (same p, without-same part s r (λ x. iff-eq _ _ (same-members part s same x) (same-members s part (λ q. sym (same q)) x)))
     (rw (k .same) (count-part p (k .test) r))
@@ -57,7 +54,7 @@ module _ (settings : Settings) (sensible : Sensible settings) (m : Mesh) where
   record Chosen (r part : List ℕ) : Type 0 where
     source : List ℕ
     kept : Kept r source
-    same : (p : ℕ → Bool) → count p part ≡ count p source
+    same : Alike part source
     some : 0 < length source
 
   chosen : (r : List ℕ) → 0 < length r → Chosen r (choosePart settings m r)
@@ -81,6 +78,7 @@ module _ (settings : Settings) (sensible : Sensible settings) (m : Mesh) where
             })
       ]
 
+  -- a choice by sensible settings takes a non-empty part from each region
   pub choose-takes : Takes (adjacent m) (choosePart settings m)
   choose-takes = record {
     some = λ r h. let c = chosen r (h .some) in omega (arith, same-length (choosePart settings m r) (c .source) (c .same), c .some);
@@ -94,3 +92,8 @@ standard-sensible = record {
   between = λ r l t. let two : 1 < l = leb-false l 1 t in omega arith;
   reorders = λ nodes p. refl;
 }
+
+-- so George and Liu's choice takes a non-empty part from each region
+pub georgeLiu-takes : (m : Mesh) → Takes (adjacent m) (georgeLiu m)
+unfolding georgeLiu
+georgeLiu-takes m = choose-takes standard standard-sensible m

@@ -1,32 +1,50 @@
--- The components of a set: they partition it, each is connected, no edge joins two of them, and they come by smallest node.
+-- The components of a set: they partition it, each is connected, no two share a node, no edge joins two where edges are mirrored, and they come by smallest node.
 use mathlib.Core.Path.{_≡_, refl, sym, ap, subst, _∙_}
-use mathlib.Core.Logic.{inl, inr}
+use mathlib.Core.Logic.{inl, inr, _≢_}
 use mathlib.Core.Bool.{Bool, true, false, not, cond, false≢true}
 use mathlib.Core.List.{List, [], _∷_, map, headD, flatten}
 use Prim.Native.Nat.{ℕ, zero, suc, _+_, _≤_, _<_}
 use native.Mathlib.Omega.{arith}
 use lib.Dec.{eqb}
-use lib.ListN.{length}
-use borrow.Author.Tests.{not-true, eq-eqb}
+use lib.ListN.{length, getD}
+use lib.Seq.{take-length}
+use borrow.Author.Tests.{not-true, eqb-true, eq-eqb}
 use Rattle.plan.specs.Lists.{keep, isIn, without, ascending}
 use Rattle.plan.specs.Levels.{Graph, levelsBack, levels, component, componentsUpTo, components}
 use Rattle.plan.specs.Enough.{ComponentsWhole}
-use Rattle.theory.specs.Regions.{All, Apart, Walk, stay, go, count, Connected, Region}
-use Rattle.theory.proofs.Bools.{or-left, cond-true}
-use Rattle.theory.proofs.Lists.{isIn-head, isIn-tail, isIn-cons, isIn-append-left, isIn-append-right, isIn-append-cases, exists-isIn, in-keep, of-keep, isIn-flatten-reverse}
+use Rattle.theory.specs.Counting.{count}
+use Rattle.theory.specs.Regions.{All, Apart, Walk, stay, go, Connected, Region}
+use Rattle.theory.proofs.Bools.{or-left, clash, cond-true, eqb-same, lt-or-le}
+use Rattle.theory.proofs.Lists.{isIn-head, isIn-tail, isIn-cons, isIn-append-right, isIn-append-cases, exists-isIn, in-keep, of-keep}
+use Rattle.theory.proofs.Flatten.{isIn-flatten-take, isIn-flatten-reverse, isIn-flatten-head}
 use Rattle.theory.proofs.Ascending.{ascending-tail, ascending-lt, ascending-cons, ascending-keep}
-use Rattle.theory.proofs.Counting.{count-append, count-le, count-part, same-members}
-use Rattle.theory.proofs.Levels.{Levelled, first, after, of-next, levelled, levels-ended, root-reached, reached-closed}
+use Rattle.theory.proofs.Counting.{count-append, count-le, same-members, count-part}
+use Rattle.theory.proofs.Levels.{Levelled, first, after, of-next, levelled, root-reached, reached-closed, levels-end}
+
+-- the first node of each list
+abbrev pub heads : List (List ℕ) → List ℕ
+heads cs = map (λ c. headD c 0) cs
+
+-- where no edge leads from one of several lists to a later one, none leads from list i to list j after it
+apart-places : (edge : Graph) (ls : List (List ℕ)) → Apart edge ls → (i j a b : ℕ) → i < j → j < length ls
+    → isIn a (getD ls i []) ≡ true → isIn b (getD ls j []) ≡ true → edge a b ≡ true → ⊥
+apart-places edge [] s i j a b lt h ha hb e = omega arith
+apart-places edge (l ∷ ls) s i zero a b lt h ha hb e = omega arith
+apart-places edge (l ∷ ls) s zero (suc j) a b lt h ha hb e =
+    s .0 a b ha (ap (λ (k : List (List ℕ)). isIn b (flatten k)) (sym (take-length ls)) ∙ isIn-flatten-take ls (length ls) j b (omega arith) hb) e
+apart-places edge (l ∷ ls) s (suc i) (suc j) a b lt h ha hb e = apart-places edge ls (s .1) i j a b (omega arith) (omega arith) ha hb e
 
 module _ (edge : Graph) where
   -- what the levels from v reach
   abbrev reached : List ℕ → ℕ → List ℕ
   reached nodes v = flatten (levelsBack (length nodes) edge nodes v)
 
+  -- what is of the set and reached is of the component
   pub in-component : (nodes : List ℕ) (v w : ℕ) → isIn w nodes ≡ true → isIn w (reached nodes v) ≡ true → isIn w (component edge nodes v) ≡ true
   unfolding component levels
   in-component nodes v w h r = in-keep (λ w. isIn w (flatten (levels edge nodes v))) nodes w h (isIn-flatten-reverse w (levelsBack (length nodes) edge nodes v) ∙ r)
 
+  -- and back
   pub of-component : (nodes : List ℕ) (v w : ℕ) → isIn w (component edge nodes v) ≡ true → (isIn w nodes ≡ true) × (isIn w (reached nodes v) ≡ true)
   unfolding component levels
   of-component nodes v w h =
@@ -37,7 +55,7 @@ module _ (edge : Graph) where
   pub component-closed : (nodes : List ℕ) (v a b : ℕ) → isIn a (component edge nodes v) ≡ true → isIn b nodes ≡ true → edge a b ≡ true → isIn b (component edge nodes v) ≡ true
   component-closed nodes v a b ha hb e =
       in-component nodes v b hb
-      (reached-closed edge nodes v (levelled edge nodes v (length nodes)) (levels-ended edge nodes v) a b (of-component nodes v a ha .1) hb e)
+      (reached-closed edge nodes v (levelled edge nodes v (length nodes)) (levels-end edge nodes v) a b (of-component nodes v a ha .1) hb e)
 
   -- the component of the first node begins with it
   pub component-head : (v : ℕ) (nodes : List ℕ) → component edge (v ∷ nodes) v ≡ v ∷ keep (λ w. isIn w (flatten (levels edge (v ∷ nodes) v))) nodes
@@ -79,17 +97,20 @@ module _ (edge : Graph) where
         component-count v nodes p,
       )
 
-  apart-up-to : (most : ℕ) (nodes : List ℕ) → length nodes ≤ most → Apart edge (componentsUpTo most edge nodes)
+  -- a relation that leaves no component inside its set leads from no component to a later one
+  apart-up-to : (r : Graph)
+      → ((nodes : List ℕ) (v a b : ℕ) → isIn a (component edge nodes v) ≡ true → isIn b nodes ≡ true → r a b ≡ true → isIn b (component edge nodes v) ≡ true)
+      → (most : ℕ) (nodes : List ℕ) → length nodes ≤ most → Apart r (componentsUpTo most edge nodes)
   unfolding componentsUpTo
-  apart-up-to zero nodes l = tt
-  apart-up-to (suc most) [] l = tt
-  apart-up-to (suc most) (v ∷ nodes) l =
+  apart-up-to r closed zero nodes l = tt
+  apart-up-to r closed (suc most) [] l = tt
+  apart-up-to r closed (suc most) (v ∷ nodes) l =
       let c : List ℕ = component edge (v ∷ nodes) v in
       let few : length (without c nodes) ≤ most = few-left v nodes most l in (
         (λ a b ha hb e.
             let k = of-keep (λ w. not (isIn w c)) nodes b (same-members (flatten (componentsUpTo most edge (without c nodes))) (without c nodes) (count-up-to most (without c nodes) few) b hb) in
-            absurd (false≢true (sym (not-true (isIn b c) (k .1)) ∙ component-closed (v ∷ nodes) v a b ha (isIn-tail b v nodes (k .0)) e))),
-        apart-up-to most (without c nodes) few,
+            clash (isIn b c) (closed (v ∷ nodes) v a b ha (isIn-tail b v nodes (k .0)) e) (not-true (isIn b c) (k .1))),
+        apart-up-to r closed most (without c nodes) few,
       )
 
   some-up-to : (most : ℕ) (nodes : List ℕ) → All (λ r. 0 < length r) (componentsUpTo most edge nodes)
@@ -98,7 +119,7 @@ module _ (edge : Graph) where
   some-up-to (suc most) [] = tt
   some-up-to (suc most) (v ∷ nodes) = (rw (component-head v nodes) (omega arith), some-up-to most (without (component edge (v ∷ nodes) v) nodes))
 
-  -- "components partition a set": flattened they hold each of its nodes, as often as the set does
+  -- components partition a set: flattened they hold each of its nodes, as often as the set does
   pub components-count : (nodes : List ℕ) (p : ℕ → Bool) → count p (flatten (components edge nodes)) ≡ count p nodes
   unfolding components
   components-count nodes p = count-up-to (length nodes) nodes (omega arith) p
@@ -125,10 +146,36 @@ module _ (edge : Graph) where
   unfolding components
   components-same most nodes l = same-up-to most (length nodes) nodes l (omega arith)
 
-  -- no edge joins two of them
+  -- no edge leads from one of them to a later one
   pub components-apart : (nodes : List ℕ) → Apart edge (components edge nodes)
   unfolding components
-  components-apart nodes = apart-up-to (length nodes) nodes (omega arith)
+  components-apart nodes = apart-up-to edge component-closed (length nodes) nodes (omega arith)
+
+  -- no node of one of them equals a node of a later one
+  components-distinct : (nodes : List ℕ) → Apart eqb (components edge nodes)
+  unfolding components
+  components-distinct nodes =
+      apart-up-to eqb (λ nodes v a b ha hb e. ap (λ (x : ℕ). isIn x (component edge nodes v)) (sym (eqb-true a b e)) ∙ ha) (length nodes) nodes (omega arith)
+
+  -- two components that share a node are one
+  pub components-disjoint : (nodes : List ℕ) (i j v : ℕ) → i < length (components edge nodes) → j < length (components edge nodes)
+      → isIn v (getD (components edge nodes) i []) ≡ true → isIn v (getD (components edge nodes) j []) ≡ true → i ≡ j
+  components-disjoint nodes i j v hi hj a b = elim (lt-or-le i j) [
+    | inl l ↦ absurd (apart-places eqb (components edge nodes) (components-distinct nodes) i j v v l hj a b (eqb-same v))
+    | inr l ↦ elim (lt-or-le j i) [
+      | inl m ↦ absurd (apart-places eqb (components edge nodes) (components-distinct nodes) j i v v m hi b a (eqb-same v))
+      | inr m ↦ omega arith
+    ]
+  ]
+
+  -- where each edge is mirrored, no edge joins two components, in either direction
+  pub components-unjoined : ((a b : ℕ) → edge a b ≡ true → edge b a ≡ true) → (nodes : List ℕ) (i j a b : ℕ)
+      → i < length (components edge nodes) → j < length (components edge nodes) → i ≢ j
+      → isIn a (getD (components edge nodes) i []) ≡ true → isIn b (getD (components edge nodes) j []) ≡ true → edge a b ≡ true → ⊥
+  components-unjoined mirror nodes i j a b hi hj ne ha hb e = elim (lt-or-le i j) [
+    | inl l ↦ apart-places edge (components edge nodes) (components-apart nodes) i j a b l hj ha hb e
+    | inr l ↦ apart-places edge (components edge nodes) (components-apart nodes) j i b a (omega arith) hi hb ha (mirror a b e)
+  ]
 
   -- each has a node
   pub components-some : (nodes : List ℕ) → All (λ r. 0 < length r) (components edge nodes)
@@ -137,12 +184,7 @@ module _ (edge : Graph) where
 
   -- ---- connected
 
-  last-held : (ls : List (List ℕ)) (x : ℕ) → isIn x (headD ls []) ≡ true → isIn x (flatten ls) ≡ true
-  unfolding flatten headD
-  last-held [] x t = absurd (false≢true t)
-  last-held (l ∷ ls) x t = isIn-append-left x l (flatten ls) t
-
-  -- a node that the levels hold is reached from the root by a way through nodes of the set that they hold
+  -- a node that the levels hold is reached from the root by a path through nodes of the set that they hold
   reached-walk : (nodes : List ℕ) (v : ℕ) (c : List ℕ) {ls : List (List ℕ)} → Levelled edge nodes v ls
       → ((w : ℕ) → isIn w nodes ≡ true → isIn w (flatten ls) ≡ true → isIn w c ≡ true) → (w : ℕ) → isIn w (flatten ls) ≡ true → Walk edge c v w
   unfolding flatten
@@ -156,14 +198,19 @@ module _ (edge : Graph) where
         | inl s ↦
             let n = of-next edge nodes ls w (subst (λ (x : List ℕ). isIn w x ≡ true) e s) in
             let u = exists-isIn (λ u. edge u w) (headD ls []) (n .near) in
-            go (earlier (u .0) (last-held ls (u .0) (u .1))) (u .2) (f w (n .inside) m)
+            go (earlier (u .0) (isIn-flatten-head ls (u .0) (u .1))) (u .2) (f w (n .inside) m)
         | inr s ↦ earlier w s
       ]
 
-  -- a component is connected: from the node that it is the component of, a way inside it leads to each of its nodes
+  -- a component is connected: from the node that it is the component of, a path inside it leads to each of its nodes
   pub component-walk : (nodes : List ℕ) (v w : ℕ) → isIn w (component edge nodes v) ≡ true → Walk edge (component edge nodes v) v w
   component-walk nodes v w h =
       reached-walk nodes v (component edge nodes v) (levelled edge nodes v (length nodes)) (λ x i t. in-component nodes v x i t) w (of-component nodes v w h .1)
+
+  -- and it holds every node that a way inside the set leads to from that node
+  pub walk-component : (nodes : List ℕ) (v w : ℕ) → isIn v nodes ≡ true → Walk edge nodes v w → isIn w (component edge nodes v) ≡ true
+  walk-component nodes v w h stay = in-component nodes v v h (root-reached edge nodes v (levelled edge nodes v (length nodes)))
+  walk-component nodes v w h (go {b = b} p e i) = component-closed nodes v b w (walk-component nodes v b h p) i e
 
   connected-first : (v : ℕ) (nodes : List ℕ) → Connected edge (component edge (v ∷ nodes) v)
   unfolding headD
@@ -177,6 +224,7 @@ module _ (edge : Graph) where
   connected-up-to (suc most) [] = tt
   connected-up-to (suc most) (v ∷ nodes) = (connected-first v nodes, connected-up-to most (without (component edge (v ∷ nodes) v) nodes))
 
+  -- each component is connected: from its first node a path inside it leads to each of its nodes
   pub components-connected : (nodes : List ℕ) → All (Connected edge) (components edge nodes)
   unfolding components
   components-connected nodes = connected-up-to (length nodes) nodes
@@ -193,13 +241,10 @@ module _ (edge : Graph) where
         ascending-up-to most (without c nodes) (ascending-keep (λ w. not (isIn w c)) nodes (ascending-tail v nodes h)),
       )
 
+  -- each component of an ascending set ascends
   pub components-ascending : (nodes : List ℕ) → ascending nodes ≡ true → All (λ c. ascending c ≡ true) (components edge nodes)
   unfolding components
   components-ascending nodes h = ascending-up-to (length nodes) nodes h
-
-  -- the first node of each
-  abbrev pub heads : List (List ℕ) → List ℕ
-  heads cs = map (λ c. headD c 0) cs
 
   heads-inside : (most : ℕ) (nodes : List ℕ) (x : ℕ) → isIn x (heads (componentsUpTo most edge nodes)) ≡ true → isIn x nodes ≡ true
   unfolding componentsUpTo headD
@@ -223,15 +268,17 @@ module _ (edge : Graph) where
       (heads-up-to most (without c nodes) (ascending-keep (λ w. not (isIn w c)) nodes (ascending-tail v nodes h)))
       (λ y t. omega (arith, e, ascending-lt v nodes h y (of-keep (λ w. not (isIn w c)) nodes y (heads-inside most (without c nodes) y t) .0)))
 
+  -- "numbered by smallest node": the first nodes of the components of an ascending set, which are their smallest, ascend
   pub components-by-smallest : (nodes : List ℕ) → ascending nodes ≡ true → ascending (heads (components edge nodes)) ≡ true
   unfolding components
   components-by-smallest nodes h = heads-up-to (length nodes) nodes h
 
-  -- so the components of an ascending set are regions
+  -- lists that have a node, ascend and are connected are regions
   regions-up-to : (cs : List (List ℕ)) → All (λ c. 0 < length c) cs → All (λ c. ascending c ≡ true) cs → All (Connected edge) cs → All (Region edge) cs
   regions-up-to [] s a c = tt
   regions-up-to (l ∷ ls) s a c = (record { some = s .0; ascends = a .0; connected = c .0 }, regions-up-to ls (s .1) (a .1) (c .1))
 
+  -- so the components of an ascending set are regions
   pub components-regions : (nodes : List ℕ) → ascending nodes ≡ true → All (Region edge) (components edge nodes)
   components-regions nodes h = regions-up-to (components edge nodes) (components-some nodes) (components-ascending nodes h) (components-connected nodes)
 

@@ -8,7 +8,7 @@ use lib.ListN.{length, getD, length-append}
 use lib.Seq.{take-at, drop-at}
 use borrow.Author.Tests.{le-ltb}
 use Rattle.plan.specs.Lists.{listAt, total, runningSums, falls}
-use Rattle.theory.proofs.Lists.{flatten-nil, flatten-cons}
+use Rattle.theory.proofs.Flatten.{flatten-nil, flatten-cons}
 
 -- ---- running sums; `more` is whatever stands behind them
 
@@ -57,6 +57,7 @@ list-from (l ∷ ls) a front more rest e (suc j) h =
     let next : suc j + 1 ≡ suc (j + 1) = omega arith in
     rw (next, same) (list-from ls (a + length l) (front ++ l) more rest (omega (arith, length-append front l)) j (omega arith))
 
+-- list j of lists that stand one after the other, found by the running sums of their lengths
 pub list-of-starts : (ls : List (List ℕ)) (more rest : List ℕ) (j : ℕ) → j < length ls
     → listAt (runningSums 0 (map length ls) ++ more) (flatten ls ++ rest) j ≡ getD ls j []
 list-of-starts ls more rest j h = list-from ls 0 [] more rest refl j h

@@ -1,35 +1,29 @@
 -- How many elements of a list pass a test. That every test counts alike in two lists says that they hold the same numbers, equally often.
 use mathlib.Core.Path.{_≡_, refl, sym, ap, _∙_}
 use mathlib.Core.Logic.{_⊎_, inl, inr}
-use mathlib.Core.Bool.{Bool, true, false, not, cond, false≢true}
-use mathlib.Core.List.{List, [], _∷_, _++_, map}
-use Prim.Native.Nat.{ℕ, zero, suc, _+_, _-_, _≤_, _<_}
+use mathlib.Core.Bool.{Bool, true, false, not, cond, false≢true, _&&_}
+use mathlib.Core.List.{reverseAux, reverse, List, [], _∷_, _++_, map, map-append, flatten}
+use Prim.Native.Nat.{ℕ, zero, suc, _+_, _-_, _≤_, _<_, _*_}
 use native.Mathlib.Nat.{zero-add}
 use native.Mathlib.Omega.{arith}
 use lib.Dec.{eqb, ltb}
 use lib.ListN.{length, getD}
-use borrow.Author.Tests.{eq-eqb, ne-eqb, le-ltb}
-use Rattle.plan.specs.Lists.{exists, keep, upFrom, below, isIn, without}
-use Rattle.theory.specs.Regions.{count}
-use Rattle.theory.proofs.Bools.{or-cases, or-left, or-right, tested, clash, eq-or-ne, lt-or-le}
-use Rattle.theory.proofs.Lists.{isIn-cons, isIn-getD, isIn-upFrom, none-exists, keep-ext, upFrom-add, without-keep}
+use borrow.Author.Tests.{eq-eqb, ne-eqb, le-ltb, eqb-true, ltb-true, lt-ltb}
+use Rattle.plan.specs.Lists.{total, occurrences, exists, keep, upFrom, below, isIn, without}
+use Rattle.theory.specs.Counting.{count, Alike}
+use Rattle.theory.proofs.Bools.{or-cases, or-left, or-right, and-left, and-right, and-both, tested, clash, refuted, iff-eq, eq-or-ne, lt-or-le}
+use Rattle.theory.proofs.Lists.{isIn-head, isIn-tail, isIn-cons, isIn-getD, none-exists, keep-ext, without-keep}
+use Rattle.theory.proofs.Ranges.{isIn-upFrom, upFrom-add, upFrom-snoc}
+use Rattle.theory.proofs.Sums.{total-append}
 
 -- 1 for a passed test
 abbrev pub unit : Bool → ℕ
 unit true = 1
 unit false = 0
 
-pub unit-le : (b : Bool) → unit b ≤ 1
+unit-le : (b : Bool) → unit b ≤ 1
 unit-le true = omega arith
 unit-le false = omega arith
-
-pub unit-true : (b : Bool) → b ≡ true → unit b ≡ 1
-unit-true true t = refl
-unit-true false t = absurd (false≢true t)
-
-pub unit-false : (b : Bool) → b ≡ false → unit b ≡ 0
-unit-false true t = absurd (false≢true (sym t))
-unit-false false t = refl
 
 pub count-cons : (p : ℕ → Bool) (x : ℕ) (xs : List ℕ) → count p (x ∷ xs) ≡ unit (p x) + count p xs
 count-cons p x xs = go (p x)
@@ -54,7 +48,7 @@ count-le p (x ∷ l) = omega (arith, count-cons p x l, unit-le (p x), count-le p
 pub exists-count : (p : ℕ → Bool) (l : List ℕ) → exists p l ≡ true → 0 < count p l
 exists-count p [] h = absurd (false≢true h)
 exists-count p (x ∷ l) h = elim (or-cases (p x) (exists p l) h) [
-  | inl t ↦ omega (arith, count-cons p x l, unit-true (p x) t)
+  | inl t ↦ omega (arith, count-cons p x l, ap unit t)
   | inr t ↦ omega (arith, count-cons p x l, exists-count p l t)
 ]
 
@@ -62,7 +56,7 @@ pub count-exists : (p : ℕ → Bool) (l : List ℕ) → 0 < count p l → exist
 count-exists p [] h = absurd (omega arith)
 count-exists p (x ∷ l) h = elim (tested (p x)) [
   | inl t ↦ or-left (p x) (exists p l) t
-  | inr t ↦ or-right (p x) (exists p l) (count-exists p l (omega (arith, count-cons p x l, unit-false (p x) t)))
+  | inr t ↦ or-right (p x) (exists p l) (count-exists p l (omega (arith, count-cons p x l, ap unit t)))
 ]
 
 -- where nothing passes the count is 0
@@ -77,15 +71,15 @@ pub count-ext : (p q : ℕ → Bool) (l : List ℕ) → ((x : ℕ) → isIn x l 
 count-ext p q l f = ap length (keep-ext p q l f)
 
 -- lists in which every test counts alike have the same members
-pub same-members : (xs ys : List ℕ) → ((p : ℕ → Bool) → count p xs ≡ count p ys) → (x : ℕ) → isIn x xs ≡ true → isIn x ys ≡ true
+pub same-members : (xs ys : List ℕ) → Alike xs ys → (x : ℕ) → isIn x xs ≡ true → isIn x ys ≡ true
 same-members xs ys f x h = count-exists (eqb x) ys (omega (arith, f (eqb x), exists-count (eqb x) xs h))
 
 -- and the same length
-pub same-length : (xs ys : List ℕ) → ((p : ℕ → Bool) → count p xs ≡ count p ys) → length xs ≡ length ys
+pub same-length : (xs ys : List ℕ) → Alike xs ys → length xs ≡ length ys
 same-length xs ys f = omega (arith, f (λ x. true), count-all xs, count-all ys)
 
 -- those that pass a test and those that do not make up the list
-pub count-split : (p q : ℕ → Bool) (l : List ℕ) → count p (keep q l) + count p (keep (λ v. not (q v)) l) ≡ count p l
+count-split : (p q : ℕ → Bool) (l : List ℕ) → count p (keep q l) + count p (keep (λ v. not (q v)) l) ≡ count p l
 count-split p q [] = refl
 count-split p q (y ∷ l) = go (q y) (count-split p q l)
   where
@@ -98,15 +92,16 @@ count-split p q (y ∷ l) = go (q y) (count-split p q l)
 pub count-part : (p q : ℕ → Bool) (l : List ℕ) → count p (keep q l) + count p (without (keep q l) l) ≡ count p l
 count-part p q l = rw (without-keep q l) (count-split p q l)
 
--- fewer pass a stricter test
 unit-mono : (a b : Bool) → (a ≡ true → b ≡ true) → unit a ≤ unit b
-unit-mono true b f = omega (arith, unit-true b (f refl))
+unit-mono true b f = omega (arith, ap unit (f refl))
 unit-mono false b f = omega arith
 
+-- no more pass a stricter test
 pub count-mono : (p q : ℕ → Bool) (l : List ℕ) → ((x : ℕ) → p x ≡ true → q x ≡ true) → count p l ≤ count q l
 count-mono p q [] h = omega arith
 count-mono p q (y ∷ l) h = omega (arith, count-cons p y l, count-cons q y l, unit-mono (p y) (q y) (h y), count-mono p q l h)
 
+-- and fewer where some element passes the other only
 pub count-less : (p q : ℕ → Bool) (x : ℕ) (l : List ℕ) → ((y : ℕ) → p y ≡ true → q y ≡ true) → isIn x l ≡ true → q x ≡ true → p x ≡ false → count p l < count q l
 count-less p q x [] h m a b = absurd (false≢true m)
 count-less p q x (y ∷ l) h m a b = elim (isIn-cons x y l m) [
@@ -114,16 +109,16 @@ count-less p q x (y ∷ l) h m a b = elim (isIn-cons x y l m) [
     arith,
     count-cons p y l,
     count-cons q y l,
-    unit-true (q y) (ap q (sym z) ∙ a),
-    unit-false (p y) (ap p (sym z) ∙ b),
+    ap unit (ap q (sym z) ∙ a),
+    ap unit (ap p (sym z) ∙ b),
     count-mono p q l h,
   )
   | inr e ↦ omega (arith, count-cons p y l, count-cons q y l, unit-mono (p y) (q y) (h y), count-less p q x l h e a b)
 ]
 
 -- a test that all elements pass, by its count
-pub count-full : (p : ℕ → Bool) (l : List ℕ) → count p l ≡ length l → (x : ℕ) → isIn x l ≡ true → p x ≡ true
-count-full p l e x h = elim (tested (p x)) [
+pub count-every : (p : ℕ → Bool) (l : List ℕ) → count p l ≡ length l → (x : ℕ) → isIn x l ≡ true → p x ≡ true
+count-every p l e x h = elim (tested (p x)) [
   | inl t ↦ t
   | inr t ↦ absurd (omega (arith, e, count-all l, count-less p (λ y. true) x l (λ y u. refl) h refl t))
 ]
@@ -145,10 +140,10 @@ count-once (suc k) a x l m = elim (eq-or-ne x a) [
   | inl e ↦ omega (
     arith,
     count-cons (eqb x) a (upFrom (suc a) k),
-    unit-true (eqb x a) (eq-eqb x a e),
+    ap unit (eq-eqb x a e),
     count-none (eqb x) (upFrom (suc a) k) (λ y h. ne-eqb x y (λ s. omega (arith, isIn-upFrom k (suc a) y h))),
   )
-  | inr e ↦ omega (arith, count-cons (eqb x) a (upFrom (suc a) k), unit-false (eqb x a) (ne-eqb x a e), count-once k (suc a) x (omega arith) (omega arith))
+  | inr e ↦ omega (arith, count-cons (eqb x) a (upFrom (suc a) k), ap unit (ne-eqb x a e), count-once k (suc a) x (omega arith) (omega arith))
 ]
 
 -- a number at two places is counted twice
@@ -159,27 +154,26 @@ count-twice (y ∷ ys) zero (suc b) d l h e =
     omega (
       arith,
       count-cons (eqb (getD ys b d)) y ys,
-      unit-true (eqb (getD ys b d) y) (eq-eqb (getD ys b d) y (sym e)),
+      ap unit (eq-eqb (getD ys b d) y (sym e)),
       exists-count (eqb (getD ys b d)) ys (isIn-getD ys b d (omega arith)),
     )
 count-twice (y ∷ ys) (suc a) (suc b) d l h e = omega (arith, count-cons (eqb (getD ys b d)) y ys, count-twice ys a b d (omega arith) (omega arith) e)
 
--- a test that implies one of two others
 unit-or : (a b c : Bool) → (a ≡ true → (b ≡ true) ⊎ (c ≡ true)) → unit a ≤ unit b + unit c
-unit-or true b c h = elim (h refl) [ inl t ↦ omega (arith, unit-true b t) | inr t ↦ omega (arith, unit-true c t) ]
+unit-or true b c h = elim (h refl) [ inl t ↦ omega (arith, ap unit t) | inr t ↦ omega (arith, ap unit t) ]
 unit-or false b c h = omega arith
 
-pub count-or : (p q r : ℕ → Bool) (a k : ℕ) → ((i : ℕ) → a ≤ i → i < a + k → p i ≡ true → (q i ≡ true) ⊎ (r i ≡ true))
-    → count p (upFrom a k) ≤ count q (upFrom a k) + count r (upFrom a k)
-count-or p q r a zero h = omega arith
-count-or p q r a (suc k) h =
+-- a test that implies one of two others on a list
+pub count-or : (p q r : ℕ → Bool) (l : List ℕ) → ((x : ℕ) → isIn x l ≡ true → p x ≡ true → (q x ≡ true) ⊎ (r x ≡ true)) → count p l ≤ count q l + count r l
+count-or p q r [] h = omega arith
+count-or p q r (y ∷ l) h =
     omega (
       arith,
-      count-cons p a (upFrom (suc a) k),
-      count-cons q a (upFrom (suc a) k),
-      count-cons r a (upFrom (suc a) k),
-      unit-or (p a) (q a) (r a) (h a (omega arith) (omega arith)),
-      count-or p q r (suc a) k (λ i l m. h i (omega arith) (omega arith)),
+      count-cons p y l,
+      count-cons q y l,
+      count-cons r y l,
+      unit-or (p y) (q y) (r y) (h y (isIn-head y l)),
+      count-or p q r l (λ x m. h x (isIn-tail x y l m)),
     )
 
 -- at most e - a numbers from a on lie below e
@@ -187,7 +181,7 @@ pub count-below : (e a k : ℕ) → count (λ i. ltb i e) (upFrom a k) ≤ e - a
 count-below e a zero = omega arith
 count-below e a (suc k) = elim (lt-or-le a e) [
   | inl l ↦ omega (arith, count-cons (λ i. ltb i e) a (upFrom (suc a) k), unit-le (ltb a e), count-below e (suc a) k)
-  | inr l ↦ omega (arith, count-cons (λ i. ltb i e) a (upFrom (suc a) k), unit-false (ltb a e) (le-ltb a e l), count-below e (suc a) k)
+  | inr l ↦ omega (arith, count-cons (λ i. ltb i e) a (upFrom (suc a) k), ap unit (le-ltb a e l), count-below e (suc a) k)
 ]
 
 -- the numbers from a on that pass are some of those below n that do
@@ -215,4 +209,67 @@ count-after p n j h none =
       count-append p (below (suc j)) (upFrom (0 + suc j) (n - suc j)),
       ap (λ (b : ℕ). count p (upFrom b (n - suc j))) (zero-add (suc j)),
       count-none p (below (suc j)) (λ i m. none i (omega (arith, isIn-upFrom (suc j) 0 i m))),
+    )
+
+-- ---- counted in several lists
+
+-- a test counts in lists the other way round, with others behind, what it counts in these and in those
+count-flatten-reverseAux : (p : ℕ → Bool) (ls acc : List (List ℕ)) → count p (flatten (reverseAux ls acc)) ≡ count p (flatten ls) + count p (flatten acc)
+unfolding flatten
+count-flatten-reverseAux p [] acc = omega arith
+count-flatten-reverseAux p (l ∷ ls) acc =
+    omega (arith, count-flatten-reverseAux p ls (l ∷ acc), count-append p l (flatten acc), count-append p l (flatten ls))
+
+-- the order of the lists does not matter to what is counted in them
+pub count-flatten-reverse : (p : ℕ → Bool) (ls : List (List ℕ)) → count p (flatten (reverse ls)) ≡ count p (flatten ls)
+unfolding flatten
+count-flatten-reverse p ls = omega (arith, count-flatten-reverseAux p ls [])
+
+-- ---- counted value by value
+
+-- below n + 1 are those below n, and n
+split : (p : ℕ → Bool) (n x : ℕ) → unit (p x && ltb x (suc n)) ≡ unit (p x && ltb x n) + unit (p x && eqb n x)
+split p n x = go (p x)
+  where
+    go : (b : Bool) → unit (b && ltb x (suc n)) ≡ unit (b && ltb x n) + unit (b && eqb n x)
+    go false = refl
+    go true = elim (lt-or-le x n) [
+      | inl l ↦ rw (lt-ltb x (suc n) (omega arith), lt-ltb x n l, ne-eqb n x (λ e. omega arith))
+      | inr l ↦ elim (eq-or-ne n x) [
+        | inl e ↦ rw (lt-ltb x (suc n) (omega arith), le-ltb x n l, eq-eqb n x e)
+        | inr e ↦ rw (le-ltb x (suc n) (omega arith), le-ltb x n l, ne-eqb n x e)
+      ]
+    ]
+
+-- those equal to v that pass a test: all of them, or none
+count-value : (p : ℕ → Bool) (v : ℕ) (l : List ℕ) → count (λ x. p x && eqb v x) l ≡ unit (p v) * occurrences v l
+count-value p v l = elim (tested (p v)) [
+  | inl t ↦ rw (ap unit t)
+      (omega (
+        arith,
+        count-ext (λ x. p x && eqb v x) (eqb v) l
+            (λ x h. iff-eq (p x && eqb v x) (eqb v x) (and-right (p x) (eqb v x)) (λ e. and-both (p x) (eqb v x) (ap p (sym (eqb-true v x e)) ∙ t) e)),
+      ))
+  | inr t ↦ rw (ap unit t)
+      (omega (
+        arith,
+        count-none (λ x. p x && eqb v x) l
+            (λ x h. refuted (p x && eqb v x) (λ e. clash (p v) (ap p (eqb-true v x (and-right (p x) (eqb v x) e)) ∙ and-left (p x) (eqb v x) e) t)),
+      ))
+]
+
+-- those below n that pass a test, counted value by value
+pub count-values : (p : ℕ → Bool) (n : ℕ) (l : List ℕ) → count (λ x. p x && ltb x n) l ≡ total (map (λ v. unit (p v) * occurrences v l) (below n))
+count-values p zero l = count-none (λ x. p x && ltb x 0) l (λ x h. refuted (p x && ltb x 0) (λ t. omega (arith, ltb-true x 0 (and-right (p x) (ltb x 0) t))))
+count-values p (suc n) l =
+    let f : ℕ → ℕ = λ v. unit (p v) * occurrences v l in
+    omega (
+      arith,
+      count-sum (λ x. p x && ltb x (suc n)) (λ x. p x && ltb x n) (λ x. p x && eqb n x) l (split p n),
+      count-values p n l,
+      count-value p n l,
+      ap (λ (r : List ℕ). total (map f r)) (upFrom-snoc 0 n),
+      ap total (map-append f (below n) ((0 + n) ∷ [])),
+      total-append (map f (below n)) (f (0 + n) ∷ []),
+      ap f (zero-add n),
     )

@@ -1,4 +1,4 @@
--- The elimination tree of a mesh's columns: what the row-by-row and the column-by-column algorithms rest on.
+-- The elimination tree of a mesh's columns, the parent of a column being its first row: what counting row by row and writing column by column rest on.
 use mathlib.Core.Path.{_≡_, refl, sym, ap, subst, _∙_}
 use mathlib.Core.Logic.{_⊎_, inl, inr, _≢_, _↔_}
 use mathlib.Core.Bool.{Bool, true, false, false≢true}
@@ -8,34 +8,40 @@ use native.Mathlib.Omega.{arith}
 use lib.ListN.{getD}
 use Rattle.plan.specs.Lists.{isIn, every, ascending}
 use Rattle.plan.specs.Mesh.{Mesh}
-use Rattle.theory.specs.Facts.{Symmetric}
 use Rattle.plan.specs.Elimination.{column}
-use Rattle.theory.specs.Positions.{edgeAt, isRow, firstRow}
+use Rattle.theory.specs.Checked.{Symmetric}
+use Rattle.theory.specs.Rows.{edgeAt, isRow, firstRow}
 use Rattle.theory.proofs.Bools.{iff-eq, eq-or-ne}
 use Rattle.theory.proofs.Lists.{isIn-head, isIn-tail, isIn-every}
 use Rattle.theory.proofs.Ascending.{ascending-lt}
-use Rattle.theory.proofs.Tree.{Slot, Parent, Climbed, Shared, Child, start as start′, up as up′, slot-clique, slot-parent, slot-source, slot-neighbour, slot-climbed, slot-child, child-slot}
+use Rattle.theory.proofs.JoinedTree.{Slot, Parent, start, up, Climbed, Shared, Child, slot-clique, slot-source, slot-neighbour, slot-climbed, slot-child, child-slot}
 use Rattle.theory.proofs.Columns.{row-fact, row-test, column-ascending, first-fact, first-unique}
 
--- j is met on the way up the parents from a neighbour k < i of i, while below i
+-- column j is met on the way up the parents from an earlier neighbour of i, while below i
 pub data Climb (m : Mesh) (order : List ℕ) (i : ℕ) : ℕ → Type 0 where
-  start : {k : ℕ} → k < i → edgeAt m order i k ≡ true → Climb m order i k
-  up : {k : ℕ} → Climb m order i k → firstRow m order k < i → Climb m order i (firstRow m order k)
+  neighbour : {k : ℕ} → k < i → edgeAt m order i k ≡ true → Climb m order i k
+  onward : {k : ℕ} → Climb m order i k → firstRow m order k < i → Climb m order i (firstRow m order k)
 
--- p is j, or met on the way up the parents from j: an ancestor of column j in the elimination tree
+-- p is column j or an ancestor of it: met on the way up the parents from j
 pub data Above (m : Mesh) (order : List ℕ) (j : ℕ) : ℕ → Type 0 where
   self : Above m order j j
-  parent : {p : ℕ} → Above m order j p → Above m order j (firstRow m order p)
+  parent : {p : ℕ} → Above m order j p → firstRow m order p < m .nodes → Above m order j (firstRow m order p)
 
 module _ (m : Mesh) (order : List ℕ) where
+  -- a row is later than its column, and a position
   pub row-range : (i j : ℕ) → isRow m order i j ≡ true → (j < i) × (i < m .nodes)
   row-range i j h = let t = row-fact m order i j h in (t .1 .later, t .0)
 
-  -- (a) a row of column k past the parent p is a row of column p
+  -- an earlier neighbour of i has row i
+  pub row-neighbour : Symmetric m → (i k : ℕ) → k < i → i < m .nodes → edgeAt m order i k ≡ true → isRow m order i k ≡ true
+  unfolding edgeAt
+  row-neighbour s i k lt li e = row-test m order i k li (slot-neighbour (edgeAt m order) i k lt (s .mirror (getD order i 0) (getD order k 0) e))
+
+  -- (a) a row of column k past its parent is a row of the parent's column
   pub row-of-first : (i k : ℕ) → isRow m order i k ≡ true → firstRow m order k < i → isRow m order i (firstRow m order k) ≡ true
   row-of-first i k h lt =
       let t = row-fact m order i k h in
-      row-test m order i (firstRow m order k) (t .0) (slot-parent (edgeAt m order) k (firstRow m order k) i (first-fact m order i k h) (t .1) lt)
+      row-test m order i (firstRow m order k) (t .0) (slot-clique (edgeAt m order) k (firstRow m order k) i (first-fact m order i k h .row) (t .1) lt)
 
   -- (b) a row of column j is a neighbour, or shares with j an earlier column
   pub row-origin : (i j : ℕ) → isRow m order i j ≡ true
@@ -56,15 +62,15 @@ module _ (m : Mesh) (order : List ℕ) where
   row-climb s i j li = (λ h. there (slot-climbed (edgeAt m order) i j (row-fact m order i j h .1)), back)
     where
       there : {x : ℕ} → Climbed (edgeAt m order) i x → Climb m order i x
-      there (start′ {k = k} lt e) = start lt (s .mirror (getD order k 0) (getD order i 0) e)
-      there (up′ {k = k} {p = p} c q lt) = subst (λ x. Climb m order i x) is (up (there c) (omega (arith, is)))
+      there (start {k = k} lt e) = neighbour lt (s .mirror (getD order k 0) (getD order i 0) e)
+      there (up {k = k} {p = p} c q lt) = subst (λ x. Climb m order i x) is (onward (there c) (omega (arith, is)))
         where
           is : firstRow m order k ≡ p
           is = first-unique m order p k (omega arith) q
 
       back : {x : ℕ} → Climb m order i x → isRow m order i x ≡ true
-      back (start {k = k} lt e) = row-test m order i k li (slot-neighbour (edgeAt m order) i k lt (s .mirror (getD order i 0) (getD order k 0) e))
-      back (up {k = k} c lt) = row-of-first i k (back c) lt
+      back (neighbour {k = k} lt e) = row-neighbour s i k lt li e
+      back (onward {k = k} c lt) = row-of-first i k (back c) lt
 
   -- for an algorithm that marks the columns of row i: a set of such columns that has i's earlier neighbours, and with a column its parent while below i, is all of them
   pub row-closure : Symmetric m → (i : ℕ) → i < m .nodes → (marked : ℕ → Bool)
@@ -75,18 +81,20 @@ module _ (m : Mesh) (order : List ℕ) where
   row-closure s i li marked first close sound j = iff-eq (marked j) (isRow m order i j) (sound j) (λ h. reach (row-climb s i j li .0 h))
     where
       reach : {x : ℕ} → Climb m order i x → marked x ≡ true
-      reach (start {k = k} lt e) = first k lt e
-      reach (up {k = k} c lt) = close k (reach c) lt
+      reach (neighbour {k = k} lt e) = first k lt e
+      reach (onward {k = k} c lt) = close k (reach c) lt
 
-  -- and it finds the parent on the way: row i is the first of column k where no smaller row is in it
+  -- the parent is at most each row
   pub first-le : (i k : ℕ) → isRow m order i k ≡ true → firstRow m order k ≤ i
   first-le i k h = first-fact m order i k h .least i (row-fact m order i k h .1)
 
+  -- and is a row itself
   pub first-row : (i k : ℕ) → isRow m order i k ≡ true → isRow m order (firstRow m order k) k ≡ true
   first-row i k h =
       let t = row-fact m order i k h in
       row-test m order (firstRow m order k) k (omega (arith, t .0, first-le i k h)) (first-fact m order i k h .row)
 
+  -- row i is the parent where no earlier row is in the column: so the first row that marks a column is its parent
   pub first-here : (i k : ℕ) → isRow m order i k ≡ true → ((x : ℕ) → x < i → isRow m order x k ≡ false) → firstRow m order k ≡ i
   first-here i k h none = go (eq-or-ne (firstRow m order k) i)
     where
@@ -94,7 +102,7 @@ module _ (m : Mesh) (order : List ℕ) where
       go (inl e) = e
       go (inr ne) = absurd (false≢true (sym (none (firstRow m order k) (omega (arith, first-le i k h))) ∙ first-row i k h))
 
-  -- (d) column j's rows are its later neighbours and its children's rows but j
+  -- (d) column j's rows are its later neighbours and its children's rows, without j
   pub row-children : (i j : ℕ) → i < m .nodes
       → (isRow m order i j ≡ true) ↔ (((j < i) × (edgeAt m order j i ≡ true)) ⊎ ((c : ℕ) × (firstRow m order c ≡ j) × (isRow m order i c ≡ true) × (i ≢ j)))
   unfolding edgeAt
@@ -119,34 +127,37 @@ module _ (m : Mesh) (order : List ℕ) where
       go [] e lt = absurd (omega arith)
       go (p ∷ rest) e lt = row-fact m order p k (ap (isIn p) e ∙ isIn-head p rest) .1 .later
 
-  -- (e) a row of column j later than an ancestor p of j is a row of column p, so p's parent is at most that row
+  -- a row of column j later than an ancestor p of j is a row of column p
   pub row-of-above : (i j : ℕ) → isRow m order i j ≡ true → {p : ℕ} → Above m order j p → p < i → isRow m order i p ≡ true
   row-of-above i j h self lt = h
-  row-of-above i j h (parent {p = p} a) lt =
-      let later : p < firstRow m order p = first-later p (omega (arith, row-range i j h)) in
+  row-of-above i j h (parent {p = p} a known) lt =
+      let later : p < firstRow m order p = first-later p known in
       row-of-first i p (row-of-above i j h a (omega arith)) lt
 
+  -- so the parent of an ancestor passes over no row of the column
   pub parent-at-most : (i j : ℕ) → isRow m order i j ≡ true → {p : ℕ} → Above m order j p → p < i → firstRow m order p ≤ i
   parent-at-most i j h {p} a lt = first-le i p (row-of-above i j h a lt)
 
-  -- all rows of a column are its ancestors: the way up from p meets row i
+  -- the way up from p meets row i
   meets : (steps i j : ℕ) → isRow m order i j ≡ true → (p : ℕ) → Above m order j p → p < i → i ≤ p + steps → Above m order j i
   meets zero i j h p a lt enough = absurd (omega arith)
   meets (suc steps) i j h p a lt enough =
       let le : firstRow m order p ≤ i = parent-at-most i j h a lt in
-      let later : p < firstRow m order p = first-later p (omega (arith, row-range i j h)) in
+      let known : firstRow m order p < m .nodes = omega (arith, row-range i j h) in
+      let later : p < firstRow m order p = first-later p known in
       elim (eq-or-ne (firstRow m order p) i) [
-        | inl e ↦ subst (λ (x : ℕ). Above m order j x) e (parent a)
-        | inr e ↦ meets steps i j h (firstRow m order p) (parent a) (omega arith) (omega arith)
+        | inl e ↦ subst (λ (x : ℕ). Above m order j x) e (parent a known)
+        | inr e ↦ meets steps i j h (firstRow m order p) (parent a known) (omega arith) (omega arith)
       ]
 
+  -- (e) all rows of a column are its ancestors
   pub row-is-ancestor : (i j : ℕ) → isRow m order i j ≡ true → Above m order j i
   row-is-ancestor i j h = meets i i j h j self (row-range i j h .0) (omega arith)
 
   -- (e) check 19: a column's rows after its first are all in the first row's column
-  pub rows-joins-first : (j p : ℕ) (rest : List ℕ) → column m order j ≡ p ∷ rest → every (λ i. isIn i (column m order p)) rest ≡ true
+  pub rows-in-first-column : (j p : ℕ) (rest : List ℕ) → column m order j ≡ p ∷ rest → every (λ i. isIn i (column m order p)) rest ≡ true
   unfolding isRow
-  rows-joins-first j p rest e = isIn-every (λ i. isIn i (column m order p)) rest there
+  rows-in-first-column j p rest e = isIn-every (λ i. isIn i (column m order p)) rest there
     where
       rises : ascending (p ∷ rest) ≡ true
       rises = subst (λ l. ascending l ≡ true) e (column-ascending m order j)

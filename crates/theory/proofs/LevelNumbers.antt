@@ -10,13 +10,9 @@ use borrow.Author.Tests.{not-true}
 use Rattle.plan.specs.Lists.{exists, keep, isIn}
 use Rattle.plan.specs.Levels.{Graph, nextLevel, levelsBack, levels}
 use Rattle.theory.proofs.Bools.{and-left, and-right}
-use Rattle.theory.proofs.Lists.{of-keep, keep-ext, take-reverse, getD-reverse, isIn-flatten-reverse}
+use Rattle.theory.proofs.Lists.{of-keep, keep-ext, Kept, take-reverse, getD-reverse}
+use Rattle.theory.proofs.Flatten.{isIn-flatten-reverse}
 use Rattle.theory.proofs.Levels.{Levelled, first, after, levelled}
-
--- a list kept from another by some test
-pub record Kept (region l : List ℕ) : Type 0 where
-  pub test : ℕ → Bool
-  pub same : l ≡ keep test region
 
 module _ (edge : Graph) (region : List ℕ) (root : ℕ) where
   -- ---- the last one first: number i of them is level ℓ - i

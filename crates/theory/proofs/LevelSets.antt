@@ -1,4 +1,4 @@
--- Levels as sets: no two of them share a node, and together they hold the component of the root.
+-- Levels as sets: no two of them share a node, and from a root in the region they hold together just the root's component.
 use mathlib.Core.Path.{_≡_, sym, _∙_}
 use mathlib.Core.Logic.{inl, inr}
 use mathlib.Core.Bool.{true}
@@ -9,7 +9,8 @@ use lib.ListN.{length, getD, take}
 use Rattle.plan.specs.Lists.{isIn}
 use Rattle.plan.specs.Levels.{Graph, levelsBack, levels, component}
 use Rattle.theory.proofs.Bools.{clash, iff-eq, lt-or-le}
-use Rattle.theory.proofs.Lists.{in-keep, of-keep, isIn-flatten-take, isIn-flatten-reverse}
+use Rattle.theory.proofs.Lists.{in-keep, of-keep}
+use Rattle.theory.proofs.Flatten.{isIn-flatten-take, isIn-flatten-reverse}
 use Rattle.theory.proofs.Levels.{levelled, reached-inside}
 use Rattle.theory.proofs.LevelNumbers.{level-fresh}
 
@@ -29,7 +30,7 @@ module _ (edge : Graph) (region : List ℕ) (root : ℕ) where
     | inr l ↦ elim (lt-or-le j i) [ inl m ↦ absurd (level-once j i v m hi b a) | inr m ↦ omega arith ]
   ]
 
-  -- the levels from a root of the region hold its component, and nothing else
+  -- where the root is in the region, a node is in some level exactly where it is in the root's component in the region
   pub levels-cover : isIn root region ≡ true → (v : ℕ) → isIn v (flatten (levels edge region root)) ≡ isIn v (component edge region root)
   unfolding component levels
   levels-cover r v = iff-eq _ _

@@ -5,14 +5,14 @@ use mathlib.Core.Bool.{Bool, true, false, not, _&&_, false≢true}
 use mathlib.Core.List.{List, [], _∷_, _++_, headD, flatten}
 use Prim.Native.Nat.{ℕ, zero, suc, _+_, _-_, _≤_, _<_}
 use native.Mathlib.Omega.{arith}
-use lib.ListN.{length}
+use lib.ListN.{length, getD}
 use borrow.Author.Tests.{not-true}
 use Rattle.plan.specs.Lists.{exists, isIn}
 use Rattle.plan.specs.Levels.{Graph, nextLevel, addLevel, levelsBack}
 use Rattle.plan.specs.Enough.{LevelsEnd}
-use Rattle.theory.specs.Regions.{count}
-use Rattle.theory.proofs.Bools.{and-left, and-right, and-both, tested, clash, not-flips}
-use Rattle.theory.proofs.Lists.{isIn-head, isIn-cons, isIn-append-left, isIn-append-right, isIn-append-cases, isIn-exists, in-keep, of-keep}
+use Rattle.theory.specs.Counting.{count}
+use Rattle.theory.proofs.Bools.{and-left, and-right, and-both, tested, clash, refuted}
+use Rattle.theory.proofs.Lists.{isIn-head, isIn-cons, isIn-append-left, isIn-append-right, isIn-append-cases, isIn-getD, isIn-none, isIn-exists, in-keep, of-keep}
 use Rattle.theory.proofs.Counting.{count-le, count-less}
 
 -- Levels, the last one first: the root, and behind it one next level after the other, each with a node.
@@ -38,16 +38,16 @@ module _ (edge : Graph) (region : List ℕ) where
         fresh = not-true (isIn v (flatten ls)) (and-right (exists (λ u. edge u v) (headD ls [])) _ (k .1));
       }
 
-  pub in-next : (ls : List (List ℕ)) (v : ℕ) → Next ls v → isIn v (nextLevel edge region ls) ≡ true
+  in-next : (ls : List (List ℕ)) (v : ℕ) → Next ls v → isIn v (nextLevel edge region ls) ≡ true
   unfolding nextLevel
   in-next ls v n =
       in-keep (λ v. exists (λ u. edge u v) (headD ls []) && not (isIn v (flatten ls))) region v (n .inside)
-      (and-both (exists (λ u. edge u v) (headD ls [])) _ (n .near) (not-flips (isIn v (flatten ls)) (n .fresh)))
+      (and-both (exists (λ u. edge u v) (headD ls [])) _ (n .near) (ap not (n .fresh)))
 
   -- ---- the levels end
 
   -- the nodes of the region that no level has yet
-  abbrev pub unseen : List (List ℕ) → ℕ
+  abbrev unseen : List (List ℕ) → ℕ
   unseen ls = count (λ v. not (isIn v (flatten ls))) region
 
   -- each level leaves fewer
@@ -57,11 +57,8 @@ module _ (edge : Graph) (region : List ℕ) where
       let l : List ℕ = nextLevel edge region ls in
       let n : Next ls v = of-next ls v h in
       count-less (λ w. not (isIn w (l ++ flatten ls))) (λ w. not (isIn w (flatten ls))) v region
-      (λ w t. not-flips (isIn w (flatten ls)) (elim (tested (isIn w (flatten ls))) [
-        | inl s ↦ clash (isIn w (l ++ flatten ls)) (isIn-append-right w l (flatten ls) s) (not-true _ t)
-        | inr s ↦ s
-      ]))
-      (n .inside) (not-flips _ (n .fresh)) (ap not (isIn-append-left v l (flatten ls) h))
+      (λ w t. ap not (refuted (isIn w (flatten ls)) (λ h. clash (isIn w (l ++ flatten ls)) (isIn-append-right w l (flatten ls) h) (not-true _ t))))
+      (n .inside) (ap not (n .fresh)) (ap not (isIn-append-left v l (flatten ls) h))
 
   module _ (root : ℕ) where
     add-levelled : (ls : List (List ℕ)) (l : List ℕ) → l ≡ nextLevel edge region ls → Levelled edge region root ls → Levelled edge region root (addLevel l ls)
@@ -74,16 +71,12 @@ module _ (edge : Graph) (region : List ℕ) where
     levelled zero = first
     levelled (suc k) = let ls : List (List ℕ) = levelsBack k edge region root in add-levelled ls (nextLevel edge region ls) refl (levelled k)
 
-    some-node : (l : List ℕ) → 0 < length l → (v : ℕ) × (isIn v l ≡ true)
-    some-node [] h = absurd (omega arith)
-    some-node (v ∷ vs) h = (v, isIn-head v vs)
-
-    -- as many levels as there are, there are no more nodes left than the region has beyond them
+    -- the levels, and the nodes of the region in none of them, number at most the region's nodes and one
     pub levels-room : {ls : List (List ℕ)} → Levelled edge region root ls → length ls + unseen ls ≤ length region + 1
     levels-room first = omega (arith, count-le (λ v. not (isIn v (flatten ((root ∷ []) ∷ [])))) region)
     levels-room (after {l = l} {ls = ls} h e some) =
-        let v : (v : ℕ) × (isIn v l ≡ true) = some-node l some in
-        let less : unseen (l ∷ ls) < unseen ls = subst (λ (x : List ℕ). unseen (x ∷ ls) < unseen ls) (sym e) (unseen-less ls (v .0) (subst (λ (x : List ℕ). isIn (v .0) x ≡ true) e (v .1))) in
+        let v : ℕ = getD l 0 0 in
+        let less : unseen (l ∷ ls) < unseen ls = subst (λ (x : List ℕ). unseen (x ∷ ls) < unseen ls) (sym e) (unseen-less ls v (subst (λ (x : List ℕ). isIn v x ≡ true) e (isIn-getD l 0 0 some))) in
         omega (arith, less, levels-room h)
 
     -- either there is no next level, or every turn has added one
@@ -101,21 +94,17 @@ module _ (edge : Graph) (region : List ℕ) where
         go ls (v ∷ vs) e (inr h) = inr (omega arith)
 
     -- no node is left for a level after the last: `length region` turns are enough
-    pub levels-ended : nextLevel edge region (levelsBack (length region) edge region root) ≡ []
+    levels-ended : nextLevel edge region (levelsBack (length region) edge region root) ≡ []
     levels-ended = elim (grows (length region)) [
       | inl e ↦ e
-      | inr e ↦ none (nextLevel edge region ls) (λ v h. omega (arith, e, unseen-less ls v h, levels-room (levelled (length region))))
+      | inr e ↦ isIn-none (nextLevel edge region ls) (λ v h. omega (arith, e, unseen-less ls v h, levels-room (levelled (length region))))
     ]
       where
         ls : List (List ℕ)
         ls = levelsBack (length region) edge region root
 
-        none : (l : List ℕ) → ((v : ℕ) → isIn v l ≡ true → ⊥) → l ≡ []
-        none [] f = refl
-        none (v ∷ vs) f = absurd (f v (isIn-head v vs))
-
     -- more turns change nothing once there is no next level
-    pub levels-stay : (k d : ℕ) → nextLevel edge region (levelsBack k edge region root) ≡ [] → levelsBack (d + k) edge region root ≡ levelsBack k edge region root
+    levels-stay : (k d : ℕ) → nextLevel edge region (levelsBack k edge region root) ≡ [] → levelsBack (d + k) edge region root ≡ levelsBack k edge region root
     unfolding levelsBack addLevel
     levels-stay k zero e = let none : 0 + k ≡ k = omega arith in rw none
     levels-stay k (suc d) e =
@@ -138,7 +127,7 @@ module _ (edge : Graph) (region : List ℕ) where
     root-reached first = isIn-head root []
     root-reached (after {l = l} {ls = ls} h e some) = isIn-append-right root l (flatten ls) (root-reached h)
 
-    -- every other node of them is of the region
+    -- where the root is of the region, so is every node of them
     pub reached-inside : {ls : List (List ℕ)} → Levelled edge region root ls → isIn root region ≡ true → (v : ℕ) → isIn v (flatten ls) ≡ true → isIn v region ≡ true
     unfolding flatten
     reached-inside first r v m = elim (isIn-cons v root [] (elim (isIn-append-cases v (root ∷ []) [] m) [ inl s ↦ s | inr s ↦ absurd (false≢true s) ])) [
@@ -151,7 +140,7 @@ module _ (edge : Graph) (region : List ℕ) where
     ]
 
     -- an edge out of the levels so far starts at the last one
-    pub edges-out : {ls : List (List ℕ)} → Levelled edge region root ls → (a b : ℕ) → isIn a (flatten ls) ≡ true → isIn b region ≡ true → edge a b ≡ true
+    edges-out : {ls : List (List ℕ)} → Levelled edge region root ls → (a b : ℕ) → isIn a (flatten ls) ≡ true → isIn b region ≡ true → edge a b ≡ true
         → (isIn b (flatten ls) ≡ true) ⊎ (isIn a (headD ls []) ≡ true)
     unfolding flatten headD
     edges-out first a b ha hb e = inr (elim (isIn-append-cases a (root ∷ []) [] ha) [ inl s ↦ s | inr s ↦ absurd (false≢true s) ])
@@ -181,4 +170,4 @@ module _ (edge : Graph) (region : List ℕ) where
 
 -- no level comes after the last
 pub levels-end : LevelsEnd
-levels-end edge region root = levels-ended edge region root
+levels-end = levels-ended

@@ -1,17 +1,16 @@
--- Laws of the book's lists: membership, tests over lists, ranges, places, lists the other way round.
-use mathlib.Core.Path.{_≡_, refl, sym, ap, ap₂, _∙_}
+-- Laws of the book's lists: membership, tests over lists, what passes a test, places; and lists the other way round.
+use mathlib.Core.Path.{_≡_, refl, sym, ap, _∙_}
 use mathlib.Core.Logic.{_⊎_, inl, inr}
-use mathlib.Core.Bool.{Bool, true, false, not, _&&_, _||_, cond, false≢true, or-assoc, or-comm, or-false}
-use mathlib.Core.List.{List, [], _∷_, _++_, map, reverse, reverseAux, flatten, append-assoc, reverse-cons, reverse-append}
-use Prim.Native.Nat.{ℕ, zero, suc, _+_, _-_, _≤_, _<_}
-use native.Mathlib.Nat.{zero-add, add-zero, suc-add, add-suc}
+use mathlib.Core.Bool.{Bool, true, false, not, _&&_, _||_, cond, false≢true}
+use mathlib.Core.List.{List, [], _∷_, _++_, map, reverse, reverse-cons, reverse-append}
+use Prim.Native.Nat.{ℕ, zero, suc, _-_, _≤_, _<_}
 use native.Mathlib.Omega.{arith}
 use lib.Dec.{eqb}
 use lib.ListN.{length, getD, take, drop, take-append-drop, length-drop, length-reverse}
-use lib.Seq.{ext-getD, drop-cons, getD-take, take-at, getD-at}
+use lib.Seq.{drop-cons, getD-take, take-at, getD-at}
 use borrow.Author.Tests.{eqb-true, eq-eqb}
-use Rattle.plan.specs.Lists.{exists, every, keep, upFrom, below, isIn, without, indexOf, total}
-use Rattle.theory.proofs.Bools.{or-cases, or-left, or-right, and-left, and-right, and-both, iff-eq, clash, refuted, eqb-same, eq-or-ne}
+use Rattle.plan.specs.Lists.{written, exists, every, keep, isIn, without, indexOf}
+use Rattle.theory.proofs.Bools.{or-cases, or-left, or-right, and-left, and-right, and-both, clash, refuted, iff-eq, eqb-same}
 
 -- ---- membership
 
@@ -64,6 +63,11 @@ pub isIn-drop : (x k : ℕ) (l : List ℕ) → isIn x (drop k l) ≡ true → is
 isIn-drop x zero l h = h
 isIn-drop x (suc k) [] h = absurd (false≢true h)
 isIn-drop x (suc k) (y ∷ l) h = isIn-tail x y l (isIn-drop x k l h)
+
+-- a list without members is empty
+pub isIn-none : (l : List ℕ) → ((x : ℕ) → isIn x l ≡ true → ⊥) → l ≡ []
+isIn-none [] f = refl
+isIn-none (x ∷ l) f = absurd (f x (isIn-head x l))
 
 -- ---- every element, some element
 
@@ -154,6 +158,11 @@ keep-keep p q (y ∷ l) = go (q y) (keep-keep p q l)
     go true e = rw e
     go false e = e
 
+-- a list kept from another by some test
+pub record Kept (region l : List ℕ) : Type 0 where
+  pub test : ℕ → Bool
+  pub same : l ≡ keep test region
+
 pub keep-all : (l : List ℕ) → keep (λ v. true) l ≡ l
 keep-all [] = refl
 keep-all (x ∷ l) = ap (λ (k : List ℕ). x ∷ k) (keep-all l)
@@ -163,88 +172,9 @@ pub without-keep : (q : ℕ → Bool) (l : List ℕ) → without (keep q l) l �
 without-keep q l = keep-ext (λ v. not (isIn v (keep q l))) (λ v. not (q v)) l
     (λ x m. ap not (iff-eq (isIn x (keep q l)) (q x) (λ t. of-keep q l x t .1) (λ t. in-keep q l x m t)))
 
--- ---- ranges
-
-pub isIn-upFrom : (k a x : ℕ) → isIn x (upFrom a k) ≡ true → (a ≤ x) × (x < a + k)
-isIn-upFrom zero a x h = absurd (false≢true h)
-isIn-upFrom (suc k) a x h = elim (isIn-cons x a (upFrom (suc a) k) h) [
-  | inl e ↦ omega arith
-  | inr t ↦ omega (arith, isIn-upFrom k (suc a) x t)
-]
-
-pub upFrom-isIn : (k a x : ℕ) → a ≤ x → x < a + k → isIn x (upFrom a k) ≡ true
-upFrom-isIn zero a x le lt = absurd (omega arith)
-upFrom-isIn (suc k) a x le lt = elim (eq-or-ne x a) [
-  | inl s ↦ or-left (eqb x a) _ (eq-eqb x a s)
-  | inr s ↦ isIn-tail x a (upFrom (suc a) k) (upFrom-isIn k (suc a) x (omega arith) (omega arith))
-]
-
-pub isIn-below : (n x : ℕ) → isIn x (below n) ≡ true → x < n
-isIn-below n x h = let p = isIn-upFrom n 0 x h in omega arith
-
-pub below-isIn : (n x : ℕ) → x < n → isIn x (below n) ≡ true
-below-isIn n x lt = upFrom-isIn n 0 x (omega arith) (omega arith)
-
-pub length-upFrom : (k a : ℕ) → length (upFrom a k) ≡ k
-length-upFrom zero a = refl
-length-upFrom (suc k) a = ap suc (length-upFrom k (suc a))
-
-pub getD-upFrom : (k a i d : ℕ) → i < k → getD (upFrom a k) i d ≡ a + i
-getD-upFrom zero a i d lt = absurd (omega arith)
-getD-upFrom (suc k) a zero d lt = omega arith
-getD-upFrom (suc k) a (suc i) d lt = omega (arith, getD-upFrom k (suc a) i d (omega arith))
-
-pub upFrom-add : (a k m : ℕ) → upFrom a (k + m) ≡ upFrom a k ++ upFrom (a + k) m
-upFrom-add a zero m = simp (zero-add, add-zero)
-upFrom-add a (suc k) m = rw (suc-add, add-suc) (ap (λ (l : List ℕ). a ∷ l) (upFrom-add (suc a) k m ∙ simp suc-add))
-
--- one more at the end
-pub upFrom-snoc : (a k : ℕ) → upFrom a (suc k) ≡ upFrom a k ++ ((a + k) ∷ [])
-upFrom-snoc a zero = rw add-zero
-upFrom-snoc a (suc k) = ap (λ (l : List ℕ). a ∷ l) (upFrom-snoc (suc a) k ∙ simp (suc-add, add-suc))
-
-module _ {A : Type 0} where
-  pub getD-map-upFrom : (h : ℕ → A) (d : A) (k a i : ℕ) → i < k → getD (map h (upFrom a k)) i d ≡ h (a + i)
-  getD-map-upFrom h d zero a i lt = absurd (omega arith)
-  getD-map-upFrom h d (suc k) a zero lt = ap h (omega arith)
-  getD-map-upFrom h d (suc k) a (suc i) lt = getD-map-upFrom h d k (suc a) i (omega arith) ∙ ap h (omega arith)
-
-  pub getD-map-below : (h : ℕ → A) (d : A) (n i : ℕ) → i < n → getD (map h (below n)) i d ≡ h i
-  getD-map-below h d n i lt = getD-map-upFrom h d n 0 i lt ∙ ap h (omega arith)
-
-  pub length-map-upFrom : (h : ℕ → A) (k a : ℕ) → length (map h (upFrom a k)) ≡ k
-  length-map-upFrom h zero a = refl
-  length-map-upFrom h (suc k) a = ap suc (length-map-upFrom h k (suc a))
-
-  pub map-ext-upFrom : (f g : ℕ → A) (k a : ℕ) → ((i : ℕ) → a ≤ i → i < a + k → f i ≡ g i) → map f (upFrom a k) ≡ map g (upFrom a k)
-  map-ext-upFrom f g zero a h = refl
-  map-ext-upFrom f g (suc k) a h = ap₂ (λ (x : A) (l : List A). x ∷ l) (h a (omega arith) (omega arith)) (map-ext-upFrom f g k (suc a) (λ i l m. h i (omega arith) (omega arith)))
-
-  pub map-append : {B : Type 0} (f : A → B) (xs ys : List A) → map f (xs ++ ys) ≡ map f xs ++ map f ys
-  map-append f [] ys = refl
-  map-append {B} f (x ∷ xs) ys = ap (λ (l : List B). f x ∷ l) (map-append f xs ys)
-
-  pub flatten-append : (xs ys : List (List A)) → flatten (xs ++ ys) ≡ flatten xs ++ flatten ys
-  unfolding flatten
-  flatten-append [] ys = refl
-  flatten-append (x ∷ xs) ys = rw (flatten-append xs ys) (sym (append-assoc x (flatten xs) (flatten ys)))
-
-  pub flatten-nil : _≡_ {A = List A} (flatten []) []
-  unfolding flatten
-  flatten-nil = refl
-
-  pub flatten-cons : (x : List A) (xs : List (List A)) → flatten (x ∷ xs) ≡ x ++ flatten xs
-  unfolding flatten
-  flatten-cons x xs = refl
-
--- a list is its elements place by place
-pub map-getD : (l : List ℕ) → map (λ i. getD l i 0) (below (length l)) ≡ l
-map-getD l = ext-getD 0 (map (λ i. getD l i 0) (below (length l))) l (length-map-upFrom (λ i. getD l i 0) (length l) 0)
-    (λ i h. getD-map-below (λ i. getD l i 0) 0 (length l) i (omega (arith, length-map-upFrom (λ i. getD l i 0) (length l) 0)))
-
-pub total-append : (xs ys : List ℕ) → total (xs ++ ys) ≡ total xs + total ys
-total-append [] ys = omega arith
-total-append (x ∷ xs) ys = omega (arith, total-append xs ys)
+-- lists with the same members leave the same
+pub without-same : (s t l : List ℕ) → ((x : ℕ) → isIn x s ≡ isIn x t) → without s l ≡ without t l
+without-same s t l f = keep-ext (λ x. not (isIn x s)) (λ x. not (isIn x t)) l (λ x m. ap not (f x))
 
 -- ---- the place of an element
 
@@ -277,17 +207,13 @@ indexOf-lt (y ∷ ys) x h = go (eqb x y) refl h (indexOf-lt ys x)
     go true e m ih = omega arith
     go false e m ih = omega (arith, ih m)
 
--- ---- one of several lists
+-- ---- a buffer
 
--- an element of one of the first k lists is in them together
-pub isIn-flatten-take : (ls : List (List ℕ)) (k i x : ℕ) → i < k → isIn x (getD ls i []) ≡ true → isIn x (flatten (take k ls)) ≡ true
-unfolding flatten
-isIn-flatten-take [] k i x lt m = absurd (false≢true m)
-isIn-flatten-take (l ∷ ls) zero i x lt m = absurd (omega arith)
-isIn-flatten-take (l ∷ ls) (suc k) zero x lt m = isIn-append-left x l (flatten (take k ls)) m
-isIn-flatten-take (l ∷ ls) (suc k) (suc i) x lt m = isIn-append-right x l (flatten (take k ls)) (isIn-flatten-take ls k i x (omega arith) m)
+-- the front of a buffer once entries are written there
+pub front-written : (k : ℕ) (entries found left : List ℕ) → left ≡ written entries found → length entries ≡ k → take k left ≡ entries
+front-written k entries found left e h = rw e (take-at entries (drop (length entries) found) k h)
 
--- ---- a place within a list, a list the other way round
+-- ---- any list: a place in it, and the list the other way round
 
 module _ {A : Type 0} where
   -- what stands at a place does not depend on the default
@@ -314,19 +240,3 @@ module _ {A : Type 0} where
       sym (getD-take (suc i) (reverse l) i d (omega arith))
       ∙ ap (λ (r : List A). getD r i d) (take-reverse (suc i) l h ∙ ap reverse (drop-cons l m d (omega arith)) ∙ reverse-cons (getD l m d) behind)
       ∙ getD-at (reverse behind) (getD l m d) [] d i (length-reverse behind ∙ few)
-
--- ---- membership in lists of lists
-
-isIn-flatten-reverseAux : (x : ℕ) (ls acc : List (List ℕ)) → isIn x (flatten (reverseAux ls acc)) ≡ (isIn x (flatten ls) || isIn x (flatten acc))
-unfolding flatten
-isIn-flatten-reverseAux x [] acc = refl
-isIn-flatten-reverseAux x (l ∷ ls) acc =
-    isIn-flatten-reverseAux x ls (l ∷ acc)
-    ∙ ap (λ (t : Bool). isIn x (flatten ls) || t) (isIn-append x l (flatten acc))
-    ∙ sym (or-assoc (isIn x (flatten ls)) (isIn x l) (isIn x (flatten acc)))
-    ∙ ap (λ (t : Bool). t || isIn x (flatten acc)) (or-comm (isIn x (flatten ls)) (isIn x l) ∙ sym (isIn-append x l (flatten ls)))
-
--- the order of the lists does not matter to what they hold
-pub isIn-flatten-reverse : (x : ℕ) (ls : List (List ℕ)) → isIn x (flatten (reverse ls)) ≡ isIn x (flatten ls)
-unfolding flatten
-isIn-flatten-reverse x ls = isIn-flatten-reverseAux x ls [] ∙ or-false (isIn x (flatten ls))

@@ -1,28 +1,29 @@
 -- An order that holds each node once: its length, its nodes, the book's test of it, and its inverse.
-use mathlib.Core.Path.{_≡_, refl, sym, ap, _∙_}
+use mathlib.Core.Path.{_≡_, sym, ap, _∙_}
 use mathlib.Core.Logic.{inl, inr}
-use mathlib.Core.Bool.{Bool, true, false, _&&_}
-use mathlib.Core.List.{List, [], _∷_, map}
-use Prim.Native.Nat.{ℕ, zero, suc, _+_, _*_, _<_}
-use native.Mathlib.Nat.{zero-add}
+use mathlib.Core.Bool.{Bool, true, _&&_}
+use mathlib.Core.List.{List}
+use Prim.Native.Nat.{ℕ, _*_, _<_}
 use native.Mathlib.Omega.{arith}
 use lib.Dec.{eqb, ltb}
 use lib.ListN.{length, getD}
-use borrow.Author.Tests.{eqb-true, eq-eqb, ne-eqb, ltb-true, lt-ltb, le-ltb}
+use borrow.Author.Tests.{eqb-true, eq-eqb, lt-ltb}
 use Rattle.plan.specs.Lists.{below, isIn, occurrences, eachOnce, indexOf, total}
 use Rattle.plan.specs.Dissection.{positions}
-use Rattle.theory.specs.Regions.{count}
-use Rattle.theory.specs.Facts.{Order}
-use Rattle.theory.proofs.Bools.{and-left, and-right, and-both, iff-eq, tested, refuted, eq-or-ne, lt-or-le, clash}
-use Rattle.theory.proofs.Lists.{isIn-getD, every-isIn, isIn-every, isIn-below, below-isIn, length-upFrom, upFrom-snoc, map-append, map-ext-upFrom, getD-map-below, total-append, getD-indexOf, indexOf-lt}
-use Rattle.theory.proofs.Counting.{unit, unit-true, unit-false, count-none, count-ext, count-all, count-full, count-sum, count-once, count-twice, same-members, same-length}
+use Rattle.theory.specs.Counting.{count, Order}
+use Rattle.theory.proofs.Bools.{and-left, and-right, and-both, iff-eq, lt-or-le}
+use Rattle.theory.proofs.Lists.{isIn-getD, every-isIn, isIn-every, getD-indexOf, indexOf-lt}
+use Rattle.theory.proofs.Ranges.{isIn-below, below-isIn, length-upFrom, getD-map-below, map-ext-upFrom}
+use Rattle.theory.proofs.Counting.{unit, count-all, count-ext, same-members, same-length, count-every, count-once, count-twice, count-values}
 
 module _ (n : ℕ) (order : List ℕ) (once : Order n order) where
-  pub order-full : length order ≡ n
-  order-full = same-length order (below n) once ∙ length-upFrom n 0
+  -- it has n positions
+  pub order-length : length order ≡ n
+  order-length = same-length order (below n) once ∙ length-upFrom n 0
 
+  -- each holds a node
   pub order-inside : (i : ℕ) → i < n → getD order i 0 < n
-  order-inside i l = isIn-below n (getD order i 0) (same-members order (below n) once (getD order i 0) (isIn-getD order i 0 (omega (arith, order-full))))
+  order-inside i l = isIn-below n (getD order i 0) (same-members order (below n) once (getD order i 0) (isIn-getD order i 0 (omega (arith, order-length))))
 
   order-holds : (v : ℕ) → v < n → isIn v order ≡ true
   order-holds v l = same-members (below n) order (λ p. sym (once p)) v (below-isIn n v l)
@@ -33,9 +34,9 @@ module _ (n : ℕ) (order : List ℕ) (once : Order n order) where
   -- no node stands at two positions
   pub order-distinct : (a b : ℕ) → a < n → b < n → getD order a 0 ≡ getD order b 0 → a ≡ b
   order-distinct a b la lb e = elim (lt-or-le a b) [
-    | inl l ↦ absurd (omega (arith, count-twice order a b 0 l (omega (arith, order-full)) e, occurs-once (getD order b 0) (order-inside b lb)))
+    | inl l ↦ absurd (omega (arith, count-twice order a b 0 l (omega (arith, order-length)) e, occurs-once (getD order b 0) (order-inside b lb)))
     | inr l ↦ elim (lt-or-le b a) [
-      | inl m ↦ absurd (omega (arith, count-twice order b a 0 m (omega (arith, order-full)) (sym e), occurs-once (getD order a 0) (order-inside a la)))
+      | inl m ↦ absurd (omega (arith, count-twice order b a 0 m (omega (arith, order-length)) (sym e), occurs-once (getD order a 0) (order-inside a la)))
       | inr m ↦ omega arith
     ]
   ]
@@ -44,24 +45,27 @@ module _ (n : ℕ) (order : List ℕ) (once : Order n order) where
   pub order-passes : eachOnce n order ≡ true
   unfolding eachOnce
   order-passes =
-      and-both (eqb (length order) n) _ (eq-eqb (length order) n order-full)
+      and-both (eqb (length order) n) _ (eq-eqb (length order) n order-length)
       (isIn-every (λ v. eqb (occurrences v order) 1) (below n) (λ v h. eq-eqb (occurrences v order) 1 (occurs-once v (isIn-below n v h))))
 
   -- ---- "places": the positions invert the order
 
-  place : (v : ℕ) → v < n → indexOf v order < n
-  place v l = omega (arith, indexOf-lt order v (order-holds v l), order-full)
+  index-inside : (v : ℕ) → v < n → indexOf v order < n
+  index-inside v l = omega (arith, indexOf-lt order v (order-holds v l), order-length)
 
   position-at : (v : ℕ) → v < n → getD (positions n order) v 0 ≡ indexOf v order
   unfolding positions
   position-at v l = getD-map-below (λ v. indexOf v order) 0 n v l
 
+  -- the position of a node
   pub position-inside : (v : ℕ) → v < n → getD (positions n order) v 0 < n
-  position-inside v l = omega (arith, position-at v l, place v l)
+  position-inside v l = omega (arith, position-at v l, index-inside v l)
 
+  -- the node at a node's position is the node
   pub order-of-position : (v : ℕ) → v < n → getD order (getD (positions n order) v 0) 0 ≡ v
   order-of-position v l = rw (position-at v l) (getD-indexOf order v 0 (indexOf-lt order v (order-holds v l)))
 
+  -- and the position of the node at a position is the position
   pub position-of-order : (i : ℕ) → i < n → getD (positions n order) (getD order i 0) 0 ≡ i
   position-of-order i l =
       let v : ℕ = getD order i 0 in
@@ -69,53 +73,6 @@ module _ (n : ℕ) (order : List ℕ) (once : Order n order) where
       order-distinct (getD (positions n order) v 0) i (position-inside v lv) l (order-of-position v lv)
 
 -- ---- and an order that passes the test holds each node once
-
--- below n + 1 are those below n, and n
-split : (p : ℕ → Bool) (n x : ℕ) → unit (p x && ltb x (suc n)) ≡ unit (p x && ltb x n) + unit (p x && eqb n x)
-split p n x = go (p x)
-  where
-    go : (b : Bool) → unit (b && ltb x (suc n)) ≡ unit (b && ltb x n) + unit (b && eqb n x)
-    go false = refl
-    go true = elim (lt-or-le x n) [
-      | inl l ↦ rw (lt-ltb x (suc n) (omega arith), lt-ltb x n l, ne-eqb n x (λ e. omega arith))
-      | inr l ↦ elim (eq-or-ne n x) [
-        | inl e ↦ rw (lt-ltb x (suc n) (omega arith), le-ltb x n l, eq-eqb n x e)
-        | inr e ↦ rw (le-ltb x (suc n) (omega arith), le-ltb x n l, ne-eqb n x e)
-      ]
-    ]
-
--- those equal to v that pass a test: all of them, or none
-count-value : (p : ℕ → Bool) (v : ℕ) (l : List ℕ) → count (λ x. p x && eqb v x) l ≡ unit (p v) * occurrences v l
-count-value p v l = elim (tested (p v)) [
-  | inl t ↦ rw (unit-true (p v) t)
-      (omega (
-        arith,
-        count-ext (λ x. p x && eqb v x) (eqb v) l
-            (λ x h. iff-eq (p x && eqb v x) (eqb v x) (and-right (p x) (eqb v x)) (λ e. and-both (p x) (eqb v x) (ap p (sym (eqb-true v x e)) ∙ t) e)),
-      ))
-  | inr t ↦ rw (unit-false (p v) t)
-      (omega (
-        arith,
-        count-none (λ x. p x && eqb v x) l
-            (λ x h. refuted (p x && eqb v x) (λ e. clash (p v) (ap p (eqb-true v x (and-right (p x) (eqb v x) e)) ∙ and-left (p x) (eqb v x) e) t)),
-      ))
-]
-
--- those below n that pass a test, counted value by value
-count-values : (p : ℕ → Bool) (n : ℕ) (l : List ℕ) → count (λ x. p x && ltb x n) l ≡ total (map (λ v. unit (p v) * occurrences v l) (below n))
-count-values p zero l = count-none (λ x. p x && ltb x 0) l (λ x h. refuted (p x && ltb x 0) (λ t. omega (arith, ltb-true x 0 (and-right (p x) (ltb x 0) t))))
-count-values p (suc n) l =
-    let f : ℕ → ℕ = λ v. unit (p v) * occurrences v l in
-    omega (
-      arith,
-      count-sum (λ x. p x && ltb x (suc n)) (λ x. p x && ltb x n) (λ x. p x && eqb n x) l (split p n),
-      count-values p n l,
-      count-value p n l,
-      ap (λ (r : List ℕ). total (map f r)) (upFrom-snoc 0 n),
-      ap total (map-append f (below n) ((0 + n) ∷ [])),
-      total-append (map f (below n)) (f (0 + n) ∷ []),
-      ap f (zero-add n),
-    )
 
 module _ (n : ℕ) (order : List ℕ) (h : eachOnce n order ≡ true) where
   passes-full : length order ≡ n
@@ -144,8 +101,9 @@ module _ (n : ℕ) (order : List ℕ) (h : eachOnce n order ≡ true) where
 
   -- as many as there are places, so all entries are below n
   order-below : (x : ℕ) → isIn x order ≡ true → ltb x n ≡ true
-  order-below = count-full (λ x. ltb x n) order
+  order-below = count-every (λ x. ltb x n) order
       (alike (λ x. true) ∙ only-below (λ x. true) (below n) range-below ∙ count-all (below n) ∙ length-upFrom n 0 ∙ sym passes-full)
 
+  -- what passes check 15's test holds each node once
   pub passes-order : Order n order
   passes-order p = sym (only-below p order order-below) ∙ alike p ∙ only-below p (below n) range-below

@@ -11,13 +11,13 @@ use borrow.Author.Tests.{ltb-true, lt-ltb}
 use Rattle.plan.specs.Lists.{indexOf}
 use Rattle.plan.specs.Mesh.{Mesh, adjacent}
 use Rattle.plan.specs.Demand3.{isPath, allEarlier, EarlierPath}
-use Rattle.theory.specs.Facts.{Symmetric}
-use Rattle.theory.specs.Positions.{edgeAt, isRow}
+use Rattle.theory.specs.Checked.{Symmetric}
+use Rattle.theory.specs.Rows.{edgeAt, isRow}
 use Rattle.theory.proofs.Bools.{and-left, and-right, and-both}
 use Rattle.theory.proofs.Lists.{getD-indexOf, indexOf-le}
-use Rattle.theory.proofs.Via.{Via, edge, step, fill-via, via-fill}
-use Rattle.theory.proofs.Tree.{Slot}
-use Rattle.theory.proofs.Columns.{row-fact, row-test}
+use Rattle.theory.proofs.Via.{Via, direct, through, joined-via, via-joined}
+use Rattle.theory.proofs.JoinedTree.{Slot}
+use Rattle.theory.proofs.Columns.{edge-mirror, row-fact, row-test}
 
 -- a path goes on behind its first node
 path-cons : (m : Mesh) (v w : ℕ) (ws : List ℕ) → adjacent m v w ≡ true → isPath m (w ∷ ws) ≡ true → isPath m (v ∷ (w ∷ ws)) ≡ true
@@ -25,12 +25,12 @@ unfolding isPath
 path-cons m v w ws h p = and-both (adjacent m v w) _ h p
 
 module _ (m : Mesh) (order : List ℕ) (j : ℕ) (fits : j ≤ length order) where
-  -- a walk over positions is a path over nodes
-  pub via-path : {a b : ℕ} → Via (edgeAt m order) j a b → EarlierPath m order j (getD order a 0) (getD order b 0)
+  -- a path over positions is a path over nodes
+  via-path : {a b : ℕ} → Via (edgeAt m order) j a b → EarlierPath m order j (getD order a 0) (getD order b 0)
   unfolding edgeAt isPath allEarlier
-  via-path (edge {a = a} {b = b} h) =
+  via-path (direct {a = a} {b = b} h) =
       record { between = []; path = path-cons m (getD order a 0) (getD order b 0) [] h refl; passed = refl }
-  via-path (step {a = a} {c = c} {b = b} h lt v) =
+  via-path (through {a = a} {c = c} {b = b} h lt v) =
       let p : EarlierPath m order j (getD order c 0) (getD order b 0) = via-path v in
       record {
         between = getD order c 0 ∷ p .between;
@@ -39,22 +39,17 @@ module _ (m : Mesh) (order : List ℕ) (j : ℕ) (fits : j ≤ length order) whe
       }
 
   -- and the other way round
-  pub path-via : (between : List ℕ) (a b : ℕ) → isPath m (getD order a 0 ∷ (between ++ (getD order b 0 ∷ []))) ≡ true → allEarlier order j between ≡ true → Via (edgeAt m order) j a b
+  path-via : (between : List ℕ) (a b : ℕ) → isPath m (getD order a 0 ∷ (between ++ (getD order b 0 ∷ []))) ≡ true → allEarlier order j between ≡ true → Via (edgeAt m order) j a b
   unfolding edgeAt isPath allEarlier
-  path-via [] a b path passed = edge (and-left (adjacent m (getD order a 0) (getD order b 0)) _ path)
+  path-via [] a b path passed = direct (and-left (adjacent m (getD order a 0) (getD order b 0)) _ path)
   path-via (v ∷ between) a b path passed =
       let c : ℕ = indexOf v order in
       let lt : c < j = ltb-true c j (and-left (ltb c j) _ passed) in
       let is : getD order c 0 ≡ v = getD-indexOf order v 0 (omega arith) in
       let onward : isPath m (v ∷ (between ++ (getD order b 0 ∷ []))) ≡ true = and-right (adjacent m (getD order a 0) v) _ path in
-      step {c = c}
+      through {c = c}
       (subst (λ (x : ℕ). adjacent m (getD order a 0) x ≡ true) (sym is) (and-left (adjacent m (getD order a 0) v) _ path)) lt
       (path-via between c b (subst (λ (x : ℕ). isPath m (x ∷ (between ++ (getD order b 0 ∷ []))) ≡ true) (sym is) onward) (and-right (ltb c j) _ passed))
-
--- neighbours by position are mirrored where the mesh's lists are
-pub edge-mirror : (m : Mesh) (order : List ℕ) → Symmetric m → (a b : ℕ) → edgeAt m order a b ≡ true → edgeAt m order b a ≡ true
-unfolding edgeAt
-edge-mirror m order s a b h = s .mirror (getD order a 0) (getD order b 0) h
 
 -- the theorem; of the order it asks only that each position has a node
 pub row-path : (m : Mesh) (order : List ℕ) → Symmetric m → length order ≡ m .nodes → (i j : ℕ) → i < m .nodes → j < m .nodes
@@ -64,9 +59,9 @@ row-path m order s full i j li lj = (there, back)
     there : isRow m order i j ≡ true → (j < i) × EarlierPath m order j (getD order j 0) (getD order i 0)
     there h =
         let t : Slot (edgeAt m order) i j = row-fact m order i j h .1 in
-        (t .later, via-path m order j (omega (arith, full)) (fill-via (edgeAt m order) (edge-mirror m order s) j j i (t .filled)))
+        (t .later, via-path m order j (omega (arith, full)) (joined-via (edgeAt m order) (edge-mirror m order s) j j i (t .joined)))
 
     back : (j < i) × EarlierPath m order j (getD order j 0) (getD order i 0) → isRow m order i j ≡ true
     back t =
         let v : Via (edgeAt m order) j j i = path-via m order j (omega (arith, full)) (t .1 .between) j i (t .1 .path) (t .1 .passed) in
-        row-test m order i j li (record { later = t .0; filled = via-fill (edgeAt m order) (edge-mirror m order s) j j i (omega arith) (omega (arith, t .0)) (omega (arith, t .0)) v })
+        row-test m order i j li (record { later = t .0; joined = via-joined (edgeAt m order) (edge-mirror m order s) j j i (omega arith) (omega (arith, t .0)) (omega (arith, t .0)) v })

@@ -1,99 +1,55 @@
--- What planning hands out passes the checks of a plan that is supplied: 13 and 15 to 19.
-use mathlib.Core.Path.{_≡_, refl, sym, ap, _∙_}
-use mathlib.Core.Logic.{inl, inr, _≢_}
-use mathlib.Core.Bool.{true, false, not, _&&_, _||_}
-use mathlib.Core.List.{List, [], _∷_, map, flatten, append-nil}
-use Prim.Native.Nat.{ℕ, _+_, _-_, _*_, _/_, _<_}
+-- What planning hands out passes checks 15 to 19 of reading, and 13's limits on n, p and s.
+use mathlib.Core.Path.{_≡_, sym, ap, _∙_}
+use mathlib.Core.Bool.{false, not, _||_}
+use mathlib.Core.List.{List, [], append-nil}
+use Prim.Native.Nat.{ℕ, _-_, _*_, _/_, _<_}
 use native.Mathlib.Omega.{arith}
 use lib.Dec.{ltb, eqb}
-use lib.ListN.{length, getD}
-use borrow.Author.Tests.{eq-eqb, ne-eqb, lt-ltb, le-ltb}
-use Rattle.plan.specs.Lists.{below, isIn, listAt, total, runningSums, ascending}
+use lib.ListN.{getD}
+use borrow.Author.Tests.{eq-eqb, ne-eqb, le-ltb}
+use Rattle.plan.specs.Lists.{below, isIn, listAt}
 use Rattle.plan.specs.Refusals.{firstFault}
-use Rattle.plan.specs.Mesh.{maxNodes, noParent, Mesh, adjacent, meshChecks, badNodeCount, badStarts}
+use Rattle.plan.specs.Mesh.{maxNodes, Mesh, adjacent, meshChecks, badNodeCount, badStarts}
 use Rattle.plan.specs.Choice.{georgeLiu}
-use Rattle.plan.specs.Dissection.{dissection, parts}
-use Rattle.plan.specs.Elimination.{column, columns, startsOf}
-use Rattle.plan.specs.Parts.{partOf, parentOf, atOrAbove}
+use Rattle.plan.specs.Dissection.{parts}
+use Rattle.plan.specs.Elimination.{column}
+use Rattle.plan.specs.Parts.{partOf, atOrAbove}
 use Rattle.plan.specs.Planning.{Contents, planBy, planOf}
-use Rattle.plan.specs.File.{badHeader, badOrder, mayBeParent, badParts, badColumn, badColumns, badRows, outsideAncestors, notNested, covered, notCovered, contentsChecks}
+use Rattle.plan.specs.File.{badHeader, badOrder, badParts, badRows, outsideAncestors, notNested, covered, notCovered, contentsChecks}
 use Rattle.theory.specs.Regions.{Takes}
-use Rattle.theory.specs.Facts.{Checked}
-use Rattle.theory.specs.Positions.{isRow}
+use Rattle.theory.specs.Checked.{Checked}
+use Rattle.theory.specs.Rows.{isRow}
 use Rattle.theory.specs.PartTree.{PartTree}
-use Rattle.theory.proofs.Bools.{or-neither, or-left, or-right, and-both, refuted, eq-or-ne}
-use Rattle.theory.proofs.Lists.{isIn-head, isIn-every, none-exists, isIn-below, getD-default, getD-indexOf, indexOf-lt}
-use Rattle.theory.proofs.MeshFacts.{checked}
+use Rattle.theory.proofs.Bools.{or-neither}
+use Rattle.theory.proofs.Lists.{none-exists}
+use Rattle.theory.proofs.Ranges.{isIn-below}
+use Rattle.theory.proofs.Sums.{total-some}
+use Rattle.theory.proofs.Checked.{checked}
 use Rattle.theory.proofs.Orders.{order-passes}
-use Rattle.theory.proofs.Compressed.{sums-first, sums-length, sums-rise}
-use Rattle.theory.proofs.Columns.{row-fact, column-ascending}
-use Rattle.theory.proofs.EliminationTree.{rows-joins-first}
-use Rattle.theory.proofs.Slots.{column-at, slots-last, slots-few, counts-length}
+use Rattle.theory.proofs.PartChecks.{tree-passes}
 use Rattle.theory.proofs.Dissection.{parts-few}
+use Rattle.theory.proofs.Slots.{column-at, slots-last, slots-few}
+use Rattle.theory.proofs.Eliminated.{columns-starts, columns-good, column-covered}
 use Rattle.theory.proofs.Demand3.{row-nested}
-use Rattle.theory.proofs.Planned.{plan-once, plan-tree, plan-nested, plan-sizes, georgeLiu-takes}
-
--- a size that is 0 stands nowhere among positive sizes
-no-zero : (l : List ℕ) → ((q : ℕ) → q < length l → 0 < getD l q 0) → isIn 0 l ≡ false
-no-zero l f = refuted (isIn 0 l) (λ h. let lt = indexOf-lt l 0 h in omega (arith, f _ lt, getD-indexOf l 0 0 lt))
-
-total-some : (l : List ℕ) → 0 < total l → 0 < length l
-total-some [] h = absurd (omega arith)
-total-some (x ∷ l) h = omega arith
-
--- ---- the columns of any order: checks 17 and 19
-
-module _ (m : Mesh) (order : List ℕ) where
-  abbrev starts : List ℕ
-  starts = startsOf (columns m order)
-
-  abbrev rows : List ℕ
-  rows = flatten (columns m order)
-
-  good-starts : badStarts (m .nodes) starts ≡ false
-  unfolding badStarts startsOf
-  good-starts =
-      let counts : List ℕ = map length (columns m order) in
-      let long : length (runningSums 0 counts) ≡ m .nodes + 1 = omega (arith, sums-length 0 counts, counts-length m order) in
-      let first : getD (runningSums 0 counts) 0 0 ≡ 0 = simp append-nil at (sums-first 0 counts []) in
-      or-neither (not (eqb (length (runningSums 0 counts)) (m .nodes + 1)) || not (eqb (getD (runningSums 0 counts) 0 0) 0)) _
-      (or-neither (not (eqb (length (runningSums 0 counts)) (m .nodes + 1))) _ (ap not (eq-eqb _ _ long)) (ap not (eq-eqb _ _ first)))
-      (sums-rise 0 counts)
-
-  good-column : (j : ℕ) → j < m .nodes → badColumn (m .nodes) starts rows j ≡ false
-  unfolding badColumn isRow
-  good-column j l =
-      rw (column-at m order j l)
-      (ap not (and-both (ascending (column m order j)) _ (column-ascending m order j)
-      (isIn-every (λ i. ltb j i && ltb i (m .nodes)) (column m order j) (λ i h. let r = row-fact m order i j h in
-      and-both (ltb j i) _ (lt-ltb j i (r .1 .later)) (lt-ltb i (m .nodes) (r .0))))))
-
-  covered-column : (j : ℕ) → j < m .nodes → covered starts rows (listAt starts rows j) ≡ true
-  unfolding covered isRow
-  covered-column j l = rw (column-at m order j l) (go (column m order j) refl)
-    where
-      go : (r : List ℕ) → column m order j ≡ r → covered starts rows r ≡ true
-      go [] e = refl
-      go (p ∷ rest) e =
-          let row : isRow m order p j ≡ true = ap (isIn p) e ∙ isIn-head p rest in
-          rw (column-at m order p (row-fact m order p j row .0)) (rows-joins-first m order j p rest e)
+use Rattle.theory.proofs.Choice.{georgeLiu-takes}
+use Rattle.theory.proofs.Planned.{planWith, plan-sizes, plan-once, plan-tree, plan-nested}
 
 -- ---- by any choice that takes a non-empty part from each region
 
-module _ (m : Mesh) (good : Checked m) (choose : List ℕ → List ℕ) (takes : Takes (adjacent m) choose) where
+module _ (m : Mesh) (choose : List ℕ → List ℕ) (takes : Takes (adjacent m) choose) (good : Checked m) where
   abbrev plan : Contents
-  plan = planBy m (dissection (adjacent m) choose (m .nodes))
+  plan = planWith m choose
 
   tree : PartTree (m .nodes) (plan .sizes) (plan .parents)
-  tree = plan-tree m good choose takes
+  tree = plan-tree m choose takes
 
-  -- 13
-  pub plan-header : badHeader plan ≡ false
+  -- 13: n is 1 to 4,096, p is 1 to n, s is at most n(n − 1)/2
+  pub plan-header-good : badHeader plan ≡ false
   unfolding badHeader badNodeCount planBy
-  plan-header =
+  plan-header-good =
       let n : ℕ = m .nodes in
       let p : ℕ = plan .parts in
-      let some : 0 < p = omega (arith, total-some (plan .sizes) (omega (arith, tree .whole, good .some)), plan-sizes m good choose takes) in
+      let some : 0 < p = omega (arith, total-some (plan .sizes) (omega (arith, tree .whole, good .some)), plan-sizes m choose) in
       or-neither (eqb n 0 || ltb maxNodes n || eqb p 0 || ltb n p) _
       (or-neither (eqb n 0 || ltb maxNodes n || eqb p 0) _
       (or-neither (eqb n 0 || ltb maxNodes n) _
@@ -102,70 +58,54 @@ module _ (m : Mesh) (good : Checked m) (choose : List ℕ → List ℕ) (takes :
       (le-ltb n p (parts-few (adjacent m) choose takes n)))
       (le-ltb (n * (n - 1) / 2) (plan .slots) (slots-few m (plan .order)))
 
-  -- 15
-  pub plan-order : badOrder plan ≡ false
+  -- 15: the order is each node once
+  pub plan-order-good : badOrder plan ≡ false
   unfolding badOrder planBy
-  plan-order = ap not (order-passes (m .nodes) (plan .order) (plan-once m good choose takes))
+  plan-order-good = ap not (order-passes (m .nodes) (plan .order) (plan-once m choose takes))
 
-  -- 16: a parent is a later part, or none
-  parent-may : (q : ℕ) → q < plan .parts → mayBeParent (plan .parts) q (getD (plan .parents) q 0) ≡ true
-  unfolding mayBeParent parentOf
-  parent-may q l =
-      let r : ℕ = getD (plan .parents) q 0 in
-      let many : length (plan .parents) ≡ plan .parts = tree .asMany ∙ plan-sizes m good choose takes in
-      let same : r ≡ parentOf (plan .parents) q = getD-default (plan .parents) q 0 noParent (omega (arith, many)) in
-      elim (eq-or-ne r noParent) [
-        | inl e ↦ or-left (eqb r noParent) _ (eq-eqb r noParent e)
-        | inr e ↦
-            let has : parentOf (plan .parents) q ≢ noParent = λ n. e (same ∙ n) in
-            or-right (eqb r noParent) _
-            (and-both (ltb q r) _ (lt-ltb q r (omega (arith, same, tree .later q has))) (lt-ltb r (plan .parts) (omega (arith, same, many, tree .known q has))))
-      ]
+  -- 16: the sizes are positive and sum to n, a father is 65,535 or a later part below p
+  pub plan-parts-good : badParts plan ≡ false
+  unfolding planBy
+  plan-parts-good = tree-passes plan (plan-sizes m choose) tree
 
-  pub plan-parts : badParts plan ≡ false
-  unfolding badParts planBy
-  plan-parts =
-      or-neither (isIn 0 (plan .sizes) || not (eqb (total (plan .sizes)) (m .nodes))) _
-      (or-neither (isIn 0 (plan .sizes)) _ (no-zero (plan .sizes) (tree .positive)) (ap not (eq-eqb (total (plan .sizes)) (m .nodes) (tree .whole))))
-      (none-exists (λ q. not (mayBeParent (plan .parts) q (getD (plan .parents) q 0))) (below (plan .parts))
-      (λ q h. ap not (parent-may q (isIn-below (plan .parts) q h))))
-
-  -- 17
-  pub plan-rows : badRows plan ≡ false
-  unfolding badRows badColumns planBy
-  plan-rows =
+  -- 17: the counts sum to s, a column's rows are strictly ascending, above the column and below n
+  pub plan-rows-good : badRows plan ≡ false
+  unfolding badRows planBy
+  plan-rows-good =
       let last : getD (plan .columnStarts) (m .nodes) 0 ≡ plan .slots = simp append-nil at (slots-last m (plan .order) []) in
       or-neither (badStarts (m .nodes) (plan .columnStarts) || not (eqb (getD (plan .columnStarts) (m .nodes) 0) (plan .slots))) _
-      (or-neither (badStarts (m .nodes) (plan .columnStarts)) _ (good-starts m (plan .order)) (ap not (eq-eqb (getD (plan .columnStarts) (m .nodes) 0) (plan .slots) last)))
-      (none-exists (badColumn (m .nodes) (plan .columnStarts) (plan .rows)) (below (m .nodes)) (λ j h. good-column m (plan .order) j (isIn-below (m .nodes) j h)))
+      (or-neither (badStarts (m .nodes) (plan .columnStarts)) _ (columns-starts m (plan .order)) (ap not (eq-eqb (getD (plan .columnStarts) (m .nodes) 0) (plan .slots) last)))
+      (columns-good m (plan .order))
 
-  -- 18
-  pub plan-rows-nested : notNested plan ≡ false
+  -- 18: each row lies in its column's part or a forefather of that part
+  pub plan-nested-good : notNested plan ≡ false
   unfolding notNested outsideAncestors planBy isRow
-  plan-rows-nested = none-exists (outsideAncestors plan) (below (m .nodes)) (λ j h.
+  plan-nested-good = none-exists (outsideAncestors plan) (below (m .nodes)) (λ j h.
       let at : listAt (plan .columnStarts) (plan .rows) j ≡ column m (plan .order) j = column-at m (plan .order) j (isIn-below (m .nodes) j h) in
       none-exists (λ i. not (atOrAbove (plan .parents) (partOf (plan .sizes) j) (partOf (plan .sizes) i))) (listAt (plan .columnStarts) (plan .rows) j) (λ i t.
-      ap not (row-nested m (plan .order) (plan .sizes) (plan .parents) (good .symmetric) (plan-once m good choose takes) tree (plan-nested m good choose takes) i j
+      ap not (row-nested m (plan .order) (plan .sizes) (plan .parents) (good .symmetric) (plan-once m choose takes) tree (plan-nested m choose takes good) i j
       (ap (isIn i) (sym at) ∙ t))))
 
-  -- 19
-  pub plan-covered : notCovered plan ≡ false
+  -- 19: a column's rows after its first are all in the first row's column
+  pub plan-covered-good : notCovered plan ≡ false
   unfolding notCovered planBy
-  plan-covered =
+  plan-covered-good =
       none-exists (λ j. not (covered (plan .columnStarts) (plan .rows) (listAt (plan .columnStarts) (plan .rows) j))) (below (m .nodes))
-      (λ j h. ap not (covered-column m (plan .order) j (isIn-below (m .nodes) j h)))
+      (λ j h. ap not (column-covered m (plan .order) j (isIn-below (m .nodes) j h)))
 
   -- 15 to 19
   pub plan-readable : firstFault (contentsChecks plan) ≡ 0
   unfolding contentsChecks firstFault
-  plan-readable = rw (plan-order, plan-parts, plan-rows, plan-rows-nested, plan-covered)
+  plan-readable = rw (plan-order-good, plan-parts-good, plan-rows-good, plan-nested-good, plan-covered-good)
 
 -- ---- by George and Liu's choice, of a mesh that passes checks 1 to 7
 
+-- 13: n, p and s are within their limits
 pub planned-header : (m : Mesh) → firstFault (meshChecks m) ≡ 0 → badHeader (planOf m) ≡ false
 unfolding planOf
-planned-header m passes = plan-header m (checked m passes) (georgeLiu m) (georgeLiu-takes m)
+planned-header m passes = plan-header-good m (georgeLiu m) (georgeLiu-takes m) (checked m passes)
 
+-- 15 to 19
 pub planned-readable : (m : Mesh) → firstFault (meshChecks m) ≡ 0 → firstFault (contentsChecks (planOf m)) ≡ 0
 unfolding planOf
-planned-readable m passes = plan-readable m (checked m passes) (georgeLiu m) (georgeLiu-takes m)
+planned-readable m passes = plan-readable m (georgeLiu m) (georgeLiu-takes m) (checked m passes)

@@ -12,7 +12,16 @@ unfolding firstFault
 no-fault k true cs p h = absurd (omega arith)
 no-fault k false cs p h = (refl, h)
 
--- nor did those that come first of a longer list
+-- a check that finds a fault is the first; behind one that finds none the first is to be found
+pub fault-here : (k : ℕ) (b : Bool) (cs : Checks) → b ≡ true → firstFault ((k, b) ∷ cs) ≡ k
+unfolding firstFault
+fault-here k b cs e = rw e
+
+pub fault-later : (k : ℕ) (b : Bool) (cs : Checks) → b ≡ false → firstFault ((k, b) ∷ cs) ≡ firstFault cs
+unfolding firstFault
+fault-later k b cs e = rw e
+
+-- where a longer list has no fault, neither have those that come first in it
 pub no-fault-first : (xs ys : Checks) → firstFault (xs ++ ys) ≡ 0 → firstFault xs ≡ 0
 unfolding firstFault
 no-fault-first [] ys h = refl

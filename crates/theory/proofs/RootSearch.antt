@@ -14,7 +14,8 @@ use Rattle.plan.specs.Levels.{Graph, eccentricity}
 use Rattle.plan.specs.Choice.{candidates, improves, nextRoot, rootFrom, rootOf}
 use Rattle.plan.specs.Enough.{RootStays}
 use Rattle.theory.proofs.Bools.{tested, refuted, cond-true, cond-false}
-use Rattle.theory.proofs.Lists.{isIn-head, of-keep, in-keep, exists-isIn}
+use Rattle.theory.proofs.Lists.{isIn-head, exists-isIn, in-keep, of-keep}
+use Rattle.theory.proofs.Sums.{square}
 use Rattle.theory.proofs.Levels.{levelled, levels-room}
 use Rattle.theory.proofs.LevelNumbers.{levels-length}
 
@@ -23,10 +24,6 @@ pub eccentricity-le : (edge : Graph) (region : List ℕ) (root : ℕ) → eccent
 unfolding eccentricity
 eccentricity-le edge region root =
     omega (arith, levels-length edge region root, levels-room edge region root (levelled edge region root (length region)))
-
-square : (k : ℕ) → k ≤ k * k
-square zero = omega arith
-square (suc k) = omega arith
 
 module _ (m : Mesh) (region : List ℕ) where
   abbrev far : ℕ → ℕ
@@ -82,7 +79,7 @@ module _ (m : Mesh) (region : List ℕ) where
     | inr e ↦ turn-goes most r e ∙ search-same most more (nextRoot m region r) (omega (arith, goes-farther r e)) (omega (arith, goes-farther r e)) ∙ sym (turn-goes more r e)
   ]
 
-  -- "When none is greater, r stays": no candidate of the root is farther
+  -- where r stays, no candidate of it is farther
   pub root-farthest : (r : ℕ) → nextRoot m region r ≡ r → exists (improves m region r) (candidates m region r) ≡ false
   unfolding nextRoot headD improves
   root-farthest r e = refuted _ (λ t.
@@ -98,3 +95,12 @@ module _ (m : Mesh) (region : List ℕ) where
 pub root-stays : RootStays
 unfolding rootOf
 root-stays m region = search-ends m region (length region * length region) (headD region 0) (omega (arith, square (length region)))
+
+-- "When none is greater, r stays." Of the root found, no candidate's ℓ is greater than its own.
+pub no-candidate-farther : (m : Mesh) (region : List ℕ) → exists (improves m region (rootOf m region)) (candidates m region (rootOf m region)) ≡ false
+no-candidate-farther m region = root-farthest m region (rootOf m region) (root-stays m region)
+
+-- "and the search begins again": any bound on its turns from the number of nodes on gives the same root
+pub root-same : (m : Mesh) (region : List ℕ) (most : ℕ) → length region ≤ most → rootFrom most m region (headD region 0) ≡ rootOf m region
+unfolding rootOf
+root-same m region most h = search-same m region most (length region * length region) (headD region 0) (omega arith) (omega (arith, square (length region)))

@@ -9,14 +9,14 @@ use Rattle.plan.specs.Lists.{upFrom, below, isIn, listAt, total, runningSums}
 use Rattle.plan.specs.Mesh.{Mesh}
 use Rattle.plan.specs.Elimination.{column, columns, startsOf}
 use Rattle.plan.specs.Demand3.{hasSlot}
-use Rattle.theory.specs.Regions.{count}
-use Rattle.theory.specs.Positions.{isRow}
+use Rattle.theory.specs.Counting.{count}
+use Rattle.theory.specs.Rows.{isRow}
 use Rattle.theory.proofs.Bools.{refuted}
-use Rattle.theory.proofs.Lists.{length-upFrom, length-map-upFrom, getD-map-below, map-ext-upFrom}
+use Rattle.theory.proofs.Ranges.{length-upFrom, getD-map-below, length-map-upFrom, map-ext-upFrom}
+use Rattle.theory.proofs.Sums.{block, half}
 use Rattle.theory.proofs.Counting.{count-le, count-after}
-use Rattle.theory.proofs.Compressed.{sums-next, sums-last, total-lengths, list-of-starts}
+use Rattle.theory.proofs.Compressed.{sums-last, sums-next, total-lengths, list-of-starts}
 use Rattle.theory.proofs.Columns.{row-fact, column-keep}
-use Rattle.theory.proofs.Bound.{block, half}
 
 module _ (m : Mesh) (order : List ℕ) where
   pub columns-length : length (columns m order) ≡ m .nodes

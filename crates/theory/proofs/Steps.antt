@@ -1,7 +1,7 @@
 -- The dissection one part at a time: as many steps as nodes choose every part, with the parts and parents of the dissection.
 use mathlib.Core.Path.{_≡_, refl, sym, ap, ap₂, _∙_}
 use mathlib.Core.Bool.{cond}
-use mathlib.Core.List.{List, [], _∷_, _++_, map, flatten, append-nil, append-assoc, reverse-cons}
+use mathlib.Core.List.{List, [], _∷_, _++_, map, flatten, append-nil, append-assoc, reverse-cons, map-append}
 use Prim.Native.Nat.{ℕ, zero, suc, _+_, _-_, _≤_}
 use native.Mathlib.Nat.{zero-add, suc-add}
 use native.Mathlib.Omega.{arith}
@@ -11,20 +11,20 @@ use borrow.Author.Tests.{ne-eqb}
 use Rattle.plan.specs.Lists.{below}
 use Rattle.plan.specs.Mesh.{noParent, adjacent}
 use Rattle.plan.specs.Levels.{Graph, components}
-use Rattle.plan.specs.Choice.{standard, georgeLiu}
+use Rattle.plan.specs.Choice.{georgeLiu}
 use Rattle.plan.specs.Dissection.{Forest, empty, tree, dissect, dissection, parts, parentsFrom, parents}
 use Rattle.plan.specs.Steps.{Pending, State, pendingBelow, begin, stepWith, step, steps, byNumber}
 use Rattle.plan.specs.Enough.{StepsAgree, StepsEnough}
 use Rattle.theory.specs.Regions.{All, Region, Takes}
 use Rattle.theory.proofs.Bools.{cond-false}
-use Rattle.theory.proofs.Lists.{map-append, flatten-cons}
-use Rattle.theory.proofs.MeshFacts.{checked}
-use Rattle.theory.proofs.Forest.{parts-tree}
-use Rattle.theory.proofs.Dissection.{left, left-regions, enough-left, enough-others, first-regions, enough, parts-few}
-use Rattle.theory.proofs.Choice.{choose-takes, standard-sensible}
+use Rattle.theory.proofs.Flatten.{flatten-cons}
+use Rattle.theory.proofs.Checked.{checked}
+use Rattle.theory.proofs.Forest.{parts-length-tree}
+use Rattle.theory.proofs.Dissection.{regionsLeft, left-regions, first-regions, first-regions-fit, left-fit, others-fit, parts-few}
+use Rattle.theory.proofs.Choice.{georgeLiu-takes}
 
 -- a state by its fields
-abbrev state : List Pending → List (List ℕ) → List ℕ → State
+abbrev pub state : List Pending → List (List ℕ) → List ℕ → State
 state pending chosen parents = record { pending = pending; chosen = chosen; parents = parents }
 
 -- the first region of a list stands after the others
@@ -57,7 +57,7 @@ unfolding byNumber parentsFrom
 by-number empty p first parent before small all = refl
 by-number (tree s c r) p first parent before small all =
     let own : ℕ = length (parts r) + before in
-    let count : length (parts (tree s c r)) ≡ length (parts c) + suc (length (parts r)) = parts-tree s c r in
+    let count : length (parts (tree s c r)) ≡ length (parts c) + suc (length (parts r)) = parts-length-tree s c r in
     let known : number p own ≡ first + length (parts c) =
     cond-false (eqb own noParent) noParent (p - 1 - own) (ne-eqb own noParent (λ e. omega arith)) ∙ omega arith in
     map-append (number p) (chosenParents own (suc own) c) (parent ∷ chosenParents parent before r)
@@ -103,15 +103,15 @@ module _ (edge : Graph) (choose : List ℕ → List ℕ) where
     chooses (suc most) [] all l parent others chosen ps = refl
     chooses (suc most) (r ∷ rs) all l parent others chosen ps =
         let first : Pending = record { region = r; parent = parent } in
-        let c : Forest = dissect most edge choose (left edge choose takes r) in
+        let c : Forest = dissect most edge choose (regionsLeft edge choose r) in
         let o : Forest = dissect most edge choose rs in
         let os : List ℕ = chosenParents parent (length chosen) o in
         let own : ℕ = length (parts o ++ chosen) in
-        let count : length (parts (tree (choose r) c o)) ≡ length (parts o) + suc (length (parts c)) = omega (arith, parts-tree (choose r) c o) in
+        let count : length (parts (tree (choose r) c o)) ≡ length (parts o) + suc (length (parts c)) = omega (arith, parts-length-tree (choose r) c o) in
         ap₂ (λ (k : ℕ) (l : List Pending). steps k edge choose (state l chosen ps)) count (pending-cons parent r rs others)
         ∙ steps-add (length (parts o)) (suc (length (parts c))) (state (pendingBelow parent rs ++ (first ∷ others)) chosen ps)
-        ∙ ap (steps (suc (length (parts c))) edge choose) (chooses most rs (all .1) (enough-others edge choose takes r rs most (all .0) l) parent (first ∷ others) chosen ps)
-        ∙ chooses most (left edge choose takes r) (left-regions edge choose takes r (all .0)) (enough-left edge choose takes r rs most (all .0) l) own others (choose r ∷ (parts o ++ chosen)) (parent ∷ (os ++ ps))
+        ∙ ap (steps (suc (length (parts c))) edge choose) (chooses most rs (all .1) (others-fit edge choose takes r rs most (all .0) l) parent (first ∷ others) chosen ps)
+        ∙ chooses most (regionsLeft edge choose r) (left-regions edge choose r (all .0)) (left-fit edge choose takes r rs most (all .0) l) own others (choose r ∷ (parts o ++ chosen)) (parent ∷ (os ++ ps))
         ∙ ap₂ (state others)
         (sym (append-assoc (parts c) (choose r ∷ parts o) chosen))
         (ap (λ (k : ℕ). chosenParents k (suc k) c ++ (parent ∷ (os ++ ps))) (length-append (parts o) chosen)
@@ -123,7 +123,7 @@ module _ (edge : Graph) (choose : List ℕ → List ℕ) where
           steps (length (parts t)) edge choose (begin edge n) ≡ state [] (parts t) (chosenParents noParent 0 t)
       unfolding dissection begin
       chooses-all =
-          simp append-nil at (chooses n (components edge (below n)) (first-regions edge choose takes n) (enough edge choose takes n) noParent [] [] [])
+          simp append-nil at (chooses n (components edge (below n)) (first-regions edge n) (first-regions-fit edge n) noParent [] [] [])
 
       -- so as many steps as nodes do, for the steps after those change nothing
       chooses-enough : let t : Forest = dissection edge choose n in
@@ -155,4 +155,4 @@ steps-agree edge choose takes n small =
 -- as many steps as nodes choose every part of a mesh that passes checks 1 to 7
 pub steps-enough : StepsEnough
 unfolding georgeLiu
-steps-enough m h = steps-agree (adjacent m) (georgeLiu m) (choose-takes standard standard-sensible m) (m .nodes) (omega (arith, checked m h .few))
+steps-enough m h = steps-agree (adjacent m) (georgeLiu m) (georgeLiu-takes m) (m .nodes) (omega (arith, checked m h .few))

@@ -1,5 +1,7 @@
+pub mod Counting
 pub mod Regions
-pub mod Facts
-pub mod Positions
+pub mod Checked
+pub mod Rows
 pub mod PartTree
 pub mod Sensible
+pub mod Balanced

@@ -1,7 +1,7 @@
 -- What the theorems say of a tree of parts, given by sizes and parents.
-use mathlib.Core.Bool.{Bool, true, not, _&&_}
 use mathlib.Core.Path.{_≡_}
 use mathlib.Core.Logic.{_≢_}
+use mathlib.Core.Bool.{Bool, true, not, _&&_}
 use mathlib.Core.List.{List}
 use Prim.Native.Nat.{ℕ, _<_}
 use lib.ListN.{length, getD}
@@ -12,10 +12,15 @@ use Rattle.plan.specs.Parts.{partOf, parentOf, atOrAbove}
 
 -- the sizes and parents of parts that take n positions
 pub record PartTree (n : ℕ) (sizes parents : List ℕ) : Type 0 where
+  -- the sizes sum to n
   pub whole : total sizes ≡ n
+  -- every part has a position
   pub positive : (q : ℕ) → q < length sizes → 0 < getD sizes q 0
+  -- each part has its parent
   pub asMany : length parents ≡ length sizes
+  -- which is a later part, where it is one
   pub later : (q : ℕ) → parentOf parents q ≢ noParent → q < parentOf parents q
+  -- of those that there are
   pub known : (q : ℕ) → parentOf parents q ≢ noParent → parentOf parents q < length parents
 
 -- every edge between positions joins one with a later one in its own part or in an ancestor's

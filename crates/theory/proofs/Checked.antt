@@ -2,7 +2,7 @@
 use mathlib.Core.Path.{_≡_, ap}
 use mathlib.Core.Logic.{inl, inr}
 use mathlib.Core.Bool.{Bool, true, false, not, _||_}
-use mathlib.Core.List.{[]}
+use mathlib.Core.List.{List, []}
 use Prim.Native.Nat.{ℕ, _+_, _-_, _≤_, _<_}
 use native.Mathlib.Omega.{arith}
 use lib.Dec.{leb, eqb}
@@ -10,16 +10,18 @@ use lib.ListN.{length, getD, drop, List·getD-eq-default}
 use borrow.Author.Tests.{eqb-true, eqb-false, leb-false, ltb-false, not-false}
 use Rattle.plan.specs.Lists.{exists, below, isIn, listAt, ascending}
 use Rattle.plan.specs.Refusals.{firstFault}
-use Rattle.plan.specs.Mesh.{maxNodes, Mesh, neighboursOf, adjacent, badNodeCount, badStarts, badMeshStarts, tooManyEntries, neighbourOutside, listsItself, notAscending, oneSided, meshChecks}
-use Rattle.theory.specs.Facts.{Checked}
-use Rattle.theory.proofs.Bools.{or-false-left, or-false-right, lt-or-le, clash}
-use Rattle.theory.proofs.Lists.{below-isIn, exists-none, isIn-take, isIn-drop}
+use Rattle.plan.specs.Mesh.{maxEntries, maxNodes, Mesh, neighboursOf, adjacent, badNodeCount, badStarts, badMeshStarts, tooManyEntries, neighbourOutside, listsItself, notAscending, oneSided, meshChecks}
+use Rattle.theory.specs.Checked.{Starts, Checked}
+use Rattle.theory.proofs.Bools.{or-false-left, or-false-right, clash, lt-or-le}
+use Rattle.theory.proofs.Lists.{isIn-take, isIn-drop, exists-none}
+use Rattle.theory.proofs.Ranges.{below-isIn}
 use Rattle.theory.proofs.Refusals.{no-fault}
 
 -- the seven checks, each without a fault
 record Passed (m : Mesh) : Type 0 where
   count : badNodeCount (m .nodes) ≡ false
   starts : badMeshStarts m ≡ false
+  entries : tooManyEntries m ≡ false
   inside : neighbourOutside m ≡ false
   loopless : listsItself m ≡ false
   ascends : notAscending m ≡ false
@@ -35,35 +37,60 @@ passed-each m h =
     let c5 = no-fault 5 (listsItself m) _ (omega arith) (c4 .1) in
     let c6 = no-fault 6 (notAscending m) _ (omega arith) (c5 .1) in
     let c7 = no-fault 7 (oneSided m) _ (omega arith) (c6 .1) in
-    record { count = c1 .0; starts = c2 .0; inside = c4 .0; loopless = c5 .0; ascends = c6 .0; mirrored = c7 .0 }
+    record { count = c1 .0; starts = c2 .0; entries = c3 .0; inside = c4 .0; loopless = c5 .0; ascends = c6 .0; mirrored = c7 .0 }
 
 -- check 1
-node-count : (n : ℕ) → badNodeCount n ≡ false → (0 < n) × (n ≤ maxNodes)
+pub node-count : (n : ℕ) → badNodeCount n ≡ false → (0 < n) × (n ≤ maxNodes)
 unfolding badNodeCount
 node-count n h =
     let ne = eqb-false n 0 (or-false-left (eqb n 0) _ h) in
     let le : n ≤ maxNodes = ltb-false maxNodes n (or-false-right (eqb n 0) _ h) in
     (omega arith, le)
 
--- check 2: the starts are n + 1 long
-starts-full : (m : Mesh) → badMeshStarts m ≡ false → length (m .starts) ≡ m .nodes + 1
-unfolding badMeshStarts badStarts
-starts-full m h =
-    let full : Bool = eqb (length (m .starts)) (m .nodes + 1) in
-    let bad : badStarts (m .nodes) (m .starts) ≡ false = or-false-left (badStarts (m .nodes) (m .starts)) _ h in
-    eqb-true (length (m .starts)) (m .nodes + 1) (not-false full (or-false-left (not full) _ (or-false-left (not full || not (eqb (getD (m .starts) 0 0) 0)) _ bad)))
+-- starts of n lists that are not bad
+pub good-starts : (n : ℕ) (starts : List ℕ) → badStarts n starts ≡ false → Starts n starts
+unfolding badStarts
+good-starts n starts h =
+    let long : Bool = eqb (length starts) (n + 1) in
+    let first : Bool = eqb (getD starts 0 0) 0 in
+    let both : (not long || not first) ≡ false = or-false-left (not long || not first) _ h in
+    record {
+      many = eqb-true (length starts) (n + 1) (not-false long (or-false-left (not long) _ both));
+      zeroFirst = eqb-true (getD starts 0 0) 0 (not-false first (or-false-right (not long) _ both));
+      rising = or-false-right (not long || not first) _ h;
+    }
+
+-- check 2: those of a mesh, and the last is the number of entries
+pub mesh-starts : (m : Mesh) → badMeshStarts m ≡ false → Starts (m .nodes) (m .starts) × (getD (m .starts) (m .nodes) 0 ≡ length (m .neighbours))
+unfolding badMeshStarts
+mesh-starts m h =
+    let bad : Bool = badStarts (m .nodes) (m .starts) in
+    let ends : Bool = eqb (getD (m .starts) (m .nodes) 0) (length (m .neighbours)) in
+    (good-starts (m .nodes) (m .starts) (or-false-left bad _ h), eqb-true _ _ (not-false ends (or-false-right bad _ h)))
 
 -- past the nodes the lists are empty
-pub list-out : (m : Mesh) (v : ℕ) → length (m .starts) ≡ m .nodes + 1 → m .nodes ≤ v → neighboursOf m v ≡ []
+list-out : (m : Mesh) (v : ℕ) → length (m .starts) ≡ m .nodes + 1 → m .nodes ≤ v → neighboursOf m v ≡ []
 unfolding neighboursOf listAt
 list-out m v full le =
     let none : getD (m .starts) (v + 1) 0 ≡ 0 = List·getD-eq-default (m .starts) 0 (omega (arith, full)) in
     let nothing : 0 - getD (m .starts) v 0 ≡ 0 = omega arith in
     rw (none, nothing)
 
+-- check 4: an entry of a list is a node
+pub entry-inside : (m : Mesh) → neighbourOutside m ≡ false → (v w : ℕ) → adjacent m v w ≡ true → w < m .nodes
+unfolding adjacent neighboursOf listAt neighbourOutside
+entry-inside m h v w a =
+    leb-false (m .nodes) w
+    (exists-none (leb (m .nodes)) (m .neighbours) h w (isIn-drop w (getD (m .starts) v 0) (m .neighbours) (isIn-take w (getD (m .starts) (v + 1) 0 - getD (m .starts) v 0) (drop (getD (m .starts) v 0) (m .neighbours)) a)))
+
+-- check 6: a node's list is ascending
+pub list-ascends : (m : Mesh) → notAscending m ≡ false → (v : ℕ) → v < m .nodes → ascending (neighboursOf m v) ≡ true
+unfolding notAscending
+list-ascends m h v l = not-false _ (exists-none (λ v. not (ascending (neighboursOf m v))) (below (m .nodes)) h v (below-isIn (m .nodes) v l))
+
 module _ (m : Mesh) (h : Passed m) where
   full : length (m .starts) ≡ m .nodes + 1
-  full = starts-full m (h .starts)
+  full = mesh-starts m (h .starts) .0 .many
 
   -- a node with a neighbour is below n
   listed : (v w : ℕ) → adjacent m v w ≡ true → v < m .nodes
@@ -73,13 +100,6 @@ module _ (m : Mesh) (h : Passed m) where
     | inr l ↦ clash (isIn w (neighboursOf m v)) a (ap (isIn w) (list-out m v full l))
   ]
 
-  -- check 4: and so is the neighbour
-  inside : (v w : ℕ) → adjacent m v w ≡ true → w < m .nodes
-  unfolding adjacent neighboursOf listAt neighbourOutside
-  inside v w a =
-      leb-false (m .nodes) w
-      (exists-none (leb (m .nodes)) (m .neighbours) (h .inside) w (isIn-drop w (getD (m .starts) v 0) (m .neighbours) (isIn-take w (getD (m .starts) (v + 1) 0 - getD (m .starts) v 0) (drop (getD (m .starts) v 0) (m .neighbours)) a)))
-
   -- check 5
   loopless : (v : ℕ) → adjacent m v v ≡ false
   unfolding listsItself
@@ -88,11 +108,10 @@ module _ (m : Mesh) (h : Passed m) where
     | inr l ↦ unfold adjacent in ap (isIn v) (list-out m v full l)
   ]
 
-  -- check 6
+  -- check 6, of any number
   ascends : (v : ℕ) → ascending (neighboursOf m v) ≡ true
-  unfolding notAscending
   ascends v = elim (lt-or-le v (m .nodes)) [
-    | inl l ↦ not-false _ (exists-none (λ v. not (ascending (neighboursOf m v))) (below (m .nodes)) (h .ascends) v (below-isIn (m .nodes) v l))
+    | inl l ↦ list-ascends m (h .ascends) v l
     | inr l ↦ ap ascending (list-out m v full l)
   ]
 
@@ -109,11 +128,14 @@ pub checked : (m : Mesh) → firstFault (meshChecks m) ≡ 0 → Checked m
 checked m h =
     let p : Passed m = passed-each m h in
     let c = node-count (m .nodes) (p .count) in
+    let starts = mesh-starts m (p .starts) in
     record {
       some = c .0;
       few = c .1;
-      full = full m p;
-      inside = λ v w a. (listed m p v w a, inside m p v w a);
+      starts = starts .0;
+      last = starts .1;
+      entries = unfold tooManyEntries in ltb-false maxEntries (length (m .neighbours)) (p .entries);
+      inside = λ v w a. (listed m p v w a, entry-inside m (p .inside) v w a);
       loopless = loopless m p;
       ascends = ascends m p;
       symmetric = record { mirror = mirror m p };

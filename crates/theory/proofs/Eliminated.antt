@@ -1,0 +1,63 @@
+-- Every layout made by elimination passes checks 17 and 19, whatever the order.
+use mathlib.Core.Path.{_≡_, refl, _∙_, ap}
+use mathlib.Core.Bool.{not, true, false, _&&_, _||_}
+use mathlib.Core.List.{List, [], _∷_, flatten, map, append-nil}
+use Prim.Native.Nat.{ℕ, _+_, _<_}
+use native.Mathlib.Omega.{arith}
+use lib.Dec.{eqb, ltb}
+use lib.ListN.{length, getD}
+use borrow.Author.Tests.{eq-eqb, lt-ltb}
+use Rattle.plan.specs.Lists.{isIn, ascending, listAt, runningSums, below}
+use Rattle.plan.specs.Elimination.{column, startsOf, columns}
+use Rattle.plan.specs.File.{covered, badColumns, badColumn}
+use Rattle.plan.specs.Mesh.{badStarts, Mesh}
+use Rattle.theory.specs.Rows.{isRow}
+use Rattle.theory.proofs.Bools.{or-neither, and-both}
+use Rattle.theory.proofs.Lists.{isIn-head, isIn-every, none-exists}
+use Rattle.theory.proofs.Ranges.{isIn-below}
+use Rattle.theory.proofs.Compressed.{sums-first, sums-length, sums-rise}
+use Rattle.theory.proofs.Columns.{row-fact, column-ascending}
+use Rattle.theory.proofs.EliminationTree.{rows-in-first-column}
+use Rattle.theory.proofs.Slots.{counts-length, column-at}
+
+module _ (m : Mesh) (order : List ℕ) where
+  abbrev starts : List ℕ
+  starts = startsOf (columns m order)
+
+  abbrev rows : List ℕ
+  rows = flatten (columns m order)
+
+  -- the starts are those of n columns
+  pub columns-starts : badStarts (m .nodes) starts ≡ false
+  unfolding badStarts startsOf
+  columns-starts =
+      let counts : List ℕ = map length (columns m order) in
+      let long : length (runningSums 0 counts) ≡ m .nodes + 1 = omega (arith, sums-length 0 counts, counts-length m order) in
+      let first : getD (runningSums 0 counts) 0 0 ≡ 0 = simp append-nil at (sums-first 0 counts []) in
+      or-neither (not (eqb (length (runningSums 0 counts)) (m .nodes + 1)) || not (eqb (getD (runningSums 0 counts) 0 0) 0)) _
+      (or-neither (not (eqb (length (runningSums 0 counts)) (m .nodes + 1))) _ (ap not (eq-eqb _ _ long)) (ap not (eq-eqb _ _ first)))
+      (sums-rise 0 counts)
+
+  good-column : (j : ℕ) → j < m .nodes → badColumn (m .nodes) starts rows j ≡ false
+  unfolding badColumn isRow
+  good-column j l =
+      rw (column-at m order j l)
+      (ap not (and-both (ascending (column m order j)) _ (column-ascending m order j)
+      (isIn-every (λ i. ltb j i && ltb i (m .nodes)) (column m order j) (λ i h. let r = row-fact m order i j h in
+      and-both (ltb j i) _ (lt-ltb j i (r .1 .later)) (lt-ltb i (m .nodes) (r .0))))))
+
+  -- 17: each column's rows are strictly ascending, above the column and below n
+  pub columns-good : badColumns (m .nodes) starts rows ≡ false
+  unfolding badColumns
+  columns-good = none-exists (badColumn (m .nodes) starts rows) (below (m .nodes)) (λ j h. good-column j (isIn-below (m .nodes) j h))
+
+  -- 19: a column's rows after its first are all in the first row's column
+  pub column-covered : (j : ℕ) → j < m .nodes → covered starts rows (listAt starts rows j) ≡ true
+  unfolding covered isRow
+  column-covered j l = rw (column-at m order j l) (go (column m order j) refl)
+    where
+      go : (r : List ℕ) → column m order j ≡ r → covered starts rows r ≡ true
+      go [] e = refl
+      go (p ∷ rest) e =
+          let row : isRow m order p j ≡ true = ap (isIn p) e ∙ isIn-head p rest in
+          rw (column-at m order p (row-fact m order p j row .0)) (rows-in-first-column m order j p rest e)

@@ -1,0 +1,58 @@
+-- Lists of lists, one behind the other.
+use mathlib.Core.Path.{_≡_, refl, sym, ap, _∙_}
+use mathlib.Core.Bool.{Bool, true, false, _||_, false≢true, or-assoc, or-comm, or-false}
+use mathlib.Core.List.{getLastD, reverseAux, reverse, List, [], _∷_, flatten, _++_, append-assoc, headD}
+use Prim.Native.Nat.{ℕ, _<_, zero, suc}
+use native.Mathlib.Omega.{arith}
+use lib.ListN.{take, getD}
+use Rattle.plan.specs.Lists.{isIn}
+use Rattle.theory.proofs.Lists.{isIn-append-left, isIn-append-right, isIn-append}
+
+module _ {A : Type 0} where
+  pub flatten-append : (xs ys : List (List A)) → flatten (xs ++ ys) ≡ flatten xs ++ flatten ys
+  unfolding flatten
+  flatten-append [] ys = refl
+  flatten-append (x ∷ xs) ys = rw (flatten-append xs ys) (sym (append-assoc x (flatten xs) (flatten ys)))
+
+  pub flatten-nil : _≡_ {A = List A} (flatten []) []
+  unfolding flatten
+  flatten-nil = refl
+
+  pub flatten-cons : (x : List A) (xs : List (List A)) → flatten (x ∷ xs) ≡ x ++ flatten xs
+  unfolding flatten
+  flatten-cons x xs = refl
+
+-- an element of one of the first k lists is in them together
+pub isIn-flatten-take : (ls : List (List ℕ)) (k i x : ℕ) → i < k → isIn x (getD ls i []) ≡ true → isIn x (flatten (take k ls)) ≡ true
+unfolding flatten
+isIn-flatten-take [] k i x lt m = absurd (false≢true m)
+isIn-flatten-take (l ∷ ls) zero i x lt m = absurd (omega arith)
+isIn-flatten-take (l ∷ ls) (suc k) zero x lt m = isIn-append-left x l (flatten (take k ls)) m
+isIn-flatten-take (l ∷ ls) (suc k) (suc i) x lt m = isIn-append-right x l (flatten (take k ls)) (isIn-flatten-take ls k i x (omega arith) m)
+
+isIn-flatten-reverseAux : (x : ℕ) (ls acc : List (List ℕ)) → isIn x (flatten (reverseAux ls acc)) ≡ (isIn x (flatten ls) || isIn x (flatten acc))
+unfolding flatten
+isIn-flatten-reverseAux x [] acc = refl
+isIn-flatten-reverseAux x (l ∷ ls) acc =
+    isIn-flatten-reverseAux x ls (l ∷ acc)
+    ∙ ap (λ (t : Bool). isIn x (flatten ls) || t) (isIn-append x l (flatten acc))
+    ∙ sym (or-assoc (isIn x (flatten ls)) (isIn x l) (isIn x (flatten acc)))
+    ∙ ap (λ (t : Bool). t || isIn x (flatten acc)) (or-comm (isIn x (flatten ls)) (isIn x l) ∙ sym (isIn-append x l (flatten ls)))
+
+-- the order of the lists does not matter to what they hold
+pub isIn-flatten-reverse : (x : ℕ) (ls : List (List ℕ)) → isIn x (flatten (reverse ls)) ≡ isIn x (flatten ls)
+unfolding flatten
+isIn-flatten-reverse x ls = isIn-flatten-reverseAux x ls [] ∙ or-false (isIn x (flatten ls))
+
+-- an element of the first of several lists is in them together
+pub isIn-flatten-head : (ls : List (List ℕ)) (x : ℕ) → isIn x (headD ls []) ≡ true → isIn x (flatten ls) ≡ true
+unfolding flatten headD
+isIn-flatten-head [] x t = absurd (false≢true t)
+isIn-flatten-head (l ∷ ls) x t = isIn-append-left x l (flatten ls) t
+
+-- and so is one of the last
+pub isIn-flatten-last : (ls : List (List ℕ)) (x : ℕ) → isIn x (getLastD ls []) ≡ true → isIn x (flatten ls) ≡ true
+unfolding getLastD flatten
+isIn-flatten-last [] x h = absurd (false≢true h)
+isIn-flatten-last (l ∷ []) x h = isIn-append-left x l [] h
+isIn-flatten-last (l ∷ (k ∷ ls)) x h = isIn-append-right x l (flatten (k ∷ ls)) (isIn-flatten-last (k ∷ ls) x h)
