@@ -1,0 +1,44 @@
+-- `mesh::bad_mesh_starts` meets its contract: the two tests are those of `badMeshStarts`.
+use mathlib.Core.Path.{sym, _∙_}
+use native.Mathlib.Omega.{arith}
+use borrow.Author.Needs.{needs}
+use Rattle.plan.specs.Mesh.{badMeshStarts}
+use Rattle.theory.proofs.Checked.{node-count, good-starts}
+use Rattle.mesh.proofs.bad_mesh_starts.Statement.{statement}
+use Rattle.mesh.proofs.bad_mesh_starts.Tie as tie
+
+bad-starts-requires : tie.Need-bad-starts-requires
+bad-starts-requires c κs = search needs
+
+returns : tie.Need-returns
+unfolding badMeshStarts
+returns c = rw (sym (c .before .bad-starts .ensures) ∙ c .if1 .taken)
+
+mul-index : tie.Need-mul-index
+mul-index c = let s = c .before .before .before .before in omega (arith, node-count (s .args .n) (s .pre))
+
+shared-slice-read-index : tie.Need-shared-slice-read-index
+shared-slice-read-index c =
+    let e = c .before in
+    let s = e .before .before .before .before .args in
+    omega (arith, good-starts (s .n) (s .starts .now) (sym (e .before .bad-starts .ensures) ∙ e .if1 .left) .many)
+
+index-requires : tie.Need-index-requires
+index-requires c κs = search needs
+
+returns-2 : tie.Need-returns-2
+unfolding badMeshStarts
+returns-2 c =
+    let e = c .before .before in
+    rw (c .index .ensures, sym (e .before .bad-starts .ensures) ∙ e .if1 .left)
+
+pub bad-mesh-starts-spec : {M : Type 1} → statement M
+bad-mesh-starts-spec =
+    tie.close
+    (tie.spec
+    bad-starts-requires
+    returns
+    mul-index
+    shared-slice-read-index
+    index-requires
+    returns-2)

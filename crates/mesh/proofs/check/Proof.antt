@@ -1,0 +1,148 @@
+-- `mesh::check` meets its contract: behind each check that finds no fault, the first fault is that of the checks to come.
+use mathlib.Core.Path.{_≡_, sym, _∙_}
+use mathlib.Core.Bool.{Bool, false}
+use lib.ListN.{drop}
+use borrow.Author.Needs.{needs}
+use Rattle.plan.specs.Refusals.{firstFault}
+use Rattle.plan.specs.Mesh.{Mesh, badNodeCount, badMeshStarts, tooManyEntries, neighbourOutside, listsItself, notAscending, oneSided, meshChecks}
+use Rattle.theory.proofs.Refusals.{fault-here, fault-later}
+use Rattle.mesh.specs.Lent.{lent}
+use Rattle.mesh.proofs.check.Statement.{statement}
+use Rattle.mesh.proofs.check.Tie as tie
+
+-- what a function answered is what its test found
+answered : {a b d : Bool} → a ≡ b → a ≡ d → b ≡ d
+answered p q = sym p ∙ q
+
+-- the mesh
+abbrev mesh : tie.Start → Mesh
+mesh s = lent (s .args .n) (s .args .starts .now) (s .args .neighbours .now)
+
+-- the same, seen from behind each check
+abbrev mesh1 : tie.Else1 → Mesh
+mesh1 c = mesh (c .before .before .before .before)
+
+abbrev mesh2 : tie.Else2 → Mesh
+mesh2 c = mesh1 (c .before .before)
+
+abbrev mesh3 : tie.Else3 → Mesh
+mesh3 c = mesh2 (c .before .before)
+
+abbrev mesh4 : tie.Else4 → Mesh
+mesh4 c = mesh3 (c .before .before)
+
+abbrev mesh5 : tie.Else5 → Mesh
+mesh5 c = mesh4 (c .before .before)
+
+abbrev mesh6 : tie.Else6 → Mesh
+mesh6 c = mesh5 (c .before .before)
+
+abbrev mesh7 : tie.Else7 → Mesh
+mesh7 c = mesh6 (c .before .before)
+
+-- the check found no fault
+clear1 : (c : tie.Else1) → badNodeCount ((mesh1 c) .nodes) ≡ false
+clear1 c = search answered
+
+clear2 : (c : tie.Else2) → badMeshStarts (mesh2 c) ≡ false
+clear2 c = search answered
+
+clear3 : (c : tie.Else3) → tooManyEntries (mesh3 c) ≡ false
+clear3 c = answered (c .before .too-many-entries .ensures (mesh3 c .nodes) (mesh3 c .starts)) (c .if3 .left)
+
+clear4 : (c : tie.Else4) → neighbourOutside (mesh4 c) ≡ false
+clear4 c = answered (c .before .neighbour-outside .ensures (mesh4 c .starts)) (c .if4 .left)
+
+clear5 : (c : tie.Else5) → listsItself (mesh5 c) ≡ false
+clear5 c = search answered
+
+clear6 : (c : tie.Else6) → notAscending (mesh6 c) ≡ false
+clear6 c = search answered
+
+clear7 : (c : tie.Else7) → oneSided (mesh7 c) ≡ false
+clear7 c = search answered
+
+-- the first fault is that of the checks to come
+later1 : (c : tie.Else1) → firstFault (meshChecks (mesh1 c)) ≡ firstFault (drop 1 (meshChecks (mesh1 c)))
+unfolding meshChecks
+later1 c = fault-later 1 (badNodeCount ((mesh1 c) .nodes)) _ (clear1 c)
+
+later2 : (c : tie.Else2) → firstFault (meshChecks (mesh2 c)) ≡ firstFault (drop 2 (meshChecks (mesh2 c)))
+unfolding meshChecks
+later2 c = later1 (c .before .before) ∙ fault-later 2 (badMeshStarts (mesh2 c)) _ (clear2 c)
+
+later3 : (c : tie.Else3) → firstFault (meshChecks (mesh3 c)) ≡ firstFault (drop 3 (meshChecks (mesh3 c)))
+unfolding meshChecks
+later3 c = later2 (c .before .before) ∙ fault-later 3 (tooManyEntries (mesh3 c)) _ (clear3 c)
+
+later4 : (c : tie.Else4) → firstFault (meshChecks (mesh4 c)) ≡ firstFault (drop 4 (meshChecks (mesh4 c)))
+unfolding meshChecks
+later4 c = later3 (c .before .before) ∙ fault-later 4 (neighbourOutside (mesh4 c)) _ (clear4 c)
+
+later5 : (c : tie.Else5) → firstFault (meshChecks (mesh5 c)) ≡ firstFault (drop 5 (meshChecks (mesh5 c)))
+unfolding meshChecks
+later5 c = later4 (c .before .before) ∙ fault-later 5 (listsItself (mesh5 c)) _ (clear5 c)
+
+later6 : (c : tie.Else6) → firstFault (meshChecks (mesh6 c)) ≡ firstFault (drop 6 (meshChecks (mesh6 c)))
+unfolding meshChecks
+later6 c = later5 (c .before .before) ∙ fault-later 6 (notAscending (mesh6 c)) _ (clear6 c)
+
+later7 : (c : tie.Else7) → firstFault (meshChecks (mesh7 c)) ≡ firstFault (drop 7 (meshChecks (mesh7 c)))
+unfolding meshChecks
+later7 c = later6 (c .before .before) ∙ fault-later 7 (oneSided (mesh7 c)) _ (clear7 c)
+
+bad-node-count-requires : tie.Need-bad-node-count-requires
+bad-node-count-requires c κs = search needs
+
+returns : tie.Need-returns
+unfolding meshChecks
+returns c = let m = mesh (c .before .before .before .before) in sym (fault-here 1 (badNodeCount (m .nodes)) _ (search answered))
+
+bad-mesh-starts-requires : tie.Need-bad-mesh-starts-requires
+bad-mesh-starts-requires c κs = clear1 c
+
+returns-2 : tie.Need-returns-2
+unfolding meshChecks
+returns-2 c = let m = mesh1 (c .before .before) in sym (later1 (c .before .before) ∙ fault-here 2 (badMeshStarts m) _ (search answered))
+
+too-many-entries-requires : tie.Need-too-many-entries-requires
+too-many-entries-requires c κs = search needs
+
+returns-3 : tie.Need-returns-3
+unfolding meshChecks
+returns-3 c = let m = mesh2 (c .before .before) in sym (later2 (c .before .before) ∙ fault-here 3 (tooManyEntries m) _ (answered (c .before .too-many-entries .ensures (m .nodes) (m .starts)) (c .if3 .taken)))
+
+neighbour-outside-requires : tie.Need-neighbour-outside-requires
+neighbour-outside-requires c κs = search needs
+
+returns-4 : tie.Need-returns-4
+unfolding meshChecks
+returns-4 c = let m = mesh3 (c .before .before) in sym (later3 (c .before .before) ∙ fault-here 4 (neighbourOutside m) _ (answered (c .before .neighbour-outside .ensures (m .starts)) (c .if4 .taken)))
+
+lists-itself-requires : tie.Need-lists-itself-requires
+lists-itself-requires c κs = clear2 (c .before .before .before .before)
+
+returns-5 : tie.Need-returns-5
+unfolding meshChecks
+returns-5 c = let m = mesh4 (c .before .before) in sym (later4 (c .before .before) ∙ fault-here 5 (listsItself m) _ (search answered))
+
+not-ascending-requires : tie.Need-not-ascending-requires
+not-ascending-requires c κs = clear2 (c .before .before .before .before .before .before)
+
+returns-6 : tie.Need-returns-6
+unfolding meshChecks
+returns-6 c = let m = mesh5 (c .before .before) in sym (later5 (c .before .before) ∙ fault-here 6 (notAscending m) _ (search answered))
+
+one-sided-requires : tie.Need-one-sided-requires
+one-sided-requires c κs = (clear2 (c .before .before .before .before .before .before .before .before), (clear4 (c .before .before .before .before), clear6 c))
+
+returns-7 : tie.Need-returns-7
+unfolding meshChecks
+returns-7 c = let m = mesh6 (c .before .before) in sym (later6 (c .before .before) ∙ fault-here 7 (oneSided m) _ (search answered))
+
+returns-8 : tie.Need-returns-8
+unfolding meshChecks firstFault
+returns-8 c = sym (later7 c)
+
+pub check-spec : {M : Type 1} → statement M
+check-spec = tie.close (tie.spec bad-node-count-requires returns bad-mesh-starts-requires returns-2 too-many-entries-requires returns-3 neighbour-outside-requires returns-4 lists-itself-requires returns-5 not-ascending-requires returns-6 one-sided-requires returns-7 returns-8)

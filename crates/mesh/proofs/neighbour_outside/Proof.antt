@@ -1,0 +1,71 @@
+-- `mesh::neighbour_outside` meets its contract: the loop tries each entry.
+use mathlib.Core.Path.{refl, sym}
+use Prim.Native.Nat.{_-_}
+use native.Mathlib.Omega.{arith}
+use lib.Dec.{leb}
+use borrow.Author.Tests.{le-leb, lt-leb}
+use borrow.Author.Needs.{needs}
+use Rattle.plan.specs.Mesh.{neighbourOutside}
+use Rattle.mesh.proofs.Scans.{Clear, clear-more, elementAt, found-in, none-in}
+use Rattle.mesh.proofs.neighbour_outside.Statement.{statement}
+use Rattle.mesh.proofs.neighbour_outside.Tie as tie
+
+abbrev Inv-loop : tie.InvT-loop
+Inv-loop n neighbours k₀ k-end k = Clear (elementAt (leb n) neighbours) k
+
+abbrev μ-loop : tie.MeasureT-loop
+μ-loop n neighbours k₀ k-end k = k-end - k
+
+loop-holds : tie.Need-loop-holds Inv-loop μ-loop
+loop-holds c = refl
+
+mul-node : tie.Need-mul-node Inv-loop μ-loop
+mul-node c = search needs
+
+shared-slice-read-node : tie.Need-shared-slice-read-node Inv-loop μ-loop
+shared-slice-read-node c = search needs
+
+node-requires : tie.Need-node-requires Inv-loop μ-loop
+node-requires c κs = search needs
+
+returns : tie.Need-returns Inv-loop μ-loop
+unfolding neighbourOutside
+returns c =
+    let k = c .before .before .before .before in
+    let s = k .before .before .args in
+    λ starts. sym (found-in (leb (s .n)) (s .neighbours .now) (k .loop .k) (omega arith) (le-leb _ _ (rw (c .before .node .ensures) at (c .if1 .taken))))
+
+add-k : tie.Need-add-k Inv-loop μ-loop
+add-k c = search needs
+
+loop-less : tie.Need-loop-less Inv-loop μ-loop
+loop-less c = search needs
+
+loop-again : tie.Need-loop-again Inv-loop μ-loop
+loop-again c =
+    let k = c .before .before .before .before in
+    let s = k .before .before .args in
+    clear-more (elementAt (leb (s .n)) (s .neighbours .now)) (k .loop .k) (k .loop .inv) (lt-leb _ _ (rw (c .before .node .ensures) at (c .if1 .left)))
+
+returns-2 : tie.Need-returns-2 Inv-loop μ-loop
+unfolding neighbourOutside
+returns-2 c =
+    let k = c .before in
+    let s = k .before .before .args in
+    λ starts. sym (none-in (leb (s .n)) (s .neighbours .now) (k .loop .k) (omega arith) (k .loop .inv))
+
+pub neighbour-outside-spec : {M : Type 1} → statement M
+neighbour-outside-spec =
+    tie.close
+    (tie.spec
+    Inv-loop
+    μ-loop
+    loop-holds
+    mul-node
+    shared-slice-read-node
+    node-requires
+    returns
+    add-k
+    loop-less
+    loop-again
+    returns-2)

@@ -1,0 +1,15 @@
+-- What the private functions' contracts cite besides the book: a mesh of its lent parts, and lists that lie within their entries.
+use mathlib.Core.List.{List}
+use Prim.Native.Nat.{ℕ, _+_, _≤_, _<_}
+use lib.ListN.{length, getD}
+use Rattle.plan.specs.Mesh.{Mesh}
+
+-- the mesh that n, the starts and the neighbours make
+abbrev pub lent : ℕ → List ℕ → List ℕ → Mesh
+lent n starts neighbours = record { nodes = n; starts = starts; neighbours = neighbours }
+
+-- list v has a start and an end, in this order, and ends within the entries
+pub record ListWithin (starts entries : List ℕ) (v : ℕ) : Type 0 where
+  pub started : v + 1 < length starts
+  pub ordered : getD starts v 0 ≤ getD starts (v + 1) 0
+  pub ended : getD starts (v + 1) 0 ≤ length entries

@@ -1,0 +1,218 @@
+// Checks 1 to 7 of a lent mesh: n nodes, the starts of their lists, and the entries of all lists (neighbours).
+use plan::Plan;
+ghost use mathlib.Core.Path.{_≡_};
+ghost use mathlib.Core.Bool.{true, false};
+ghost use mathlib.Core.List.{List};
+ghost use Prim.Native.Nat.{ℕ};
+ghost use Rattle.plan.specs.Lists.{isIn, listAt, ascending, falls};
+ghost use Rattle.plan.specs.Refusals.{firstFault};
+ghost use Rattle.plan.specs.Mesh.{badNodeCount, badStarts, badMeshStarts, tooManyEntries, neighbourOutside, listsItself, notAscending, oneSided, meshChecks};
+ghost use Rattle.mesh.specs.Lent.{lent, ListWithin};
+
+// A start as an index. O(1).
+fn index(x: u32) -> usize
+    ensures { λ r. ⌜ r ≡ x ⌝ }
+{
+    x as usize
+}
+
+// An entry of a list as a node. O(1).
+fn node(x: u16) -> usize
+    ensures { λ r. ⌜ r ≡ x ⌝ }
+{
+    x as usize
+}
+
+// Check 1: no node, or too many. O(1).
+fn bad_node_count(n: usize) -> bool
+    ensures { λ r. ⌜ r ≡ badNodeCount n ⌝ }
+{
+    n == 0 || n > Plan::NODES
+}
+
+// Whether a number is less than the one before it. O(length).
+fn falling(numbers: &[u32]) -> bool
+    ensures { λ r. ⌜ r ≡ falls (now (numbers .entry)) ⌝ }
+{
+    for i in 1..numbers.len() {
+        if numbers[i] < numbers[i - 1] {
+            return true;
+        }
+    }
+    false
+}
+
+// The first part of check 2: there are not n + 1 starts, the first is not 0, or they fall. O(n).
+fn bad_starts(n: usize, starts: &[u32]) -> bool
+    requires { ⌜ badNodeCount n ≡ false ⌝ }
+    ensures { λ r. ⌜ r ≡ badStarts n (now (starts .entry)) ⌝ }
+{
+    if starts.len() != n + 1 {
+        return true;
+    }
+    if starts[0] != 0 {
+        return true;
+    }
+    falling(starts)
+}
+
+// Check 2: bad starts, or the last is not the number of entries. O(n).
+fn bad_mesh_starts(n: usize, starts: &[u32], neighbours: &[u16]) -> bool
+    requires { ⌜ badNodeCount n ≡ false ⌝ }
+    ensures { λ r. ⌜ r ≡ badMeshStarts (lent n (now (starts .entry)) (now (neighbours .entry))) ⌝ }
+{
+    if bad_starts(n, starts) {
+        return true;
+    }
+    index(starts[n]) != neighbours.len()
+}
+
+// Check 3: too many entries, whatever the nodes and the starts. O(1).
+fn too_many_entries(neighbours: &[u16]) -> bool
+    ensures { λ r. ⌜ ((n : ℕ) (starts : List ℕ) → r ≡ tooManyEntries (lent n starts (now (neighbours .entry)))) ⌝ }
+{
+    neighbours.len() > Plan::ENTRIES
+}
+
+// Check 4: an entry is n or more, whatever the starts. O(entries).
+fn neighbour_outside(n: usize, neighbours: &[u16]) -> bool
+    ensures { λ r. ⌜ ((starts : List ℕ) → r ≡ neighbourOutside (lent n starts (now (neighbours .entry)))) ⌝ }
+{
+    for k in 0..neighbours.len() {
+        if node(neighbours[k]) >= n {
+            return true;
+        }
+    }
+    false
+}
+
+// Node v's list, as a part of the entries. O(1).
+fn list<'a>(starts: &[u32], entries: &'a [u16], v: usize) -> &'a [u16]
+    requires { ⌜ ListWithin (now starts) (now entries) v ⌝ }
+    ensures { λ r. ⌜ now r ≡ listAt (now (starts .entry)) (now (entries .entry)) v ⌝ }
+{
+    let a = index(starts[v]);
+    let e = index(starts[v + 1]);
+    &entries[a..e]
+}
+
+// Whether x stands in a list of any order: each entry is tried. O(length).
+fn contains(entries: &[u16], x: usize) -> bool
+    ensures { λ r. ⌜ r ≡ isIn x (now (entries .entry)) ⌝ }
+{
+    for k in 0..entries.len() {
+        if node(entries[k]) == x {
+            return true;
+        }
+    }
+    false
+}
+
+// Check 5: a node stands in its own list. O(n + entries).
+fn lists_itself(n: usize, starts: &[u32], neighbours: &[u16]) -> bool
+    requires { ⌜ badMeshStarts (lent n (now starts) (now neighbours)) ≡ false ⌝ }
+    ensures { λ r. ⌜ r ≡ listsItself (lent n (now (starts .entry)) (now (neighbours .entry))) ⌝ }
+{
+    for v in 0..n {
+        if contains(list(starts, neighbours, v), v) {
+            return true;
+        }
+    }
+    false
+}
+
+// Whether each entry of a list is greater than the one before it. O(length).
+fn rising(entries: &[u16]) -> bool
+    ensures { λ r. ⌜ r ≡ ascending (now (entries .entry)) ⌝ }
+{
+    for i in 1..entries.len() {
+        if entries[i] <= entries[i - 1] {
+            return false;
+        }
+    }
+    true
+}
+
+// Check 6: a list is not strictly ascending. O(n + entries).
+fn not_ascending(n: usize, starts: &[u32], neighbours: &[u16]) -> bool
+    requires { ⌜ badMeshStarts (lent n (now starts) (now neighbours)) ≡ false ⌝ }
+    ensures { λ r. ⌜ r ≡ notAscending (lent n (now (starts .entry)) (now (neighbours .entry))) ⌝ }
+{
+    for v in 0..n {
+        if !rising(list(starts, neighbours, v)) {
+            return true;
+        }
+    }
+    false
+}
+
+// Whether x stands in an ascending list, by bisection: each entry before `low` is less than x, and none from `high` on is. O(log length).
+fn bisect(entries: &[u16], x: usize) -> bool
+    requires { ⌜ ascending (now entries) ≡ true ⌝ }
+    ensures { λ r. ⌜ r ≡ isIn x (now (entries .entry)) ⌝ }
+{
+    let mut low: usize = 0;
+    let mut high = entries.len();
+    while low < high {
+        let middle = low + (high - low) / 2;
+        if node(entries[middle]) < x {
+            low = middle + 1;
+        } else {
+            high = middle;
+        }
+    }
+    if low == entries.len() {
+        return false;
+    }
+    node(entries[low]) == x
+}
+
+// Check 7: an entry is one-sided, w in v's list and v not in w's. "The first one-sided entry ends the whole comparison of lists."
+// O(n + entries · log degree).
+fn one_sided(n: usize, starts: &[u32], neighbours: &[u16]) -> bool
+    requires { ⌜ badMeshStarts (lent n (now starts) (now neighbours)) ≡ false ⌝ }
+    requires { ⌜ neighbourOutside (lent n (now starts) (now neighbours)) ≡ false ⌝ }
+    requires { ⌜ notAscending (lent n (now starts) (now neighbours)) ≡ false ⌝ }
+    ensures { λ r. ⌜ r ≡ oneSided (lent n (now (starts .entry)) (now (neighbours .entry))) ⌝ }
+{
+    let mut missing = false;
+    'nodes: for v in 0..n {
+        let entries = list(starts, neighbours, v);
+        for k in 0..entries.len() {
+            let w = node(entries[k]);
+            missing = !bisect(list(starts, neighbours, w), v);
+            if missing {
+                break 'nodes;
+            }
+        }
+    }
+    missing
+}
+
+// The first refusal of checks 1 to 7, 0 for none. "Each check covers the whole input before the next begins." O(n + entries · log degree).
+pub fn check(n: usize, starts: &[u32], neighbours: &[u16]) -> u32
+    ensures { λ r. ⌜ r ≡ firstFault (meshChecks (record { nodes = n; starts = now (starts .entry); neighbours = now (neighbours .entry) })) ⌝ }
+{
+    if bad_node_count(n) {
+        return 1;
+    }
+    if bad_mesh_starts(n, starts, neighbours) {
+        return 2;
+    }
+    if too_many_entries(neighbours) {
+        return 3;
+    }
+    if neighbour_outside(n, neighbours) {
+        return 4;
+    }
+    if lists_itself(n, starts, neighbours) {
+        return 5;
+    }
+    if not_ascending(n, starts, neighbours) {
+        return 6;
+    }
+    if one_sided(n, starts, neighbours) {
+        return 7;
+    }
+    0
+}
