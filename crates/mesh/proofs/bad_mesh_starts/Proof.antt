@@ -7,9 +7,6 @@ use Rattle.theory.proofs.Checked.{node-count, good-starts}
 use Rattle.mesh.proofs.bad_mesh_starts.Statement.{statement}
 use Rattle.mesh.proofs.bad_mesh_starts.Tie as tie
 
-bad-starts-requires : tie.Need-bad-starts-requires
-bad-starts-requires c κs = search needs
-
 returns : tie.Need-returns
 unfolding badMeshStarts
 returns c = rw (sym (c .before .bad-starts .ensures) ∙ c .if1 .taken)
@@ -23,9 +20,6 @@ shared-slice-read-index c =
     let s = e .before .before .before .before .args in
     omega (arith, good-starts (s .n) (s .starts .now) (sym (e .before .bad-starts .ensures) ∙ e .if1 .left) .many)
 
-index-requires : tie.Need-index-requires
-index-requires c κs = search needs
-
 returns-2 : tie.Need-returns-2
 unfolding badMeshStarts
 returns-2 c =
@@ -36,9 +30,9 @@ pub bad-mesh-starts-spec : {M : Type 1} → statement M
 bad-mesh-starts-spec =
     tie.close
     (tie.spec
-    bad-starts-requires
+    (λ c κs. search needs)
     returns
     mul-index
     shared-slice-read-index
-    index-requires
+    (λ c κs. search needs)
     returns-2)

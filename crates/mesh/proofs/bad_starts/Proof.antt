@@ -15,15 +15,9 @@ returns : tie.Need-returns
 unfolding badStarts
 returns c = simp (ne-eqb _ _ (c .if1 .taken))
 
-shared-slice-read-if2 : tie.Need-shared-slice-read-if2
-shared-slice-read-if2 c = search needs
-
 returns-2 : tie.Need-returns-2
 unfolding badStarts
 returns-2 c = simp (eq-eqb _ _ (c .before .before .if1 .left), ne-eqb _ _ (c .if2 .taken))
-
-falling-requires : tie.Need-falling-requires
-falling-requires c κs = search needs
 
 returns-3 : tie.Need-returns-3
 unfolding badStarts
@@ -31,4 +25,4 @@ returns-3 c = c .falling .ensures ∙ simp (eq-eqb _ _ (c .before .before .befor
 
 pub bad-starts-spec : {M : Type 1} → statement M
 bad-starts-spec =
-    tie.close (tie.spec add-if1 returns shared-slice-read-if2 returns-2 falling-requires returns-3)
+    tie.close (tie.spec add-if1 returns (λ c. search needs) returns-2 (λ c κs. search needs) returns-3)

@@ -91,9 +91,6 @@ later7 : (c : tie.Else7) → firstFault (meshChecks (mesh7 c)) ≡ firstFault (d
 unfolding meshChecks
 later7 c = later6 (c .before .before) ∙ fault-later 7 (oneSided (mesh7 c)) _ (clear7 c)
 
-bad-node-count-requires : tie.Need-bad-node-count-requires
-bad-node-count-requires c κs = search needs
-
 returns : tie.Need-returns
 unfolding meshChecks
 returns c = let m = mesh (c .before .before .before .before) in sym (fault-here 1 (badNodeCount (m .nodes)) _ (search answered))
@@ -105,15 +102,9 @@ returns-2 : tie.Need-returns-2
 unfolding meshChecks
 returns-2 c = let m = mesh1 (c .before .before) in sym (later1 (c .before .before) ∙ fault-here 2 (badMeshStarts m) _ (search answered))
 
-too-many-entries-requires : tie.Need-too-many-entries-requires
-too-many-entries-requires c κs = search needs
-
 returns-3 : tie.Need-returns-3
 unfolding meshChecks
 returns-3 c = let m = mesh2 (c .before .before) in sym (later2 (c .before .before) ∙ fault-here 3 (tooManyEntries m) _ (answered (c .before .too-many-entries .ensures (m .nodes) (m .starts)) (c .if3 .taken)))
-
-neighbour-outside-requires : tie.Need-neighbour-outside-requires
-neighbour-outside-requires c κs = search needs
 
 returns-4 : tie.Need-returns-4
 unfolding meshChecks
@@ -145,4 +136,4 @@ unfolding meshChecks firstFault
 returns-8 c = sym (later7 c)
 
 pub check-spec : {M : Type 1} → statement M
-check-spec = tie.close (tie.spec bad-node-count-requires returns bad-mesh-starts-requires returns-2 too-many-entries-requires returns-3 neighbour-outside-requires returns-4 lists-itself-requires returns-5 not-ascending-requires returns-6 one-sided-requires returns-7 returns-8)
+check-spec = tie.close (tie.spec (λ c κs. search needs) returns bad-mesh-starts-requires returns-2 (λ c κs. search needs) returns-3 (λ c κs. search needs) returns-4 lists-itself-requires returns-5 not-ascending-requires returns-6 one-sided-requires returns-7 returns-8)

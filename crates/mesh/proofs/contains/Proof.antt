@@ -15,29 +15,11 @@ Inv-loop entries x k₀ k-end k = Clear (elementAt (eqb x) entries) k
 abbrev μ-loop : tie.MeasureT-loop
 μ-loop entries x k₀ k-end k = k-end - k
 
-loop-holds : tie.Need-loop-holds Inv-loop μ-loop
-loop-holds c = refl
-
-mul-node : tie.Need-mul-node Inv-loop μ-loop
-mul-node c = search needs
-
-shared-slice-read-node : tie.Need-shared-slice-read-node Inv-loop μ-loop
-shared-slice-read-node c = search needs
-
-node-requires : tie.Need-node-requires Inv-loop μ-loop
-node-requires c κs = search needs
-
 returns : tie.Need-returns Inv-loop μ-loop
 returns c =
     let k = c .before .before .before .before in
     let s = k .before .before .args in
     sym (found-in (eqb (s .x)) (s .entries .now) (k .loop .k) (omega arith) (eq-eqb _ _ (sym (c .if1 .taken) ∙ c .before .node .ensures)))
-
-add-k : tie.Need-add-k Inv-loop μ-loop
-add-k c = search needs
-
-loop-less : tie.Need-loop-less Inv-loop μ-loop
-loop-less c = search needs
 
 loop-again : tie.Need-loop-again Inv-loop μ-loop
 loop-again c =
@@ -57,12 +39,12 @@ contains-spec =
     (tie.spec
     Inv-loop
     μ-loop
-    loop-holds
-    mul-node
-    shared-slice-read-node
-    node-requires
+    (λ c. refl)
+    (λ c. search needs)
+    (λ c. search needs)
+    (λ c κs. search needs)
     returns
-    add-k
-    loop-less
+    (λ c. search needs)
+    (λ c. search needs)
     loop-again
     returns-2)

@@ -33,16 +33,10 @@ answer : (c : tie.After-contains Inv-loop μ-loop) →
 unfolding adjacent neighboursOf
 answer c = sym (c .contains .ensures ∙ ap (isIn (c .before .before .before .loop .v)) (c .before .list .ensures))
 
-loop-holds : tie.Need-loop-holds Inv-loop μ-loop
-loop-holds c = refl
-
 list-requires : tie.Need-list-requires Inv-loop μ-loop
 list-requires c κs =
     let s = c .before .before .before .before in
     list-within (mesh s) (s .pre) (c .before .loop .v) (c .loop-test .taken)
-
-contains-requires : tie.Need-contains-requires Inv-loop μ-loop
-contains-requires c κs = search needs
 
 returns : tie.Need-returns Inv-loop μ-loop
 unfolding listsItself
@@ -50,12 +44,6 @@ returns c =
     let k = c .before .before .before .before in
     let s = k .before .before .before in
     sym (found-below (listed (mesh s)) (s .args .n) (k .loop .v) (omega arith) (answer (c .before) ∙ c .if1 .taken))
-
-add-v : tie.Need-add-v Inv-loop μ-loop
-add-v c = search needs
-
-loop-less : tie.Need-loop-less Inv-loop μ-loop
-loop-less c = search needs
 
 loop-again : tie.Need-loop-again Inv-loop μ-loop
 loop-again c =
@@ -76,11 +64,11 @@ lists-itself-spec =
     (tie.spec
     Inv-loop
     μ-loop
-    loop-holds
+    (λ c. refl)
     list-requires
-    contains-requires
+    (λ c κs. search needs)
     returns
-    add-v
-    loop-less
+    (λ c. search needs)
+    (λ c. search needs)
     loop-again
     returns-2)

@@ -16,30 +16,12 @@ Inv-loop n neighbours k₀ k-end k = Clear (elementAt (leb n) neighbours) k
 abbrev μ-loop : tie.MeasureT-loop
 μ-loop n neighbours k₀ k-end k = k-end - k
 
-loop-holds : tie.Need-loop-holds Inv-loop μ-loop
-loop-holds c = refl
-
-mul-node : tie.Need-mul-node Inv-loop μ-loop
-mul-node c = search needs
-
-shared-slice-read-node : tie.Need-shared-slice-read-node Inv-loop μ-loop
-shared-slice-read-node c = search needs
-
-node-requires : tie.Need-node-requires Inv-loop μ-loop
-node-requires c κs = search needs
-
 returns : tie.Need-returns Inv-loop μ-loop
 unfolding neighbourOutside
 returns c =
     let k = c .before .before .before .before in
     let s = k .before .before .args in
     λ starts. sym (found-in (leb (s .n)) (s .neighbours .now) (k .loop .k) (omega arith) (le-leb _ _ (rw (c .before .node .ensures) at (c .if1 .taken))))
-
-add-k : tie.Need-add-k Inv-loop μ-loop
-add-k c = search needs
-
-loop-less : tie.Need-loop-less Inv-loop μ-loop
-loop-less c = search needs
 
 loop-again : tie.Need-loop-again Inv-loop μ-loop
 loop-again c =
@@ -60,12 +42,12 @@ neighbour-outside-spec =
     (tie.spec
     Inv-loop
     μ-loop
-    loop-holds
-    mul-node
-    shared-slice-read-node
-    node-requires
+    (λ c. refl)
+    (λ c. search needs)
+    (λ c. search needs)
+    (λ c κs. search needs)
     returns
-    add-k
-    loop-less
+    (λ c. search needs)
+    (λ c. search needs)
     loop-again
     returns-2)

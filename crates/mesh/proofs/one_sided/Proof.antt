@@ -83,15 +83,6 @@ list-requires c κs =
 loop-holds : tie.Need-loop-holds Inv-loop μ-loop Inv-nodes μ-nodes
 loop-holds c = (c .before .before .nodes .inv .0, refl)
 
-mul-node : tie.Need-mul-node Inv-loop μ-loop Inv-nodes μ-nodes
-mul-node c = search needs
-
-shared-slice-read-node : tie.Need-shared-slice-read-node Inv-loop μ-loop Inv-nodes μ-nodes
-shared-slice-read-node c = search needs
-
-node-requires : tie.Need-node-requires Inv-loop μ-loop Inv-nodes μ-nodes
-node-requires c κs = search needs
-
 list-requires-2 : tie.Need-list-requires-2 Inv-loop μ-loop Inv-nodes μ-nodes
 list-requires-2 c κs =
     let s = start (c .before .before .before) in
@@ -103,22 +94,10 @@ bisect-requires c κs =
     let s = start (c .before .before .before .before) in
     rw (c .list2 .ensures) (list-ascends (mesh s) (s .pre .1 .1) (c .before .node .result) (inside (c .before)))
 
-add-k : tie.Need-add-k Inv-loop μ-loop Inv-nodes μ-nodes
-add-k c = search needs
-
-loop-less : tie.Need-loop-less Inv-loop μ-loop Inv-nodes μ-nodes
-loop-less c = search needs
-
 loop-again : tie.Need-loop-again Inv-loop μ-loop Inv-nodes μ-nodes
 loop-again c =
     let l = c .before .before .before .before .before .before in
     (c .if1 .left, clear-more (elementAt (lone (mesh (start l)) (outer l .nodes .v)) (entries l)) (l .loop .k) (l .loop .inv .1) (answer (c .before) ∙ c .if1 .left))
-
-add-v : tie.Need-add-v Inv-loop μ-loop Inv-nodes μ-nodes
-add-v c = search needs
-
-nodes-less : tie.Need-nodes-less Inv-loop μ-loop Inv-nodes μ-nodes
-nodes-less c = search needs
 
 nodes-again : tie.Need-nodes-again Inv-loop μ-loop Inv-nodes μ-nodes
 nodes-again c =
@@ -153,16 +132,16 @@ one-sided-spec =
     nodes-holds
     list-requires
     loop-holds
-    mul-node
-    shared-slice-read-node
-    node-requires
+    (λ c. search needs)
+    (λ c. search needs)
+    (λ c κs. search needs)
     list-requires-2
     bisect-requires
-    add-k
-    loop-less
+    (λ c. search needs)
+    (λ c. search needs)
     loop-again
-    add-v
-    nodes-less
+    (λ c. search needs)
+    (λ c. search needs)
     nodes-again
     returns
     returns-2)
