@@ -5,10 +5,11 @@ use mathlib.Core.Bool.{Bool, true, not, _&&_}
 use mathlib.Core.List.{List}
 use Prim.Native.Nat.{ℕ, _<_}
 use lib.ListN.{length, getD}
-use Rattle.plan.specs.Lists.{exists, keep, below, total}
+use Rattle.plan.specs.Lists.{exists, below, total}
 use Rattle.plan.specs.Mesh.{noParent}
 use Rattle.plan.specs.Levels.{Graph}
 use Rattle.plan.specs.Parts.{partOf, parentOf, atOrAbove}
+use Rattle.theory.specs.Counting.{count}
 
 -- the sizes and parents of parts that take n positions
 pub record PartTree (n : ℕ) (sizes parents : List ℕ) : Type 0 where
@@ -35,4 +36,4 @@ borders n edge sizes parents q i =
 
 -- how many positions border it
 unfoldable pub bordering : ℕ → Graph → List ℕ → List ℕ → ℕ → ℕ
-bordering n edge sizes parents q = length (keep (borders n edge sizes parents q) (below n))
+bordering n edge sizes parents q = count (borders n edge sizes parents q) (below n)
