@@ -10,14 +10,14 @@ ghost use Rattle.plan.specs.Mesh.{badNodeCount, badStarts, badMeshStarts, tooMa
 ghost use Rattle.mesh.specs.Lent.{lent, ListWithin};
 
 // A start as an index. O(1).
-fn index(x: u32) -> usize
+pub fn index(x: u32) -> usize
     ensures { λ r. ⌜ r ≡ x ⌝ }
 {
     x as usize
 }
 
 // An entry of a list as a node. O(1).
-fn node(x: u16) -> usize
+pub fn node(x: u16) -> usize
     ensures { λ r. ⌜ r ≡ x ⌝ }
 {
     x as usize
@@ -87,7 +87,7 @@ fn neighbour_outside(n: usize, neighbours: &[u16]) -> bool
 }
 
 // Node v's list, as a part of the entries. O(1).
-fn list<'a>(starts: &[u32], entries: &'a [u16], v: usize) -> &'a [u16]
+pub fn list<'a>(starts: &[u32], entries: &'a [u16], v: usize) -> &'a [u16]
     requires { ⌜ ListWithin (now starts) (now entries) v ⌝ }
     ensures { λ r. ⌜ now r ≡ listAt (now (starts .entry)) (now (entries .entry)) v ⌝ }
 {

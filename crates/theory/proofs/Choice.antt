@@ -25,7 +25,7 @@ module _ (edge : Graph) (region : List ℕ) (root : ℕ) where
   abbrev ls : List (List ℕ)
   ls = levels edge region root
 
-  separator-kept : (j : ℕ) → 0 < j → j < length ls → Kept region (separator edge ls j)
+  pub separator-kept : (j : ℕ) → 0 < j → j < length ls → Kept region (separator edge ls j)
   unfolding separator
   separator-kept j p h =
       let k : Kept region (getD ls j []) = level-kept edge region root j p h in

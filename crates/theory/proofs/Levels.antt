@@ -104,7 +104,7 @@ module _ (edge : Graph) (region : List ℕ) where
         ls = levelsBack (length region) edge region root
 
     -- more turns change nothing once there is no next level
-    levels-stay : (k d : ℕ) → nextLevel edge region (levelsBack k edge region root) ≡ [] → levelsBack (d + k) edge region root ≡ levelsBack k edge region root
+    pub levels-stay : (k d : ℕ) → nextLevel edge region (levelsBack k edge region root) ≡ [] → levelsBack (d + k) edge region root ≡ levelsBack k edge region root
     unfolding levelsBack addLevel
     levels-stay k zero e = let none : 0 + k ≡ k = omega arith in rw none
     levels-stay k (suc d) e =

@@ -46,11 +46,11 @@ module _ (m : Mesh) (region : List ℕ) where
   ]
 
   -- one turn of the search
-  turn-ends : (most r : ℕ) → eqb (nextRoot m region r) r ≡ true → rootFrom (suc most) m region r ≡ r
+  pub turn-ends : (most r : ℕ) → eqb (nextRoot m region r) r ≡ true → rootFrom (suc most) m region r ≡ r
   unfolding rootFrom
   turn-ends most r e = cond-true (eqb (nextRoot m region r) r) r (rootFrom most m region (nextRoot m region r)) e
 
-  turn-goes : (most r : ℕ) → eqb (nextRoot m region r) r ≡ false → rootFrom (suc most) m region r ≡ rootFrom most m region (nextRoot m region r)
+  pub turn-goes : (most r : ℕ) → eqb (nextRoot m region r) r ≡ false → rootFrom (suc most) m region r ≡ rootFrom most m region (nextRoot m region r)
   unfolding rootFrom
   turn-goes most r e = cond-false (eqb (nextRoot m region r) r) r (rootFrom most m region (nextRoot m region r)) e
 
