@@ -1,0 +1,366 @@
+-- Levels from a root as they stand in the numbers, the candidates of a root, and the turns of the root search.
+use mathlib.Core.Path.{_≡_, refl, sym, ap, _∙_}
+use mathlib.Core.Logic.{_≢_, inl, inr}
+use mathlib.Core.Bool.{Bool, true, false, cond}
+use mathlib.Core.List.{List, [], _∷_, _++_, map, getLastD, flatten}
+use Prim.Native.Nat.{ℕ, zero, suc, _+_, _-_, _≤_, _<_}
+use native.Mathlib.Omega.{arith}
+use lib.Dec.{eqb, ltb}
+use lib.ListN.{length, getD, take, drop, set, length-drop, length-map, List·getD-map}
+use lib.Seq.{length-take-le, take-all, getD-take, ext-getD, getD-set-same, getD-set-other}
+use borrow.Author.Tests.{eq-eqb, ne-eqb, lt-ltb, le-ltb}
+use Rattle.plan.specs.Lists.{keep, isIn, listAt, ascending}
+use Rattle.plan.specs.Mesh.{maxNodes, Mesh, neighboursOf, adjacent}
+use Rattle.plan.specs.Levels.{levels, eccentricity, components}
+use Rattle.plan.specs.Choice.{degreeIn, lesser, leastFrom, leastDegree, candidates, improves, nextRoot, rootFrom, rootOf}
+use Rattle.theory.specs.Checked.{Checked}
+use Rattle.theory.proofs.Bools.{tested, clash, refuted, cond-true, cond-false, eq-or-ne}
+use Rattle.theory.proofs.Lists.{isIn-take, of-keep}
+use Rattle.theory.proofs.AllLists.{lists-few}
+use Rattle.theory.proofs.Flatten.{isIn-flatten-last}
+use Rattle.theory.proofs.Ascending.{ascending-keep}
+use Rattle.theory.proofs.Counting.{same-length}
+use Rattle.theory.proofs.Components.{of-component, components-count, components-some}
+use Rattle.theory.proofs.LevelNumbers.{level-first, level-kept, levels-some}
+use Rattle.theory.proofs.LevelSets.{levels-cover}
+use Rattle.theory.proofs.RootSearch.{eccentricity-le, next-cases, turn-ends, turn-goes, search-same, root-same}
+use Rattle.theory.proofs.RootInside.{leastDegree-isIn}
+use Rattle.mesh.specs.Lent.{ListWithin}
+use Rattle.mesh.proofs.Lists.{checked-within}
+use Rattle.dissection.specs.Numbers.{fresh, outside, freshOf, Within, Only, Renumbered, grouped, Walked, Labelled}
+use Rattle.dissection.specs.Standing.{Regional, Standing, onlyLevel}
+use Rattle.dissection.specs.Rooted.{none, degreeOf, betterOf, bestOf, Bests, Compared, Rooted, Better}
+use Rattle.dissection.proofs.Groups.{keep-more, first-headD, hasNumber, renumbered-in, renumbered-out, group-at, of-flatten, last-list, all-getD, grouped-length, fresh-same, within-few}
+
+-- ---- a node of least degree
+
+-- the degree of a node by the starts
+pub degree-is : (m : Mesh) → Checked m → (v : ℕ) → v < m .nodes → getD (m .starts) (v + 1) 0 - getD (m .starts) v 0 ≡ degreeOf m v
+unfolding neighboursOf listAt
+degree-is m h v lt =
+    let w : ListWithin (m .starts) (m .neighbours) v = checked-within m h v lt in
+    let a : ℕ = getD (m .starts) v 0 in
+    sym (length-take-le (getD (m .starts) (v + 1) 0 - a) (drop a (m .neighbours)) (omega (arith, w .ended, length-drop a (m .neighbours))))
+
+-- the best of v and a list with one more at the end
+least-snoc : (degree : ℕ → ℕ) (v : ℕ) (l : List ℕ) (x : ℕ) → leastFrom degree v (l ++ (x ∷ [])) ≡ lesser degree (leastFrom degree v l) x
+unfolding leastFrom
+least-snoc degree v [] x = refl
+least-snoc degree v (w ∷ l) x = least-snoc degree (lesser degree v w) l x
+
+module _ (m : Mesh) where
+  -- v is better where it has less degree
+  pub better-less : (best v : ℕ) → best ≢ none → degreeOf m v < degreeOf m best → betterOf m best v ≡ v
+  unfolding lesser
+  better-less best v h lt =
+      cond-false (eqb best none) v (lesser (degreeOf m) best v) (ne-eqb best none h)
+      ∙ cond-true (ltb (degreeOf m v) (degreeOf m best)) v best (lt-ltb (degreeOf m v) (degreeOf m best) lt)
+
+  -- otherwise the best so far stays
+  pub better-stays : (best v : ℕ) → best ≢ none → degreeOf m best ≤ degreeOf m v → betterOf m best v ≡ best
+  unfolding lesser
+  better-stays best v h le =
+      cond-false (eqb best none) v (lesser (degreeOf m) best v) (ne-eqb best none h)
+      ∙ cond-false (ltb (degreeOf m v) (degreeOf m best)) v best (le-ltb (degreeOf m v) (degreeOf m best) le)
+
+  -- a node of another group changes nothing
+  pub compared-not : (v : ℕ) (numbers : List ℕ) (count : ℕ) (best : List ℕ) → count ≤ getD numbers v 0 → Compared m v numbers count best best
+  compared-not v numbers count best h c lt =
+      sym (cond-false (eqb (getD numbers v 0) c) (betterOf m (getD best c 0) v) (getD best c 0) (ne-eqb (getD numbers v 0) c (λ e. omega arith)))
+
+  -- a node of one of the groups is compared by one store
+  pub compared-set : (v : ℕ) (numbers : List ℕ) (count : ℕ) (best : List ℕ) (g : ℕ) → g ≡ getD numbers v 0 → g < length best
+      → Compared m v numbers count best (set best g (betterOf m (getD best g 0) v))
+  compared-set v numbers count best g own long c lt = elim (eq-or-ne c g) [
+    | inl e ↦ rw e
+        (getD-set-same best g (betterOf m (getD best g 0) v) 0 long
+        ∙ sym (cond-true (eqb (getD numbers v 0) g) (betterOf m (getD best g 0) v) (getD best g 0) (eq-eqb (getD numbers v 0) g (sym own))))
+    | inr e ↦
+        getD-set-other best g c (betterOf m (getD best g 0) v) 0 e
+        ∙ sym (cond-false (eqb (getD numbers v 0) c) (betterOf m (getD best c 0) v) (getD best c 0) (ne-eqb (getD numbers v 0) c (λ f. e (sym f ∙ sym own))))
+  ]
+
+  -- the best of nodes below n is a node below n, where there is one
+  pub best-node : (n : ℕ) (l : List ℕ) → ((x : ℕ) → isIn x l ≡ true → x < n) → bestOf m l ≢ none → bestOf m l < n
+  unfolding leastDegree
+  best-node n [] f h = absurd (h refl)
+  best-node n (v ∷ l) f h = f (bestOf m (v ∷ l)) (leastDegree-isIn (degreeOf m) (v ∷ l) (omega arith))
+
+  -- the best of a list with one more at the end
+  pub best-more : (n : ℕ) (l : List ℕ) (v : ℕ) → ((x : ℕ) → isIn x l ≡ true → x < n) → n ≤ maxNodes → betterOf m (bestOf m l) v ≡ bestOf m (l ++ (v ∷ []))
+  unfolding leastDegree leastFrom
+  best-more n [] v f few = refl
+  best-more n (w ∷ l) v f few =
+      let lt : bestOf m (w ∷ l) < n = f (bestOf m (w ∷ l)) (leastDegree-isIn (degreeOf m) (w ∷ l) (omega arith)) in
+      cond-false (eqb (bestOf m (w ∷ l)) none) v (lesser (degreeOf m) (bestOf m (w ∷ l)) v) (ne-eqb (bestOf m (w ∷ l)) none (λ e. omega arith))
+      ∙ sym (least-snoc (degreeOf m) w l v)
+
+  -- in a list that is not empty it is the book's
+  best-least : (region l : List ℕ) → 0 < length l → bestOf m l ≡ leastDegree (degreeIn m region) l
+  unfolding leastDegree degreeIn
+  best-least region [] h = absurd (omega arith)
+  best-least region (v ∷ l) h = refl
+
+-- the best node of each of the first `count` groups of nodes
+abbrev pub Leading : Mesh → List ℕ → ℕ → List ℕ → List ℕ → Type 0
+Leading m numbers count nodes best = (c : ℕ) → c < count → getD best c 0 ≡ bestOf m (keep (hasNumber numbers c) nodes)
+
+module _ (m : Mesh) (checked : Checked m) (nodes : List ℕ) (within : Within (m .nodes) nodes) (numbers : List ℕ) (count : ℕ) where
+  -- the nodes of a group among the first i are below n
+  first-inside : (i c x : ℕ) → isIn x (keep (hasNumber numbers c) (take i nodes)) ≡ true → x < m .nodes
+  first-inside i c x t = within .inside x (isIn-take x i nodes (of-keep (hasNumber numbers c) (take i nodes) x t .0))
+
+  -- the best of each group among the first i is a node or none
+  pub leading-bests : (i : ℕ) (best : List ℕ) → Leading m numbers count (take i nodes) best → Bests (m .nodes) count best
+  leading-bests i best h c lt some = rw (h c lt) (best-node m (m .nodes) (keep (hasNumber numbers c) (take i nodes)) (first-inside i c) (rw (h c lt) at some))
+
+  -- one more node is compared
+  pub leading-more : (i : ℕ) (best new : List ℕ) → i < length nodes → Leading m numbers count (take i nodes) best
+      → Compared m (getD nodes i 0) numbers count best new → Leading m numbers count (take (i + 1) nodes) new
+  leading-more i best new lt h compared c less =
+      compared c less
+      ∙ ap (λ (b : ℕ). cond (hasNumber numbers c v) (betterOf m b v) b) (h c less)
+      ∙ go (hasNumber numbers c v)
+      ∙ ap (bestOf m) (sym (keep-more (hasNumber numbers c) nodes i lt))
+    where
+      v : ℕ
+      v = getD nodes i 0
+
+      passed : ℕ → List ℕ
+      passed c = keep (hasNumber numbers c) (take i nodes)
+
+      go : (b : Bool) → cond b (betterOf m (bestOf m (passed c)) v) (bestOf m (passed c)) ≡ bestOf m (cond b (passed c ++ (v ∷ [])) (passed c))
+      go true = best-more m (m .nodes) (passed c) v (first-inside i c) (checked .few)
+      go false = refl
+
+  -- all are compared
+  pub leading-all : (i : ℕ) (best : List ℕ) → length nodes ≤ i → Leading m numbers count (take i nodes) best
+      → (c : ℕ) → c < count → getD best c 0 ≡ bestOf m (getD (grouped count numbers nodes) c [])
+  leading-all i best le h c lt =
+      h c lt ∙ ap (λ (l : List ℕ). bestOf m (keep (hasNumber numbers c) l)) (take-all i nodes le) ∙ ap (bestOf m) (sym (group-at count numbers nodes c lt))
+
+-- ---- levels as they stand in the numbers
+
+-- once each node of a region has the fresh number, the region is what is fresh
+filled-fresh : (m : Mesh) (nodes numbers filled queue : List ℕ) → Regional m nodes numbers queue → Renumbered (λ _. fresh) nodes numbers filled → freshOf (m .nodes) filled ≡ nodes
+filled-fresh m nodes numbers filled queue h f =
+    fresh-same (m .nodes) filled nodes (h .within)
+    (renumbered-in (λ _. fresh) nodes numbers filled f)
+    (λ v lt t e. omega (arith, h .only v lt t, renumbered-out (λ _. fresh) nodes numbers filled f v t))
+
+module _ (m : Mesh) (nodes : List ℕ) where
+  -- a node of a level is a node of the region
+  level-inside : (r v : ℕ) → isIn r nodes ≡ true → isIn v (flatten (levels (adjacent m) nodes r)) ≡ true → isIn v nodes ≡ true
+  level-inside r v h t = of-component (adjacent m) nodes r v (sym (levels-cover (adjacent m) nodes r h v) ∙ t) .0
+
+  module _ {numbers filled queue new after : List ℕ} {r last reached : ℕ} (h : Regional m nodes numbers queue) (inside : isIn r nodes ≡ true)
+      (walked : Walked (m .nodes) (adjacent m) (freshOf (m .nodes) filled) r filled new after last reached) (f : Renumbered (λ _. fresh) nodes numbers filled) where
+    -- so a walk in what is fresh is one in the region
+    over : Walked (m .nodes) (adjacent m) nodes r filled new after last reached
+    over = rw (filled-fresh m nodes numbers filled queue h f) at walked
+
+    -- it tells the number of the last level
+    pub walk-rooted : Rooted m nodes r last
+    unfolding eccentricity
+    walk-rooted = record { inside = inside; far = omega (arith, over .count) }
+
+    -- and the levels stand in the numbers
+    pub walk-standing : Standing m nodes r new
+    walk-standing = record {
+      own = over .numbered .own;
+      unreached = λ v i o. over .numbered .others v o ∙ renumbered-in (λ _. fresh) nodes numbers filled f v i;
+      only = λ v lt o. over .numbered .others v (refuted _ (λ t. clash (isIn v nodes) (level-inside r v inside t) o))
+          ∙ renumbered-out (λ _. fresh) nodes numbers filled f v o ∙ h .only v lt o;
+    }
+
+-- ---- the candidates of a root
+
+module _ (m : Mesh) (nodes : List ℕ) {numbers queue : List ℕ} {root last : ℕ} (h : Regional m nodes numbers queue) (rooted : Rooted m nodes root last) where
+  -- the levels
+  abbrev ls : List (List ℕ)
+  ls = levels (adjacent m) nodes root
+
+  -- there is one more of them than the number of the last
+  last-count : length ls ≡ last + 1
+  unfolding eccentricity
+  last-count = omega (arith, rooted .far, levels-some (adjacent m) nodes root)
+
+  -- the last level by its number
+  last-is : getLastD ls [] ≡ getD ls last []
+  last-is =
+      let e : length ls - 1 ≡ last = omega (arith, last-count) in
+      last-list ls ∙ ap (λ (k : ℕ). getD ls k []) e
+
+  -- each ascends
+  level-ascends : (j : ℕ) → j < length ls → ascending (getD ls j []) ≡ true
+  level-ascends zero lt = rw (level-first (adjacent m) nodes root)
+  level-ascends (suc j) lt =
+      let k = level-kept (adjacent m) nodes root (suc j) (omega arith) lt in
+      rw (k .same) (ascending-keep (k .test) nodes (h .within .ascends))
+
+  -- the nodes of the last one are of the region
+  last-inside : (v : ℕ) → isIn v (getLastD ls []) ≡ true → isIn v nodes ≡ true
+  last-inside v t = level-inside m nodes root v (rooted .inside) (isIn-flatten-last ls v t)
+
+  -- so it stands ascending below n
+  last-within : Within (m .nodes) (getLastD ls [])
+  last-within = record {
+    ascends = ap ascending last-is ∙ level-ascends last (omega (arith, last-count));
+    inside = λ v t. h .within .inside v (last-inside v t);
+  }
+
+  module _ (standing : Standing m nodes root numbers) where
+    -- where the levels stand in the numbers, a node of the last one has its number
+    own-number : (v : ℕ) → isIn v (getLastD ls []) ≡ true → getD numbers v 0 ≡ last
+    own-number v t = standing .own last v (ap (isIn v) (sym last-is) ∙ t)
+
+    -- and a node of the region with this number is of the last level
+    number-own : (v : ℕ) → isIn v nodes ≡ true → getD numbers v 0 ≡ last → isIn v (getLastD ls []) ≡ true
+    number-own v i e = elim (tested (isIn v (flatten ls))) [
+      | inl t ↦
+          let k = of-flatten ls v t in
+          let same : k .0 ≡ last = sym (standing .own (k .0) v (k .2)) ∙ e in
+          ap (isIn v) last-is ∙ ap (λ (j : ℕ). isIn v (getD ls j [])) (sym same) ∙ k .2
+      | inr t ↦ absurd (omega (arith, e, standing .unreached v i t, rooted .far, eccentricity-le (adjacent m) nodes root, within-few (m .nodes) nodes (h .within), h .checked .few))
+    ]
+
+    module _ (kept : List ℕ) (renumbered : Renumbered (onlyLevel last) nodes numbers kept) where
+      -- once all other levels are left out, the last level is what is fresh
+      last-fresh : freshOf (m .nodes) kept ≡ getLastD ls []
+      last-fresh = fresh-same (m .nodes) kept (getLastD ls []) last-within own others
+        where
+          own : (v : ℕ) → isIn v (getLastD ls []) ≡ true → getD kept v 0 ≡ fresh
+          own v t =
+              renumbered-in (onlyLevel last) nodes numbers kept renumbered v (last-inside v t)
+              ∙ cond-true (eqb (getD numbers v 0) last) fresh outside (eq-eqb (getD numbers v 0) last (own-number v t))
+
+          others : (v : ℕ) → v < m .nodes → isIn v (getLastD ls []) ≡ false → getD kept v 0 ≢ fresh
+          others v lt t e = elim (tested (isIn v nodes)) [
+            | inl i ↦ elim (eq-or-ne (getD numbers v 0) last) [
+              | inl same ↦ clash (isIn v (getLastD ls [])) (number-own v i same) t
+              | inr other ↦ omega (
+                arith,
+                renumbered-in (onlyLevel last) nodes numbers kept renumbered v i,
+                cond-false (eqb (getD numbers v 0) last) fresh outside (ne-eqb (getD numbers v 0) last other),
+              )
+            ]
+            | inr o ↦ omega (arith, h .only v lt o, renumbered-out (onlyLevel last) nodes numbers kept renumbered v o)
+          ]
+
+      -- and these are nodes of the region
+      pub fresh-inside : (v : ℕ) → isIn v (freshOf (m .nodes) kept) ≡ true → isIn v nodes ≡ true
+      fresh-inside v t = last-inside v (ap (isIn v) (sym last-fresh) ∙ t)
+
+      module _ {at count : ℕ} {new begins : List ℕ} (labelled : Labelled (m .nodes) (adjacent m) nodes at kept new begins count) where
+        -- the components of the last level
+        abbrev cs : List (List ℕ)
+        cs = components (adjacent m) (getLastD ls [])
+
+        -- once the fresh nodes are labelled, the groups are the components
+        groups : grouped count new nodes ≡ cs
+        groups = labelled .groups ∙ ap (components (adjacent m)) last-fresh
+
+        -- as many as are told
+        many : length cs ≡ count
+        many = ap length (sym groups) ∙ grouped-length count new nodes
+
+        -- at most n
+        pub groups-few : count ≤ m .nodes
+        groups-few = omega (
+          arith,
+          many,
+          lists-few cs (components-some (adjacent m) (getLastD ls [])),
+          same-length (flatten cs) (getLastD ls []) (components-count (adjacent m) (getLastD ls [])),
+          within-few (m .nodes) (getLastD ls []) last-within,
+        )
+
+        -- the other nodes stay outside
+        pub labelled-only : Only (m .nodes) nodes new
+        labelled-only v lt o =
+            labelled .others v (refuted _ (λ t. clash (isIn v nodes) (fresh-inside v t) o))
+            ∙ renumbered-out (onlyLevel last) nodes numbers kept renumbered v o ∙ h .only v lt o
+
+        -- the best nodes of the groups are the candidates
+        pub candidates-found : (found : List ℕ) → count ≤ length found → ((c : ℕ) → c < count → getD found c 0 ≡ bestOf m (getD (grouped count new nodes) c []))
+            → take count found ≡ candidates m nodes root
+        unfolding candidates leastDegree
+        candidates-found found long best =
+            ext-getD 0 (take count found) (map least cs) (taken ∙ sym (length-map cs least ∙ many)) (λ i lt. each i (omega (arith, taken)))
+          where
+            least : List ℕ → ℕ
+            least = leastDegree (degreeIn m nodes)
+
+            taken : length (take count found) ≡ count
+            taken = length-take-le count found long
+
+            each : (i : ℕ) → i < count → getD (take count found) i 0 ≡ getD (map least cs) i 0
+            each i lt =
+                getD-take count found i 0 lt
+                ∙ best i lt
+                ∙ ap (λ (gs : List (List ℕ)). bestOf m (getD gs i [])) groups
+                ∙ best-least m nodes (getD cs i []) (all-getD (λ c. 0 < length c) cs (components-some (adjacent m) (getLastD ls [])) i (omega (arith, many)))
+                ∙ sym (List·getD-map least cs i [])
+
+-- ---- the root search
+
+-- a region over other numbers of the same length, where the nodes outside stay outside
+pub regional-again : (m : Mesh) (nodes : List ℕ) {numbers queue new after : List ℕ} → Regional m nodes numbers queue
+    → Only (m .nodes) nodes new → length new ≡ length numbers → length after ≡ length queue → Regional m nodes new after
+regional-again m nodes h only e f = record {
+  checked = h .checked;
+  within = h .within;
+  some = h .some;
+  only = only;
+  numbersLong = omega (arith, h .numbersLong);
+  queueLong = omega (arith, h .queueLong);
+}
+
+module _ (m : Mesh) (nodes : List ℕ) where
+  -- a root that has just been walked from
+  pub better-walked : {before root x last : ℕ} {numbers : List ℕ} → x ≡ root → Rooted m nodes root last → Standing m nodes root numbers → Better m nodes before x last numbers
+  better-walked e rooted standing = rw e (record { rooted = rooted; only = standing .only; standing = λ lt. standing })
+
+  -- a root that stays
+  pub better-same : {root last : ℕ} {numbers : List ℕ} → Rooted m nodes root last → Only (m .nodes) nodes numbers → Better m nodes last root last numbers
+  better-same rooted only = record { rooted = rooted; only = only; standing = λ lt. absurd (omega arith) }
+
+  -- a candidate improves where the number of its last level is greater
+  pub improves-more : {root x a b : ℕ} → Rooted m nodes root a → Rooted m nodes x b → a < b → improves m nodes root x ≡ true
+  unfolding improves
+  improves-more {root} {x} h k lt = lt-ltb (eccentricity (adjacent m) nodes root) (eccentricity (adjacent m) nodes x) (omega (arith, h .far, k .far))
+
+  -- and not where it is not
+  pub improves-not : {root x a b : ℕ} → Rooted m nodes root a → Rooted m nodes x b → b ≤ a → improves m nodes root x ≡ false
+  unfolding improves
+  improves-not {root} {x} h k le = le-ltb (eccentricity (adjacent m) nodes root) (eccentricity (adjacent m) nodes x) (omega (arith, h .far, k .far))
+
+  -- what the search finds from a root, in more turns than are needed
+  abbrev pub foundFrom : ℕ → ℕ
+  foundFrom r = rootFrom (suc (length nodes)) m nodes r
+
+  -- from the smallest node it finds the region's root
+  pub found-first : 0 < length nodes → foundFrom (getD nodes 0 0) ≡ rootOf m nodes
+  found-first some = ap foundFrom (first-headD nodes some) ∙ root-same m nodes (suc (length nodes)) (omega arith)
+
+  -- a turn that goes to a farther root finds the same
+  pub found-next : {root next a b : ℕ} → next ≡ nextRoot m nodes root → Rooted m nodes root a → Rooted m nodes next b → a < b → foundFrom next ≡ foundFrom root
+  found-next {root} {next} e h k lt =
+      let other : eqb (nextRoot m nodes root) root ≡ false = ne-eqb (nextRoot m nodes root) root (λ s. omega (arith, h .far, k .far, ap (eccentricity (adjacent m) nodes) (e ∙ s))) in
+      ap foundFrom e
+      ∙ search-same m nodes (suc (length nodes)) (length nodes) (nextRoot m nodes root) (omega arith) (omega arith)
+      ∙ sym (turn-goes m nodes (length nodes) root other)
+
+  -- a turn that does not go to a farther root ends the search
+  pub found-last : {root next a b : ℕ} → next ≡ nextRoot m nodes root → Rooted m nodes root a → Rooted m nodes next b → b ≤ a → foundFrom root ≡ root
+  found-last {root} {next} e h k le = elim (next-cases m nodes root) [
+    | inl s ↦ turn-ends m nodes (length nodes) root (eq-eqb _ _ s)
+    | inr lt ↦ absurd (omega (arith, h .far, k .far, ap (eccentricity (adjacent m) nodes) e, lt))
+  ]
+
+-- once only one level stays, no node of the region has a number below n
+pub level-high : (last n : ℕ) (nodes old new : List ℕ) → n ≤ 4096 → Renumbered (onlyLevel last) nodes old new → (v : ℕ) → isIn v nodes ≡ true → n ≤ getD new v 0
+level-high last n nodes old new h r v t = rw (renumbered-in (onlyLevel last) nodes old new r v t) (go (eqb (getD old v 0) last))
+  where
+    go : (b : Bool) → n ≤ cond b fresh outside
+    go true = omega arith
+    go false = omega arith

@@ -1,0 +1,97 @@
+-- `cut::borders` meets its contract: the loop tries each entry of the node's list.
+use mathlib.Core.Path.{_≡_, refl, sym, ap, _∙_}
+use mathlib.Core.Bool.{Bool}
+use mathlib.Core.List.{List}
+use Prim.Native.Nat.{ℕ, _-_, _<_}
+use native.Mathlib.Omega.{arith}
+use lib.Dec.{eqb}
+use lib.ListN.{length, getD}
+use borrow.Author.Tests.{eq-eqb, ne-eqb}
+use borrow.Author.Needs.{needs}
+use Rattle.plan.specs.Lists.{exists}
+use Rattle.plan.specs.Mesh.{Mesh, neighboursOf}
+use Rattle.mesh.specs.Lent.{lent}
+use Rattle.mesh.proofs.Lists.{checked-within, entry-node}
+use Rattle.mesh.proofs.Scans.{Clear, clear-more, elementAt, found-in, none-in}
+use Rattle.dissection.proofs.cut.borders.Statement.{statement}
+use Rattle.dissection.proofs.cut.borders.Tie as tie
+
+-- whether node w has number x
+abbrev has : List ℕ → ℕ → ℕ → Bool
+has numbers x w = eqb (getD numbers w 0) x
+
+abbrev Inv-loop : tie.InvT-loop
+Inv-loop n starts neighbours v x numbers entries k₀ k-end k = Clear (elementAt (has numbers x) entries) k
+
+abbrev μ-loop : tie.MeasureT-loop
+μ-loop n starts neighbours v x numbers entries k₀ k-end k = k-end - k
+
+-- the mesh
+abbrev mesh : tie.Start Inv-loop μ-loop → Mesh
+mesh s = lent (s .args .n) (s .args .starts .now) (s .args .neighbours .now)
+
+list-requires : tie.Need-list-requires Inv-loop μ-loop
+list-requires c κs =
+    let s = c .before .before .before in
+    checked-within (mesh s) (s .pre .0) (s .args .v) (s .pre .1)
+
+-- the function's start and the node's list, seen from the loop
+abbrev start : tie.At-loop Inv-loop μ-loop → tie.Start Inv-loop μ-loop
+start l = l .before .before .before .before .before
+
+abbrev entries : tie.At-loop Inv-loop μ-loop → List ℕ
+entries l = l .before .list .result .now
+
+-- the list is that of the mesh
+whole : (l : tie.At-loop Inv-loop μ-loop) → entries l ≡ neighboursOf (mesh (start l)) (start l .args .v)
+unfolding neighboursOf
+whole l = l .before .list .ensures
+
+-- an entry is a node, and so has a number
+inside : (c : tie.After-node Inv-loop μ-loop) → c .node .result < length (start (c .before .before .before) .args .numbers .now)
+inside c =
+    let l = c .before .before .before in
+    let s = start l in
+    let lt : l .loop .k < length (neighboursOf (mesh s) (s .args .v)) = rw (← whole l) (c .before .before .loop-test .taken) in
+    omega (arith, c .node .ensures, ap (λ (e : List ℕ). getD e (l .loop .k) 0) (whole l), entry-node (mesh s) (s .pre .0) (s .args .v) (l .loop .k) lt, s .pre .2)
+
+mul-if1 : tie.Need-mul-if1 Inv-loop μ-loop
+mul-if1 c = let lt = inside c in search needs
+
+returns : tie.Need-returns Inv-loop μ-loop
+returns c =
+    let l = c .before .before .before .before .before in
+    let a = start l .args in
+    sym (ap (exists (has (a .numbers .now) (a .x))) (sym (whole l))
+    ∙ found-in (has (a .numbers .now) (a .x)) (entries l) (l .loop .k) (omega arith) (rw (← c .before .before .node .ensures) (eq-eqb _ _ (c .if1 .taken))))
+
+loop-again : tie.Need-loop-again Inv-loop μ-loop
+loop-again c =
+    let l = c .before .before .before .before .before in
+    let a = start l .args in
+    clear-more (elementAt (has (a .numbers .now) (a .x)) (entries l)) (l .loop .k) (l .loop .inv) (rw (← c .before .before .node .ensures) (ne-eqb _ _ (c .if1 .left)))
+
+returns-2 : tie.Need-returns-2 Inv-loop μ-loop
+returns-2 c =
+    let l = c .before in
+    let a = start l .args in
+    sym (ap (exists (has (a .numbers .now) (a .x))) (sym (whole l)) ∙ none-in (has (a .numbers .now) (a .x)) (entries l) (l .loop .k) (omega arith) (l .loop .inv))
+
+pub borders-spec : {M : Type 1} → statement M
+borders-spec =
+    tie.close
+    (tie.spec
+    Inv-loop
+    μ-loop
+    list-requires
+    (λ c. refl)
+    (λ c. search needs)
+    (λ c. search needs)
+    (λ c κs. search needs)
+    mul-if1
+    (λ c. inside (c .before))
+    returns
+    (λ c. search needs)
+    (λ c. search needs)
+    loop-again
+    returns-2)

@@ -1,0 +1,57 @@
+-- `root::compare` meets its contract: the best of one group is stored anew.
+use mathlib.Core.Path.{_≡_, ap, _∙_}
+use Prim.Native.Nat.{ℕ}
+use native.Mathlib.Omega.{arith}
+use lib.ListN.{getD}
+use borrow.Author.Needs.{needs}
+use Rattle.plan.specs.Mesh.{Mesh}
+use Rattle.mesh.specs.Lent.{lent}
+use Rattle.dissection.proofs.Roots.{compared-not, compared-set}
+use Rattle.dissection.proofs.root.compare.Statement.{statement}
+use Rattle.dissection.proofs.root.compare.Tie as tie
+
+-- the mesh
+abbrev mesh : tie.Start → Mesh
+mesh s = lent (s .args .n) (s .args .starts .now) (s .args .neighbours .now)
+
+-- the function's entry
+abbrev entry : tie.After-node2 → tie.Start
+entry c = c .before .before .before .before .before .before .before
+
+-- the group is v's number
+group : (c : tie.After-node2) → c .node2 .result ≡ getD (entry c .args .numbers .now) (entry c .args .v) 0
+group c = c .node2 .ensures ∙ ap (λ (i : ℕ). getD (entry c .args .numbers .now) i 0) (c .before .before .node .ensures)
+
+returns : tie.Need-returns
+returns c =
+    let s = entry (c .before) in
+    compared-not (mesh s) (s .args .v) (s .args .numbers .now) (s .args .count) (s .args .best .now) (omega (arith, group (c .before), c .if1 .taken))
+
+lesser-of-requires : tie.Need-lesser-of-requires
+lesser-of-requires c κs =
+    let s = entry (c .before .before) in
+    (s .pre .0, s .pre .1, s .pre .4 (c .before .before .node2 .result) (c .before .if1 .left))
+
+returns-2 : tie.Need-returns-2
+returns-2 c =
+    let n = c .before .before .before in
+    let s = entry n in
+    rw (c .lesser-of .ensures)
+    (compared-set (mesh s) (s .args .v) (s .args .numbers .now) (s .args .count) (s .args .best .now) (n .node2 .result) (group n) (omega arith))
+
+pub compare-spec : {M : Type 1} → statement M
+compare-spec =
+    tie.close
+    (tie.spec
+    (λ c κs. search needs)
+    (λ c. search needs)
+    (λ c. search needs)
+    (λ c κs. search needs)
+    returns
+    (λ c. search needs)
+    (λ c. search needs)
+    lesser-of-requires
+    (λ c. search needs)
+    (λ c. search needs)
+    (λ c. search needs)
+    returns-2)

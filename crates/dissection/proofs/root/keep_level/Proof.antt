@@ -1,0 +1,63 @@
+-- `root::keep_level` meets its contract: the loop renumbers one node after the other.
+use mathlib.Core.Path.{_≡_, refl, ap, _∙_}
+use Prim.Native.Nat.{ℕ, _-_}
+use native.Mathlib.Omega.{arith}
+use borrow.Author.Needs.{needs}
+use lib.ListN.{length, getD}
+use Rattle.dissection.specs.Standing.{onlyLevel}
+use Rattle.dissection.proofs.Renumbering.{Renumbering, renumbering-none, renumbering-inside, renumbering-next, renumbering-more, renumbering-all}
+use Rattle.dissection.proofs.root.keep_level.Statement.{statement}
+use Rattle.dissection.proofs.root.keep_level.Tie as tie
+
+abbrev Inv-loop : tie.InvT-loop
+Inv-loop nodes last numbers₀ i₀ i-end numbers i = (i-end ≡ length nodes) × Renumbering (onlyLevel last) nodes numbers₀ i numbers
+
+abbrev μ-loop : tie.MeasureT-loop
+μ-loop nodes last numbers₀ i₀ i-end numbers i = i-end - i
+
+loop-holds : tie.Need-loop-holds Inv-loop μ-loop
+loop-holds c = (refl, renumbering-none _ _ _)
+
+mul-only-level : tie.Need-mul-only-level Inv-loop μ-loop
+mul-only-level c = omega (arith, c .before .shared-slice-known2 .given (c .before .before .before .loop .i))
+
+slice-read-only-level : tie.Need-slice-read-only-level Inv-loop μ-loop
+slice-read-only-level c =
+    let k = c .before .before .before .before in
+    rw (c .before .node .ensures) (renumbering-inside (k .loop .inv .1) (omega arith) (k .before .before .before .pre .inside))
+
+loop-again : tie.Need-loop-again Inv-loop μ-loop
+loop-again c =
+    let k = c .before .before .before .before .before in
+    let s = k .before .before .before in
+    let f : ℕ → ℕ = onlyLevel (s .args .last) in
+    let e = c .before .before .node .ensures in
+    rw e (
+      refl,
+      renumbering-more (k .loop .inv .1) (omega arith) (s .pre .inside) (c .only-level .result)
+          (c .only-level .ensures ∙ ap (λ (v : ℕ). f (getD (k .loop .numbers) v 0)) e ∙ ap f (renumbering-next (k .loop .inv .1) (omega arith) (s .pre .ascends))),
+    )
+
+returns : tie.Need-returns Inv-loop μ-loop
+returns c = renumbering-all (c .before .loop .inv .1) (omega arith)
+
+pub keep-level-spec : {M : Type 1} → statement M
+keep-level-spec =
+    tie.close
+    (tie.spec
+    Inv-loop
+    μ-loop
+    loop-holds
+    (λ c. search needs)
+    (λ c. search needs)
+    (λ c κs. search needs)
+    mul-only-level
+    slice-read-only-level
+    (λ c κs. search needs)
+    (λ c. mul-only-level (c .before .before))
+    (λ c. slice-read-only-level (c .before))
+    (λ c. search needs)
+    (λ c. search needs)
+    loop-again
+    (λ c. search needs)
+    returns)

@@ -1,0 +1,5 @@
+pub mod Numbers
+pub mod Spread
+pub mod Standing
+pub mod Rooted
+pub mod Blocks

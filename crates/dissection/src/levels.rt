@@ -1,0 +1,192 @@
+// Levels from a root and connected components, over lent arrays. Each node has a number: `FRESH` in the set at hand while it is not reached; any other number keeps a walk out.
+use mesh::list;
+use mesh::node;
+ghost use mathlib.Core.Path.{_≡_};
+ghost use mathlib.Core.Logic.{_⊎_};
+ghost use mathlib.Core.Bool.{true, false};
+ghost use Prim.Native.Nat.{ℕ, _+_, _-_, _≤_, _<_};
+ghost use lib.Dec.{eqb};
+ghost use lib.ListN.{length, take, getD};
+ghost use Rattle.plan.specs.Lists.{exists, isIn, segment};
+ghost use Rattle.plan.specs.Mesh.{adjacent};
+ghost use Rattle.plan.specs.Levels.{components};
+ghost use Rattle.theory.specs.Checked.{Checked};
+ghost use Rattle.mesh.specs.Lent.{lent};
+ghost use Rattle.dissection.specs.Numbers.{fresh, freshOf, Within, Renumbered, Walked, Skipped, Taken, Labelled};
+ghost use Rattle.dissection.specs.Spread.{Spread, Room};
+
+// the number of a node that is in the set at hand and was not reached yet
+pub const FRESH: u16 = 65535;
+// the number of a node that is not in it
+pub const OUTSIDE: u16 = 65534;
+
+// One entry: node w gets number x and a place in the queue if it is fresh. O(1).
+fn touch(n: usize, w: u16, x: u16, numbers: &mut [u16], queue: &mut [u16], tail: usize) -> usize
+    requires { ⌜ (w < n) × (x < fresh) × Room n (now numbers) (now queue) tail ⌝ }
+    ensures { λ r. ⌜ Spread n x tail (now (numbers .entry)) (now (queue .entry)) (λ v. eqb v w) (now (numbers .exit)) (now (queue .exit)) r ⌝ }
+{
+    let v = node(w);
+    if numbers[v] != FRESH {
+        return tail;
+    }
+    numbers[v] = x;
+    queue[tail] = w;
+    tail + 1
+}
+
+// The list of node u: each entry is touched. O(degree).
+fn visit(
+    n: usize,
+    starts: &[u32],
+    neighbours: &[u16],
+    u: usize,
+    x: u16,
+    numbers: &mut [u16],
+    queue: &mut [u16],
+    tail: usize,
+) -> usize
+    requires { ⌜ Checked (lent n (now starts) (now neighbours)) × (u < n) × (x < fresh) × Room n (now numbers) (now queue) tail ⌝ }
+    ensures { λ r. ⌜ Spread n x tail (now (numbers .entry)) (now (queue .entry)) (adjacent (lent n (now (starts .entry)) (now (neighbours .entry))) u) (now (numbers .exit)) (now (queue .exit)) r ⌝ }
+{
+    let entries = list(starts, neighbours, u);
+    let mut end = tail;
+    for k in 0..entries.len() {
+        end = touch(n, entries[k], x, numbers, queue, end);
+    }
+    end
+}
+
+// The lists of the nodes that stand in the queue from place lo up to, not including, hi. O(their entries).
+fn advance(
+    n: usize,
+    starts: &[u32],
+    neighbours: &[u16],
+    x: u16,
+    numbers: &mut [u16],
+    queue: &mut [u16],
+    lo: usize,
+    hi: usize,
+) -> usize
+    requires { ⌜ Checked (lent n (now starts) (now neighbours)) × (x < fresh) × (lo ≤ hi) × Room n (now numbers) (now queue) hi × ((k : ℕ) → k < hi → getD (now queue) k 0 < n) ⌝ }
+    ensures { λ r. ⌜ Spread n x hi (now (numbers .entry)) (now (queue .entry)) (λ v. exists (λ u. adjacent (lent n (now (starts .entry)) (now (neighbours .entry))) u v) (segment (now (queue .entry)) lo hi)) (now (numbers .exit)) (now (queue .exit)) r ⌝ }
+{
+    let mut tail = hi;
+    for k in lo..hi {
+        tail = visit(
+            n,
+            starts,
+            neighbours,
+            node(queue[k]),
+            x,
+            numbers,
+            queue,
+            tail,
+        );
+    }
+    tail
+}
+
+// What a walk tells: the number of the last level (document 01: ℓ), and how many nodes were reached.
+pub struct Reach {
+    pub last: u16,
+    pub reached: usize,
+}
+
+// Levels from a root within the fresh nodes: each node reached gets its level's number and stands in the queue. O(entries of the nodes reached).
+pub fn walk(
+    n: usize,
+    starts: &[u32],
+    neighbours: &[u16],
+    root: u16,
+    numbers: &mut [u16],
+    queue: &mut [u16],
+) -> Reach
+    requires { ⌜ Checked (lent n (now starts) (now neighbours)) × (root < n) × (getD (now numbers) root 0 ≡ fresh) × (n ≤ length (now numbers)) × (n ≤ length (now queue)) ⌝ }
+    ensures { λ r. ⌜ Walked n (adjacent (lent n (now (starts .entry)) (now (neighbours .entry)))) (freshOf n (now (numbers .entry))) root (now (numbers .entry)) (now (numbers .exit)) (now (queue .exit)) (r .last) (r .reached) ⌝ }
+{
+    let first = node(root);
+    numbers[first] = 0;
+    queue[0] = root;
+    let mut last: u16 = 0;
+    let mut lo: usize = 0;
+    let mut hi: usize = 1;
+    loop {
+        let tail = advance(n, starts, neighbours, last + 1, numbers, queue, lo, hi);
+        if tail <= hi {
+            break;
+        }
+        lo = hi;
+        hi = tail;
+        last += 1;
+    }
+    Reach { last, reached: hi }
+}
+
+// Each node of a list gets number x. O(length).
+pub fn fill(nodes: &[u16], x: u16, numbers: &mut [u16])
+    requires { ⌜ ((v : ℕ) → isIn v (now nodes) ≡ true → v < length (now numbers)) ⌝ }
+    ensures { λ _. ⌜ Renumbered (λ _. x) (now (nodes .entry)) (now (numbers .entry)) (now (numbers .exit)) ⌝ }
+{
+    for i in 0..nodes.len() {
+        let v = node(nodes[i]);
+        numbers[v] = x;
+    }
+}
+
+// The component of node v, where v is fresh: its nodes get the number `count`, and the place behind them is noted. O(entries of the nodes reached).
+fn component(
+    n: usize,
+    starts: &[u32],
+    neighbours: &[u16],
+    v: u16,
+    numbers: &mut [u16],
+    queue: &mut [u16],
+    begins: &mut [u16],
+    count: usize,
+) -> usize
+    requires { ⌜ Checked (lent n (now starts) (now neighbours)) × (v < n) × (n ≤ length (now numbers)) × (n ≤ length (now queue)) × (n < length (now begins)) ⌝ }
+    requires { ⌜ (getD (now numbers) v 0 ≡ fresh → count < n) × (getD (now begins) count 0 ≤ n + n) ⌝ }
+    ensures { λ r. ⌜ Skipped v (now (numbers .entry)) (now (numbers .exit)) (now (begins .entry)) (now (begins .exit)) count r ⊎ Taken n (adjacent (lent n (now (starts .entry)) (now (neighbours .entry)))) v (now (numbers .entry)) (now (numbers .exit)) (now (begins .entry)) (now (begins .exit)) count r ⌝ }
+{
+    if numbers[node(v)] != FRESH {
+        return count;
+    }
+    let r = walk(n, starts, neighbours, v, numbers, queue);
+    let reached = r.reached;
+    fill(&queue[0..reached], count as u16, numbers);
+    begins[count + 1] = begins[count] + reached as u16;
+    count + 1
+}
+
+// The connected components of the fresh nodes, which all stand in a list whose other nodes have numbers from n on: those of component c get number c, the components being counted by their smallest nodes. Where they begin, standing one
+// after the other from place `at`, is noted. O(length + entries of the nodes reached).
+pub fn label(
+    n: usize,
+    starts: &[u32],
+    neighbours: &[u16],
+    nodes: &[u16],
+    at: u16,
+    numbers: &mut [u16],
+    queue: &mut [u16],
+    begins: &mut [u16],
+) -> usize
+    requires { ⌜ Checked (lent n (now starts) (now neighbours)) × Within n (now nodes) × ((v : ℕ) → isIn v (freshOf n (now numbers)) ≡ true → isIn v (now nodes) ≡ true) × ((v : ℕ) → isIn v (now nodes) ≡ true → n ≤ getD (now numbers) v 0) ⌝ }
+    requires { ⌜ (at ≤ n) × (n ≤ length (now numbers)) × (n ≤ length (now queue)) × (n < length (now begins)) ⌝ }
+    ensures { λ r. ⌜ Labelled n (adjacent (lent n (now (starts .entry)) (now (neighbours .entry)))) (now (nodes .entry)) at (now (numbers .entry)) (now (numbers .exit)) (now (begins .exit)) r ⌝ }
+{
+    begins[0] = at;
+    let mut count: usize = 0;
+    for i in 0..nodes.len() {
+        count = component(
+            n,
+            starts,
+            neighbours,
+            nodes[i],
+            numbers,
+            queue,
+            begins,
+            count,
+        );
+    }
+    count
+}

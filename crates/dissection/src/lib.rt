@@ -1,0 +1,11 @@
+// Nested dissection of a mesh that has passed checks 1 to 7.
+mod cut;
+mod levels;
+mod parts;
+mod root;
+mod state;
+
+pub use parts::write_order;
+pub use parts::write_parts;
+pub use state::Dissection;
+pub use state::dissect;

@@ -1,0 +1,242 @@
+// The pseudo-peripheral root of a region (document 01: its starting root): a search that goes on while a candidate's levels are more.
+use crate::levels::FRESH;
+use crate::levels::OUTSIDE;
+use crate::levels::fill;
+use crate::levels::label;
+use crate::levels::walk;
+use mesh::node;
+ghost use mathlib.Core.Path.{_≡_};
+ghost use mathlib.Core.Bool.{true, false};
+ghost use mathlib.Core.Logic.{_≢_};
+ghost use mathlib.Core.List.{[], headD};
+ghost use Prim.Native.Nat.{ℕ, _≤_, _<_};
+ghost use lib.ListN.{length, take, getD};
+ghost use Rattle.plan.specs.Lists.{isIn, keep};
+ghost use Rattle.plan.specs.Mesh.{neighboursOf};
+ghost use Rattle.plan.specs.Choice.{improves, nextRoot, rootOf};
+ghost use Rattle.theory.specs.Checked.{Checked};
+ghost use Rattle.mesh.specs.Lent.{lent};
+ghost use Rattle.dissection.specs.Numbers.{Within, Only, Renumbered, grouped};
+ghost use Rattle.dissection.specs.Standing.{Regional, Standing, onlyLevel};
+ghost use Rattle.dissection.specs.Rooted.{none, betterOf, bestOf, Bests, Compared, candidatesOf, Rooted, Better};
+
+// no node
+const NONE: u16 = 65535;
+
+// The number of a node after all but one level are left out. O(1).
+fn only_level(last: u16, x: u16) -> u16
+    ensures { λ r. ⌜ r ≡ onlyLevel last x ⌝ }
+{
+    if x == last {
+        return FRESH;
+    }
+    OUTSIDE
+}
+
+// Only the nodes of level `last` stay, as fresh ones. O(length).
+fn keep_level(nodes: &[u16], last: u16, numbers: &mut [u16])
+    requires { ⌜ Within (length (now numbers)) (now nodes) ⌝ }
+    ensures { λ _. ⌜ Renumbered (onlyLevel last) (now (nodes .entry)) (now (numbers .entry)) (now (numbers .exit)) ⌝ }
+{
+    for i in 0..nodes.len() {
+        let v = node(nodes[i]);
+        numbers[v] = only_level(last, numbers[v]);
+    }
+}
+
+// The degree of node v: the length of its list. O(1).
+fn degree(n: usize, starts: &[u32], neighbours: &[u16], v: u16) -> u32
+    requires { ⌜ Checked (lent n (now starts) (now neighbours)) × (v < n) ⌝ }
+    ensures { λ r. ⌜ r ≡ length (neighboursOf (lent n (now (starts .entry)) (now (neighbours .entry))) v) ⌝ }
+{
+    let u = node(v);
+    starts[u + 1] - starts[u]
+}
+
+// The best of the nodes seen so far and v: the one of less degree, the one seen before on a tie. O(1).
+fn lesser_of(n: usize, starts: &[u32], neighbours: &[u16], best: u16, v: u16) -> u16
+    requires { ⌜ Checked (lent n (now starts) (now neighbours)) × (v < n) × (best ≢ none → best < n) ⌝ }
+    ensures { λ r. ⌜ r ≡ betterOf (lent n (now (starts .entry)) (now (neighbours .entry))) best v ⌝ }
+{
+    if best == NONE {
+        return v;
+    }
+    if degree(n, starts, neighbours, v) < degree(n, starts, neighbours, best) {
+        return v;
+    }
+    best
+}
+
+// Node v is compared with the best of its group, where it has one of the first `count` numbers. O(1).
+fn compare(
+    n: usize,
+    starts: &[u32],
+    neighbours: &[u16],
+    v: u16,
+    numbers: &[u16],
+    count: usize,
+    best: &mut [u16],
+)
+    requires { ⌜ Checked (lent n (now starts) (now neighbours)) × (v < n) × (n ≤ length (now numbers)) × (count ≤ length (now best)) × Bests n count (now best) ⌝ }
+    ensures { λ _. ⌜ Compared (lent n (now (starts .entry)) (now (neighbours .entry))) v (now (numbers .entry)) count (now (best .entry)) (now (best .exit)) ⌝ }
+{
+    let c = node(numbers[node(v)]);
+    if c >= count {
+        return;
+    }
+    best[c] = lesser_of(n, starts, neighbours, best[c], v);
+}
+
+// No group has a best node yet. O(count).
+fn clear(count: usize, best: &mut [u16])
+    requires { ⌜ count ≤ length (now best) ⌝ }
+    ensures { λ _. ⌜ ((c : ℕ) → c < count → getD (now (best .exit)) c 0 ≡ none) ⌝ }
+{
+    for c in 0..count {
+        best[c] = NONE;
+    }
+}
+
+// In each of the first `count` groups a node of least degree, the smallest on a tie. O(length).
+fn least(
+    n: usize,
+    starts: &[u32],
+    neighbours: &[u16],
+    nodes: &[u16],
+    numbers: &[u16],
+    count: usize,
+    best: &mut [u16],
+)
+    requires { ⌜ Checked (lent n (now starts) (now neighbours)) × Within n (now nodes) × (n ≤ length (now numbers)) × (count ≤ length (now best)) ⌝ }
+    ensures { λ _. ⌜ ((c : ℕ) → c < count → getD (now (best .exit)) c 0 ≡ bestOf (lent n (now (starts .entry)) (now (neighbours .entry))) (getD (grouped count (now (numbers .entry)) (now (nodes .entry))) c [])) ⌝ }
+{
+    clear(count, best);
+    for i in 0..nodes.len() {
+        compare(n, starts, neighbours, nodes[i], numbers, count, best);
+    }
+}
+
+// A root with the number of its last level (document 01: ℓ).
+pub struct Root {
+    pub node: u16,
+    pub last: u16,
+}
+
+// The candidates of a root whose levels stand in the numbers: of each component of its last level a node of least degree. O(length + entries of the last level).
+fn candidates(
+    n: usize,
+    starts: &[u32],
+    neighbours: &[u16],
+    nodes: &[u16],
+    root: Root,
+    numbers: &mut [u16],
+    queue: &mut [u16],
+    found: &mut [u16],
+) -> usize
+    requires { ⌜ Regional (lent n (now starts) (now neighbours)) (now nodes) (now numbers) (now queue) × (n < length (now found)) ⌝ }
+    requires { ⌜ Rooted (lent n (now starts) (now neighbours)) (now nodes) (root .node) (root .last) × Standing (lent n (now starts) (now neighbours)) (now nodes) (root .node) (now numbers) ⌝ }
+    ensures { λ r. ⌜ (take r (now (found .exit)) ≡ candidatesOf (lent n (now (starts .entry)) (now (neighbours .entry))) (now (nodes .entry)) (root .node)) × (r ≤ n) × Only n (now (nodes .entry)) (now (numbers .exit)) ⌝ }
+{
+    keep_level(nodes, root.last, numbers);
+    let count = label(n, starts, neighbours, nodes, 0, numbers, queue, found);
+    least(n, starts, neighbours, nodes, numbers, count, found);
+    count
+}
+
+// The levels from node r: they stand in the numbers, and the number of the last one is told. O(length + entries of the region).
+fn levels_from(
+    n: usize,
+    starts: &[u32],
+    neighbours: &[u16],
+    nodes: &[u16],
+    r: u16,
+    numbers: &mut [u16],
+    queue: &mut [u16],
+) -> Root
+    requires { ⌜ Regional (lent n (now starts) (now neighbours)) (now nodes) (now numbers) (now queue) × (isIn r (now nodes) ≡ true) ⌝ }
+    ensures { λ x. ⌜ (x .node ≡ r) × Rooted (lent n (now (starts .entry)) (now (neighbours .entry))) (now (nodes .entry)) r (x .last) × Standing (lent n (now (starts .entry)) (now (neighbours .entry))) (now (nodes .entry)) r (now (numbers .exit)) ⌝ }
+{
+    fill(nodes, FRESH, numbers);
+    let w = walk(n, starts, neighbours, r, numbers, queue);
+    let last = w.last;
+    Root { node: r, last }
+}
+
+// The first of the candidates whose last level has a greater number than the root's, whose levels then stand in the numbers; the root where there is none. O(candidates · entries of the region).
+fn first_better(
+    n: usize,
+    starts: &[u32],
+    neighbours: &[u16],
+    nodes: &[u16],
+    root: Root,
+    count: usize,
+    found: &[u16],
+    numbers: &mut [u16],
+    queue: &mut [u16],
+) -> Root
+    requires { ⌜ Regional (lent n (now starts) (now neighbours)) (now nodes) (now numbers) (now queue) × Rooted (lent n (now starts) (now neighbours)) (now nodes) (root .node) (root .last) ⌝ }
+    requires { ⌜ (count ≤ length (now found)) × ((x : ℕ) → isIn x (take count (now found)) ≡ true → isIn x (now nodes) ≡ true) ⌝ }
+    ensures { λ r. ⌜ (r .node ≡ headD (keep (improves (lent n (now (starts .entry)) (now (neighbours .entry))) (now (nodes .entry)) (root .node)) (take count (now (found .entry)))) (root .node)) × Better (lent n (now (starts .entry)) (now (neighbours .entry))) (now (nodes .entry)) (root .last) (r .node) (r .last) (now (numbers .exit)) ⌝ }
+{
+    for c in 0..count {
+        let next = levels_from(n, starts, neighbours, nodes, found[c], numbers, queue);
+        if next.last > root.last {
+            return next;
+        }
+    }
+    root
+}
+
+// The root after one turn of the search. O(candidates · entries of the region).
+fn improve(
+    n: usize,
+    starts: &[u32],
+    neighbours: &[u16],
+    nodes: &[u16],
+    root: Root,
+    numbers: &mut [u16],
+    queue: &mut [u16],
+    found: &mut [u16],
+) -> Root
+    requires { ⌜ Regional (lent n (now starts) (now neighbours)) (now nodes) (now numbers) (now queue) × (n < length (now found)) ⌝ }
+    requires { ⌜ Rooted (lent n (now starts) (now neighbours)) (now nodes) (root .node) (root .last) × Standing (lent n (now starts) (now neighbours)) (now nodes) (root .node) (now numbers) ⌝ }
+    ensures { λ r. ⌜ (r .node ≡ nextRoot (lent n (now (starts .entry)) (now (neighbours .entry))) (now (nodes .entry)) (root .node)) × Better (lent n (now (starts .entry)) (now (neighbours .entry))) (now (nodes .entry)) (root .last) (r .node) (r .last) (now (numbers .exit)) ⌝ }
+{
+    let count = candidates(n, starts, neighbours, nodes, root, numbers, queue, found);
+    first_better(
+        n,
+        starts,
+        neighbours,
+        nodes,
+        root,
+        count,
+        found,
+        numbers,
+        queue,
+    )
+}
+
+// The number of the last level from the region's pseudo-peripheral root, whose levels then stand in the numbers. Each turn of the search has more levels than the one before.
+pub fn search(
+    n: usize,
+    starts: &[u32],
+    neighbours: &[u16],
+    nodes: &[u16],
+    numbers: &mut [u16],
+    queue: &mut [u16],
+    found: &mut [u16],
+) -> u16
+    requires { ⌜ Regional (lent n (now starts) (now neighbours)) (now nodes) (now numbers) (now queue) × (n < length (now found)) ⌝ }
+    ensures { λ r. ⌜ Rooted (lent n (now (starts .entry)) (now (neighbours .entry))) (now (nodes .entry)) (rootOf (lent n (now (starts .entry)) (now (neighbours .entry))) (now (nodes .entry))) r × Standing (lent n (now (starts .entry)) (now (neighbours .entry))) (now (nodes .entry)) (rootOf (lent n (now (starts .entry)) (now (neighbours .entry))) (now (nodes .entry))) (now (numbers .exit)) ⌝ }
+{
+    let mut root = levels_from(n, starts, neighbours, nodes, nodes[0], numbers, queue);
+    loop {
+        let next = improve(n, starts, neighbours, nodes, root, numbers, queue, found);
+        if next.last <= root.last {
+            break;
+        }
+        root = next;
+    }
+    let w = levels_from(n, starts, neighbours, nodes, root.node, numbers, queue);
+    w.last
+}
