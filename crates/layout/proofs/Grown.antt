@@ -1,0 +1,146 @@
+-- A buffer that is written from its front on, part by part; the rows of the first columns, written so, and where each column starts in them.
+use mathlib.Core.Path.{_≡_, refl, sym, ap, subst, _∙_}
+use mathlib.Core.List.{List, [], _∷_, _++_, map, flatten, append-assoc, append-nil, map-append}
+use Prim.Native.Nat.{ℕ, zero, suc, _+_, _-_, _≤_, _<_}
+use native.Mathlib.Nat.{zero-add, add-zero}
+use native.Mathlib.Numerals.{add-one}
+use native.Mathlib.Omega.{arith}
+use lib.ListN.{length, take, drop, set, getD, length-append, length-take, length-drop, drop-of-length-le, List·getD-map}
+use lib.Seq.{take-all, take-at, drop-at, take-append-seam, drop-append-seam, drop-cons, set-append-seam, append-snoc, drop-drop, getD-take}
+use Rattle.plan.specs.Lists.{written, below, listAt, runningSums}
+use Rattle.plan.specs.Mesh.{Mesh}
+use Rattle.plan.specs.Elimination.{column, columns, startsOf}
+use Rattle.theory.proofs.Ranges.{upFrom-snoc}
+use Rattle.theory.proofs.Flatten.{flatten-append, flatten-nil, flatten-cons}
+use Rattle.theory.proofs.Compressed.{sums-first, sums-next, sums-length}
+use Rattle.theory.proofs.Slots.{counts-length, column-number}
+use Rattle.mesh.specs.Lent.{ListWithin}
+use Rattle.layout.specs.Arrays.{rowsOf}
+
+module _ {A : Type 0} where
+  -- one element more, stored at the end of what is written
+  pub written-push : (l found : List A) (i : ℕ) (v : A) → length l ≡ i → i < length found → set (written l found) i v ≡ written (l ++ (v ∷ [])) found
+  written-push l found i v e h =
+      let q : length l < length found = omega arith in
+      let n : length (l ++ (v ∷ [])) ≡ suc (length l) = length-append l (v ∷ []) ∙ omega arith in
+      rw (← e, drop-cons found (length l) v q, set-append-seam, n, append-snoc)
+
+  -- a part from the end of what is written to the buffer's end, itself written over, and back in its place
+  written-part : (l new found : List A) (i k : ℕ) → length l ≡ i → length (drop i (written l found)) ≤ k
+      → take i (written l found) ++ (written new (take k (drop i (written l found))) ++ drop k (drop i (written l found))) ≡ written (l ++ new) found
+  written-part l new found i k e m =
+      rw (take-all k (drop i (written l found)) m, drop-of-length-le (drop i (written l found)) m, append-nil, ← e, take-append-seam, drop-append-seam, drop-drop, length-append, append-assoc)
+
+  -- the same, as it is met: a call that was lent `&mut rows[at..]` left `last` there
+  pub written-grow : (found rows l new last : List A) (at : ℕ) → rows ≡ written l found → at ≡ length l → last ≡ written new (take (length rows - at) (drop at rows))
+      → take at rows ++ (last ++ drop (length rows - at) (drop at rows)) ≡ written (l ++ new) found
+  written-grow found rows l new last at e f g =
+      rw (g, e) (written-part l new found at (length (written l found) - at) (sym f) (rw length-drop (omega arith)))
+
+  -- what is written stands at the front
+  pub written-again : (l found : List A) → written l (written l found) ≡ written l found
+  written-again l found = ap (λ (x : List A). l ++ x) (drop-append-seam l (drop (length l) found))
+
+  -- what is written over something shorter hides it
+  pub written-over : (l new found : List A) → written (l ++ new) (written l found) ≡ written (l ++ new) found
+  written-over l new found =
+      ap (λ (x : List A). (l ++ new) ++ x)
+      (ap (λ (k : ℕ). drop k (l ++ drop (length l) found)) (length-append l new)
+      ∙ sym (drop-drop (length new) (length l) (l ++ drop (length l) found))
+      ∙ ap (drop (length new)) (drop-append-seam l (drop (length l) found))
+      ∙ drop-drop (length new) (length l) found
+      ∙ ap (λ (k : ℕ). drop k found) (sym (length-append l new)))
+
+-- ---- the rows of the first columns
+
+module _ (m : Mesh) (order : List ℕ) where
+  -- no column
+  pub rows-none : rowsOf m order 0 ≡ []
+  unfolding rowsOf
+  rows-none = flatten-nil
+
+  -- one column more
+  pub rows-more : (j : ℕ) → rowsOf m order (j + 1) ≡ rowsOf m order j ++ column m order j
+  unfolding rowsOf
+  rows-more j =
+      ap (λ (k : ℕ). flatten (map (column m order) (below k))) (add-one j)
+      ∙ ap (λ (l : List ℕ). flatten (map (column m order) l)) (upFrom-snoc 0 j ∙ ap (λ (k : ℕ). below j ++ (k ∷ [])) (zero-add j))
+      ∙ ap flatten (map-append (column m order) (below j) (j ∷ []))
+      ∙ flatten-append (map (column m order) (below j)) (column m order j ∷ [])
+      ∙ ap (λ (l : List ℕ). rowsOf m order j ++ l) (flatten-cons (column m order j) [] ∙ ap (λ (l : List ℕ). column m order j ++ l) flatten-nil ∙ append-nil (column m order j))
+
+  -- all columns
+  pub rows-all : rowsOf m order (m .nodes) ≡ flatten (columns m order)
+  unfolding rowsOf columns
+  rows-all = refl
+
+  -- those of fewer columns stand in front
+  rows-front : (k j : ℕ) → (rest : List ℕ) × (rowsOf m order (j + k) ≡ rowsOf m order j ++ rest)
+  rows-front zero j = ([], ap (rowsOf m order) (add-zero j) ∙ sym (append-nil (rowsOf m order j)))
+  rows-front (suc k) j =
+      let r = rows-front k j in
+      let e : j + suc k ≡ j + k + 1 = omega arith in
+      (r .0 ++ column m order (j + k), ap (rowsOf m order) e ∙ rows-more (j + k) ∙ ap (λ (l : List ℕ). l ++ column m order (j + k)) (r .1) ∙ append-assoc (rowsOf m order j) (r .0) (column m order (j + k)))
+
+  -- the same, of two numbers of columns
+  rows-split : (j k : ℕ) → j ≤ k → (rest : List ℕ) × (rowsOf m order k ≡ rowsOf m order j ++ rest)
+  rows-split j k le =
+      let e : k ≡ j + (k - j) = omega arith in
+      let r = rows-front (k - j) j in
+      (r .0, ap (rowsOf m order) e ∙ r .1)
+
+  -- and are no more
+  rows-fewer : (j k : ℕ) → j ≤ k → length (rowsOf m order j) ≤ length (rowsOf m order k)
+  rows-fewer j k le = let r = rows-split j k le in omega (arith, ap length (r .1), length-append (rowsOf m order j) (r .0))
+
+  -- ---- the starts
+
+  -- in the book's list of starts, start j is the number of the rows before column j
+  starts-rows : (j : ℕ) → j ≤ m .nodes → getD (startsOf (columns m order)) j 0 ≡ length (rowsOf m order j)
+  unfolding startsOf rowsOf
+  starts-rows zero le = simp append-nil at (sums-first 0 (map length (columns m order)) []) ∙ sym (ap length (flatten-nil {A = ℕ}))
+  starts-rows (suc j) le =
+      let next : getD (runningSums 0 (map length (columns m order))) (j + 1) 0 ≡ getD (runningSums 0 (map length (columns m order))) j 0 + getD (map length (columns m order)) j 0 =
+      simp append-nil at (sums-next 0 (map length (columns m order)) [] j (omega (arith, counts-length m order))) in
+      let size : getD (map length (columns m order)) j 0 ≡ length (column m order j) = List·getD-map length (columns m order) j [] ∙ ap length (column-number m order j le) in
+      subst (λ (k : ℕ). getD (startsOf (columns m order)) k 0 ≡ length (rowsOf m order k)) (add-one j)
+      (omega (arith, next, size, starts-rows j (omega arith), ap length (rows-more j), length-append (rowsOf m order j) (column m order j)))
+
+  module _ (columnStarts : List ℕ) (s : take (m .nodes + 1) columnStarts ≡ startsOf (columns m order)) where
+    -- there is one behind the last column
+    pub starts-long : m .nodes < length columnStarts
+    unfolding startsOf
+    starts-long = omega (arith, ap length s, length-take (m .nodes + 1) columnStarts, sums-length 0 (map length (columns m order)), counts-length m order)
+
+    -- and so it is in the array
+    pub start-at : (j : ℕ) → j ≤ m .nodes → getD columnStarts j 0 ≡ length (rowsOf m order j)
+    start-at j le = sym (getD-take (m .nodes + 1) columnStarts j 0 (omega arith)) ∙ ap (λ (l : List ℕ). getD l j 0) s ∙ starts-rows j le
+
+    -- the next start is as much greater as the column has rows
+    pub start-next : (j : ℕ) → j < m .nodes → getD columnStarts (j + 1) 0 ≡ getD columnStarts j 0 + length (column m order j)
+    start-next j lt = omega (arith, start-at j (omega arith), start-at (j + 1) (omega arith), ap length (rows-more j), length-append (rowsOf m order j) (column m order j))
+
+    -- a column of those that are written is found by its starts
+    pub column-found : (rows : List ℕ) (j c : ℕ) → j ≤ m .nodes → c < j → rows ≡ written (rowsOf m order j) rows → listAt columnStarts rows c ≡ column m order c
+    unfolding listAt
+    column-found rows j c le lt e =
+        let r = rows-split (c + 1) j (omega arith) in
+        let size : getD columnStarts (c + 1) 0 - getD columnStarts c 0 ≡ length (column m order c) = omega (arith, start-next c (omega arith)) in
+        let split : rows ≡ rowsOf m order c ++ (column m order c ++ (r .0 ++ drop (length (rowsOf m order j)) rows)) =
+        e
+        ∙ ap (λ (l : List ℕ). l ++ drop (length (rowsOf m order j)) rows) (r .1 ∙ ap (λ (l : List ℕ). l ++ r .0) (rows-more c))
+        ∙ append-assoc (rowsOf m order c ++ column m order c) (r .0) (drop (length (rowsOf m order j)) rows)
+        ∙ append-assoc (rowsOf m order c) (column m order c) (r .0 ++ drop (length (rowsOf m order j)) rows) in
+        rw size
+        (ap (λ (l : List ℕ). take (length (column m order c)) (drop (getD columnStarts c 0) l)) split
+        ∙ ap (take (length (column m order c))) (drop-at (rowsOf m order c) (column m order c ++ (r .0 ++ drop (length (rowsOf m order j)) rows)) (getD columnStarts c 0) (sym (start-at c (omega arith))))
+        ∙ take-at (column m order c) (r .0 ++ drop (length (rowsOf m order j)) rows) (length (column m order c)) refl)
+
+    -- each column has its place within the rows
+    pub column-within : (rows : List ℕ) → length (flatten (columns m order)) ≤ length rows → (c : ℕ) → c < m .nodes → ListWithin columnStarts rows c
+    column-within rows room c lt =
+        record {
+          started = omega (arith, starts-long);
+          ordered = omega (arith, start-next c lt);
+          ended = omega (arith, start-at (c + 1) (omega arith), rows-fewer (c + 1) (m .nodes) (omega arith), ap length rows-all);
+        }

@@ -1,0 +1,46 @@
+-- What the working arrays hold while row i is counted, by climbing from its earlier neighbours.
+use mathlib.Core.Path.{_≡_}
+use mathlib.Core.Logic.{_≢_}
+use mathlib.Core.Bool.{true, cond}
+use mathlib.Core.List.{List}
+use Prim.Native.Nat.{ℕ, _+_, _≤_, _<_}
+use lib.Dec.{eqb}
+use lib.ListN.{length, getD}
+use Rattle.plan.specs.Mesh.{Mesh, maxNodes}
+use Rattle.theory.specs.Rows.{isRow, firstRow}
+use Rattle.layout.specs.Arrays.{parentBelow, rowsBelow}
+
+-- no row from i on has marked a column
+abbrev pub Unmarked : ℕ → ℕ → List ℕ → Type 0
+Unmarked n i marks = (k r : ℕ) → k < n → i ≤ r → r < n → getD marks k 0 ≢ r
+
+-- the first row that is not counted in column k: i + 1 where the column has row i's mark, i elsewhere
+abbrev pub counted : List ℕ → ℕ → ℕ → ℕ
+counted marks i k = cond (eqb (getD marks k 0) i) (i + 1) i
+
+-- Row i, counted as far as its marks tell: the marked columns have the row, and with a column its parent is marked, but for the parent `next`, which is yet to be looked at. Position i has the mark too.
+pub record Climbing (m : Mesh) (order : List ℕ) (i next : ℕ) (tree marks counts : List ℕ) : Type 0 where
+  pub parent : (k : ℕ) → k < m .nodes → getD tree k 0 ≡ parentBelow m order (counted marks i k) k
+  pub rows : (k : ℕ) → k < m .nodes → getD counts k 0 ≡ rowsBelow m order (counted marks i k) k
+  pub self : getD marks i 0 ≡ i
+  pub sound : (k : ℕ) → k < m .nodes → k ≢ i → getD marks k 0 ≡ i → isRow m order i k ≡ true
+  pub closed : (k : ℕ) → k < m .nodes → getD marks k 0 ≡ i → firstRow m order k < i → firstRow m order k ≢ next → getD marks (firstRow m order k) 0 ≡ i
+  pub unmarked : Unmarked (m .nodes) (i + 1) marks
+
+-- what a climb starts from: row i of a mesh in an order, and a column that has it, unless the column is not before i
+pub record Climbable (i start : ℕ) (tree marks counts : List ℕ) : Type 0 where
+  pub mesh : Mesh
+  pub order : List ℕ
+  pub few : mesh .nodes ≤ maxNodes
+  pub inside : i < mesh .nodes
+  pub roomTree : mesh .nodes ≤ length tree
+  pub roomMarks : mesh .nodes ≤ length marks
+  pub roomCounts : mesh .nodes ≤ length counts
+  pub climbing : Climbing mesh order i i tree marks counts
+  pub row : start < i → isRow mesh order i start ≡ true
+
+-- what it leaves: the column is marked, and so are those that were
+pub record Climbed (m : Mesh) (order : List ℕ) (i start : ℕ) (found tree marks counts : List ℕ) : Type 0 where
+  pub climbing : Climbing m order i i tree marks counts
+  pub reached : start < i → getD marks start 0 ≡ i
+  pub kept : (k : ℕ) → getD found k 0 ≡ i → getD marks k 0 ≡ i

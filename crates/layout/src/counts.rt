@@ -1,0 +1,147 @@
+// The elimination tree and the column counts, without storing a row: for each row the columns that have it are those met by climbing from its earlier neighbours.
+use mesh::list;
+use mesh::node;
+ghost use mathlib.Core.Path.{_≡_};
+ghost use mathlib.Core.Bool.{cond};
+ghost use mathlib.Core.List.{map};
+ghost use Prim.Native.Nat.{ℕ, _+_, _≤_, _<_};
+ghost use lib.Dec.{eqb};
+ghost use lib.ListN.{length, take, getD};
+ghost use Rattle.plan.specs.Lists.{total, runningSums, written};
+ghost use Rattle.plan.specs.Elimination.{columns, multiplications};
+ghost use Rattle.mesh.specs.Lent.{lent};
+ghost use Rattle.layout.specs.Arrays.{none, Ordered, CountedBelow, Tree};
+ghost use Rattle.layout.specs.Climbing.{Unmarked, Climbable, Climbed};
+
+// no position
+const NONE: u16 = 65535;
+
+// A column's parent once row i has touched it: i, unless an earlier row did. O(1).
+fn parent_of(parent: u16, i: u16) -> u16
+    ensures { λ r. ⌜ r ≡ cond (eqb parent none) i parent ⌝ }
+{
+    if parent == NONE {
+        return i;
+    }
+    parent
+}
+
+// From a neighbour's position up the elimination tree: each column that row i has not marked yet gets the mark and one row more. The mark of i itself ends the way. O(columns marked + 1).
+fn climb(i: u16, start: u16, tree: &mut [u16], marks: &mut [u16], counts: &mut [u16])
+    requires { ⌜ Climbable i start (now tree) (now marks) (now counts) ⌝ }
+    ensures { λ _. ⌜ ((w : Climbable i start (now (tree .entry)) (now (marks .entry)) (now (counts .entry))) → Climbed (w .mesh) (w .order) i start (now (marks .entry)) (now (tree .exit)) (now (marks .exit)) (now (counts .exit))) ⌝ }
+{
+    if start > i {
+        return;
+    }
+    let mut k = node(start);
+    while marks[k] != i {
+        let p = parent_of(tree[k], i);
+        tree[k] = p;
+        marks[k] = i;
+        counts[k] += 1;
+        k = node(p);
+    }
+}
+
+// Row i: up from each of its earlier neighbours. O(columns that have row i + degree).
+fn count_row(
+    n: usize,
+    starts: &[u32],
+    neighbours: &[u16],
+    order: &[u16],
+    positions: &[u16],
+    i: usize,
+    tree: &mut [u16],
+    marks: &mut [u16],
+    counts: &mut [u16],
+)
+    requires { ⌜ Ordered (lent n (now starts) (now neighbours)) (now order) (now positions) × (i < n) × (n ≤ length (now tree)) × (n ≤ length (now marks)) × (n ≤ length (now counts)) ⌝ }
+    requires { ⌜ CountedBelow (lent n (now starts) (now neighbours)) (now order) i (now tree) (now counts) × Unmarked n i (now marks) ⌝ }
+    ensures { λ _. ⌜ CountedBelow (lent n (now (starts .entry)) (now (neighbours .entry))) (now (order .entry)) (i + 1) (now (tree .exit)) (now (counts .exit)) × Unmarked n (i + 1) (now (marks .exit)) ⌝ }
+{
+    marks[i] = i as u16;
+    let entries = list(starts, neighbours, node(order[i]));
+    for e in 0..entries.len() {
+        climb(i as u16, positions[node(entries[e])], tree, marks, counts);
+    }
+}
+
+// The first n numbers are set to x. O(n).
+fn reset(n: usize, x: u16, numbers: &mut [u16])
+    requires { ⌜ n ≤ length (now numbers) ⌝ }
+    ensures { λ _. ⌜ ((k : ℕ) → k < n → getD (now (numbers .exit)) k 0 ≡ x) ⌝ }
+{
+    for k in 0..n {
+        numbers[k] = x;
+    }
+}
+
+// The elimination tree and the number of rows of each column. O(slots + entries) time, and no memory but the lent arrays.
+pub fn count_rows(
+    n: usize,
+    starts: &[u32],
+    neighbours: &[u16],
+    order: &[u16],
+    positions: &[u16],
+    tree: &mut [u16],
+    marks: &mut [u16],
+    counts: &mut [u16],
+)
+    requires { ⌜ Ordered (lent n (now starts) (now neighbours)) (now order) (now positions) × (n ≤ length (now tree)) × (n ≤ length (now marks)) × (n ≤ length (now counts)) ⌝ }
+    ensures { λ _. ⌜ (take n (now (counts .exit)) ≡ map length (columns (lent n (now (starts .entry)) (now (neighbours .entry))) (now (order .entry)))) × Tree (lent n (now (starts .entry)) (now (neighbours .entry))) (now (order .entry)) (now (tree .exit)) ⌝ }
+{
+    reset(n, NONE, tree);
+    reset(n, NONE, marks);
+    reset(n, 0, counts);
+    for i in 0..n {
+        count_row(
+            n,
+            starts,
+            neighbours,
+            order,
+            positions,
+            i,
+            tree,
+            marks,
+            counts,
+        );
+    }
+}
+
+// The number of all slots, and of the multiplications.
+pub struct Totals {
+    pub slots: u32,
+    pub multiplications: u64,
+}
+
+// The sums over the columns. O(n).
+pub fn sum(n: usize, counts: &[u16]) -> Totals
+    requires { ⌜ (n ≤ 4096) × (n ≤ length (now counts)) ⌝ }
+    ensures { λ r. ⌜ (r .slots ≡ total (take n (now (counts .entry)))) × (r .multiplications ≡ multiplications (take n (now (counts .entry)))) ⌝ }
+{
+    let mut slots: u32 = 0;
+    let mut multiplications: u64 = 0;
+    for j in 0..n {
+        let c = counts[j] as u64;
+        slots += counts[j] as u32;
+        multiplications += c * (c + 3) / 2;
+    }
+    Totals {
+        slots,
+        multiplications,
+    }
+}
+
+// Where each column's rows start, and behind the last one the number of all slots. O(n).
+pub fn write_starts(n: usize, counts: &[u16], columnStarts: &mut [u32])
+    requires { ⌜ (n ≤ 4096) × (n ≤ length (now counts)) × (n < length (now columnStarts)) ⌝ }
+    ensures { λ _. ⌜ now (columnStarts .exit) ≡ written (runningSums 0 (take n (now (counts .entry)))) (now (columnStarts .entry)) ⌝ }
+{
+    let mut start: u32 = 0;
+    columnStarts[0] = 0;
+    for j in 0..n {
+        start += counts[j] as u32;
+        columnStarts[j + 1] = start;
+    }
+}
