@@ -1,0 +1,251 @@
+-- Laws of planning: the checks of the lent buffers, and the plan from the order and the columns.
+use mathlib.Core.Path.{_≡_, refl, sym, ap, _∙_}
+use mathlib.Core.Bool.{Bool, true, false, cond, _||_}
+use mathlib.Core.List.{List, [], _∷_, _++_, map, flatten, map-map}
+use Prim.Native.Nat.{ℕ, zero, suc, _+_, _-_, _≤_, _<_}
+use native.Mathlib.Omega.{arith}
+use lib.Dec.{ltb}
+use lib.ListN.{length, getD, take, drop, length-append, List·getD-append}
+use borrow.Author.Tests.{ltb-true, ltb-false, lt-ltb, le-ltb}
+use Rattle.plan.specs.Lists.{every, below, indexOf, written, runningSums, total}
+use Rattle.plan.specs.declared.PlanAnswer.{PlanAnswer}
+use Rattle.plan.specs.declared.PlanAnswer.the-variants.{Accepted, Refused}
+use Rattle.plan.specs.declared.Plan.{Plan}
+use Rattle.plan.specs.Answers.{planReply}
+use Rattle.plan.specs.Refusals.{Checks, firstFault}
+use Rattle.plan.specs.Mesh.{Mesh, adjacent, meshChecks}
+use Rattle.plan.specs.Choice.{georgeLiu}
+use Rattle.plan.specs.Dissection.{positions}
+use Rattle.plan.specs.Steps.{byNumber}
+use Rattle.plan.specs.Elimination.{column, columns, startsOf, multiplications}
+use Rattle.plan.specs.Planning.{Contents, Buffers, Capacity, Filled, Planned, rowCounts, planBy, planOf, buffersTooShort, rowsTooShort, planChecks, planning, handOut, fill, capacity}
+use Rattle.theory.specs.Counting.{Order}
+use Rattle.theory.specs.Checked.{Checked}
+use Rattle.theory.proofs.Bools.{or-false-left, or-false-right, and-left, and-right}
+use Rattle.theory.proofs.Refusals.{no-fault, fault-here, no-fault-first}
+use Rattle.theory.proofs.Checked.{checked}
+use Rattle.theory.proofs.Planned.{handed-demand3}
+use Rattle.theory.proofs.Ranges.{map-ext-upFrom, length-map-upFrom, getD-map-below}
+use Rattle.theory.proofs.Lists.{front-written}
+use Rattle.theory.proofs.Compressed.{sums-length, total-lengths}
+use Rattle.theory.proofs.Orders.{order-length}
+use Rattle.theory.proofs.Slots.{column-counted, counts-length}
+use Rattle.theory.proofs.Choice.{georgeLiu-takes}
+use Rattle.theory.proofs.Dissection.{order-count, parts-few}
+use Rattle.layout.specs.Arrays.{Ordered}
+use Rattle.dissection.specs.Blocks.{planned, Dissected, blockSizes, blockParents}
+use Rattle.planner.specs.Lengths.{lengths, planningChecked, earlyChecks, FilledChecked}
+use Rattle.dissection.proofs.Heads.{dissected-parts}
+
+-- ---- checks
+
+-- every lent result but the rows is long enough
+pub record Room (n : ℕ) (room : Capacity) : Type 0 where
+  pub order : n ≤ room .order
+  pub positions : n ≤ room .positions
+  pub sizes : n ≤ room .sizes
+  pub parents : n ≤ room .parents
+  pub columnStarts : n < room .columnStarts
+
+-- it is where check 8 finds no fault
+pub enough-room : (n : ℕ) (room : Capacity) → buffersTooShort n room ≡ false → Room n room
+unfolding buffersTooShort
+enough-room n room h =
+    let o : Bool = ltb (room .order) n in
+    let p : Bool = ltb (room .positions) n in
+    let s : Bool = ltb (room .sizes) n in
+    let f : Bool = ltb (room .parents) n in
+    let c : Bool = ltb (room .columnStarts) (n + 1) in
+    let four : (o || p || s || f) ≡ false = or-false-left (o || p || s || f) c h in
+    let three : (o || p || s) ≡ false = or-false-left (o || p || s) f four in
+    let two : (o || p) ≡ false = or-false-left (o || p) s three in
+    record {
+      order = ltb-false (room .order) n (or-false-left o p two);
+      positions = ltb-false (room .positions) n (or-false-right o p two);
+      sizes = ltb-false (room .sizes) n (or-false-right (o || p) s three);
+      parents = ltb-false (room .parents) n (or-false-right (o || p || s) f four);
+      columnStarts = let l : n + 1 ≤ room .columnStarts = ltb-false (room .columnStarts) (n + 1) (or-false-right (o || p || s || f) c h) in omega arith;
+    }
+
+-- the first fault of checks is that of any longer list of them
+pub first-some : (xs ys : Checks) → (firstFault xs ≡ 0 → ⊥) → firstFault (xs ++ ys) ≡ firstFault xs
+unfolding firstFault
+first-some [] ys h = absurd (h refl)
+first-some (c ∷ xs) ys h = go (c .1) h (first-some xs ys)
+  where
+    go : (b : Bool) → (cond b (c .0) (firstFault xs) ≡ 0 → ⊥) → ((firstFault xs ≡ 0 → ⊥) → firstFault (xs ++ ys) ≡ firstFault xs) → cond b (c .0) (firstFault (xs ++ ys)) ≡ cond b (c .0) (firstFault xs)
+    go true h ih = refl
+    go false h ih = ih h
+
+-- whether the checks have numbers above 0
+abbrev pub numbered : Checks → Bool
+numbered cs = every (λ (c : ℕ × Bool). ltb 0 (c .0)) cs
+
+-- where checks find no fault, the first fault is that of the checks behind them
+pub first-none : (xs ys : Checks) → numbered xs ≡ true → firstFault xs ≡ 0 → firstFault (xs ++ ys) ≡ firstFault ys
+unfolding firstFault
+first-none [] ys above h = refl
+first-none (c ∷ xs) ys above h = go (c .1) h (first-none xs ys (and-right (ltb 0 (c .0)) (numbered xs) above))
+  where
+    go : (b : Bool) → cond b (c .0) (firstFault xs) ≡ 0 → (firstFault xs ≡ 0 → firstFault (xs ++ ys) ≡ firstFault ys) → cond b (c .0) (firstFault (xs ++ ys)) ≡ firstFault ys
+    go true h ih = absurd (omega (arith, ltb-true 0 (c .0) (and-left (ltb 0 (c .0)) (numbered xs) above)))
+    go false h ih = ih h
+
+-- those of a mesh have
+mesh-numbered : (m : Mesh) → numbered (meshChecks m) ≡ true
+unfolding meshChecks
+mesh-numbered m = refl
+
+-- behind a mesh that passes checks 1 to 7 the first fault is that of the checks to come
+pub mesh-passed : (m : Mesh) (cs : Checks) → firstFault (meshChecks m) ≡ 0 → firstFault (meshChecks m ++ cs) ≡ firstFault cs
+mesh-passed m cs h = first-none (meshChecks m) cs (mesh-numbered m) h
+
+-- what checks 1 to 8 tell where they find no fault
+pub early-passed : (m : Mesh) (room : Capacity) → firstFault (earlyChecks m room) ≡ 0 → Checked m × (buffersTooShort (m .nodes) room ≡ false)
+early-passed m room h =
+    let eighth : Checks = (8, buffersTooShort (m .nodes) room) ∷ [] in
+    let passes : firstFault (meshChecks m) ≡ 0 = no-fault-first (meshChecks m) eighth h in
+    (checked m passes, no-fault 8 (buffersTooShort (m .nodes) room) [] (omega arith) (sym (mesh-passed m eighth passes) ∙ h) .0)
+
+-- ---- the order at the front of an array
+
+-- an order holds each number below its own length once
+pub order-own : (n : ℕ) (nodes : List ℕ) → Order n nodes → Order (length nodes) nodes
+order-own n nodes once = rw (order-length n nodes once) once
+
+-- the positions that an order's nodes are given are theirs
+pub inverted : (m : Mesh) (nodes found left : List ℕ) → Checked m → Order (m .nodes) nodes → left ≡ written (positions (length nodes) nodes) found → Ordered m nodes left
+unfolding positions
+inverted m nodes found left good once e =
+    let n : ℕ = m .nodes in
+    let ps : List ℕ = map (λ v. indexOf v nodes) (below n) in
+    let long : length ps ≡ n = length-map-upFrom (λ v. indexOf v nodes) n 0 in
+    let same : left ≡ ps ++ drop (length ps) found = rw (order-length n nodes once) at e in
+    record {
+      checked = good;
+      once = once;
+      placed = λ v l. rw same (List·getD-append ps (drop (length ps) found) 0 v (omega arith) ∙ getD-map-below (λ v. indexOf v nodes) 0 n v l);
+      long = omega (arith, ap length same, length-append ps (drop (length ps) found));
+    }
+
+-- ---- the columns of an order
+
+-- the running sums of counted columns are their starts
+pub starts-written : (m : Mesh) (nodes counts found left : List ℕ) → take (m .nodes) counts ≡ map length (columns m nodes)
+    → left ≡ written (runningSums 0 (take (m .nodes) counts)) found → left ≡ written (startsOf (columns m nodes)) found
+unfolding startsOf
+starts-written m nodes counts found left same e = rw same at e
+
+-- and stand at the front of their buffer
+pub starts-front : (m : Mesh) (nodes found left : List ℕ) → left ≡ written (startsOf (columns m nodes)) found → take (m .nodes + 1) left ≡ startsOf (columns m nodes)
+unfolding startsOf
+starts-front m nodes found left e =
+    front-written (m .nodes + 1) (runningSums 0 (map length (columns m nodes))) found left e (omega (arith, sums-length 0 (map length (columns m nodes)), counts-length m nodes))
+
+-- ---- the dissection in its arrays
+
+-- the order at the front of its array holds each node once
+pub dissected-order : (m : Mesh) (held heads : List ℕ) (count : ℕ) → Dissected m held heads count → Order (m .nodes) (take (m .nodes) held)
+unfolding planned
+dissected-order m held heads count d = rw (d .order) (order-count (adjacent m) (georgeLiu m) (georgeLiu-takes m) (m .nodes))
+
+-- and there are no more parts than nodes
+pub parts-within : (m : Mesh) (held heads : List ℕ) (count : ℕ) → Dissected m held heads count → count ≤ m .nodes
+unfolding planned
+parts-within m held heads count d = omega (arith, d .many, parts-few (adjacent m) (georgeLiu m) (georgeLiu-takes m) (m .nodes))
+
+-- the plan that the arrays give
+unfoldable pub heldPlan : Mesh → List ℕ → List ℕ → ℕ → Contents
+heldPlan m held heads count =
+    let cols : List (List ℕ) = columns m (take (m .nodes) held) in
+    record {
+      nodes = m .nodes;
+      parts = count;
+      slots = length (flatten cols);
+      order = take (m .nodes) held;
+      sizes = blockSizes (take (m .nodes) heads);
+      parents = byNumber count (blockParents (take (m .nodes) heads));
+      columnStarts = startsOf cols;
+      rows = flatten cols;
+    }
+
+-- it is the mesh's
+pub held-planned : (m : Mesh) → Checked m → (held heads : List ℕ) (count : ℕ) → Dissected m held heads count → heldPlan m held heads count ≡ planOf m
+unfolding heldPlan planOf planBy planned
+held-planned m good held heads count d =
+    let f = dissected-parts m good held heads count d in
+    rw (d .order, f .1, f .2, d .many)
+
+-- the row counts of a plan are the lengths of its columns
+pub row-counts : (m : Mesh) (held heads : List ℕ) (count : ℕ) → rowCounts (heldPlan m held heads count) ≡ map length (columns m (take (m .nodes) held))
+unfolding rowCounts heldPlan columns
+row-counts m held heads count =
+    let nodes : List ℕ = take (m .nodes) held in
+    map-ext-upFrom (λ j. getD (startsOf (columns m nodes)) (j + 1) 0 - getD (startsOf (columns m nodes)) j 0) (λ j. length (column m nodes j)) (m .nodes) 0
+    (λ j l h. column-counted m nodes j (omega arith))
+    ∙ sym (map-map length (column m nodes) (below (m .nodes)))
+
+-- ---- what is handed out
+
+-- a refusal leaves all as found
+pub filled-refused : (k : ℕ) (c : Contents) (found : Buffers) → (k ≡ 0 → ⊥) → Filled (handOut k c) (Refused k) found found
+unfolding handOut fill
+filled-refused zero c found h = absurd (h refl)
+filled-refused (suc k) c found h = record { reply = refl; order = refl; positions = refl; sizes = refl; parents = refl; columnStarts = refl; rows = refl }
+
+-- the slots of the order's columns are the plan's
+pub held-slots : (m : Mesh) → Checked m → (held heads : List ℕ) (count : ℕ) → Dissected m held heads count → length (flatten (columns m (take (m .nodes) held))) ≡ planOf m .slots
+unfolding heldPlan
+held-slots m good held heads count d = ap (λ (c : Contents). c .slots) (held-planned m good held heads count d)
+
+-- and so are those that are counted
+pub counted-slots : (m : Mesh) → Checked m → (held heads : List ℕ) (count : ℕ) → Dissected m held heads count → (counts : List ℕ)
+    → take (m .nodes) counts ≡ map length (columns m (take (m .nodes) held)) → total (take (m .nodes) counts) ≡ planOf m .slots
+counted-slots m good held heads count d counts same = ap total same ∙ total-lengths (columns m (take (m .nodes) held)) ∙ held-slots m good held heads count d
+
+-- the answer is the plan's
+pub held-reply : (m : Mesh) (held heads : List ℕ) (count : ℕ) (counts : List ℕ) (slots products : ℕ) (p : Plan) → take (m .nodes) counts ≡ map length (columns m (take (m .nodes) held))
+    → slots ≡ total (take (m .nodes) counts) → products ≡ multiplications (take (m .nodes) counts)
+    → p ≡ record { nodes = m .nodes; parts = count; slots = slots; multiplications = products } → planReply (Accepted p) ≡ handOut 0 (heldPlan m held heads count) .reply
+unfolding handOut
+held-reply m held heads count counts slots products p same s k e =
+    rw (e, s, k, same, total-lengths (columns m (take (m .nodes) held)), row-counts m held heads count) (unfold heldPlan in refl)
+
+-- where the slots find no room, check 9 refuses
+pub checked-refused : (m : Mesh) (found : Buffers) → length (found .rows) < planOf m .slots → FilledChecked m (Refused 9) found found
+unfolding planningChecked rowsTooShort capacity
+checked-refused m found short =
+    rw (fault-here 9 (ltb (length (found .rows)) (planOf m .slots)) [] (lt-ltb (length (found .rows)) (planOf m .slots) short)) (filled-refused 9 (planOf m) found (λ e. omega arith))
+
+-- and else the plan of the arrays is handed out
+pub checked-accepted : (m : Mesh) → Checked m → (held heads : List ℕ) (count : ℕ) → Dissected m held heads count
+    → (answer : PlanAnswer) (found left : Buffers) → planOf m .slots ≤ length (found .rows) → Filled (handOut 0 (heldPlan m held heads count)) answer found left → FilledChecked m answer found left
+unfolding planningChecked rowsTooShort capacity firstFault
+checked-accepted m good held heads count d answer found left room h =
+    rw (le-ltb (length (found .rows)) (planOf m .slots) room, ← held-planned m good held heads count d) h
+
+-- ---- planning
+
+-- how long the buffers are, but for the rows
+abbrev pub lengthsOf : Buffers → Capacity
+lengthsOf b = lengths (length (b .order)) (length (b .positions)) (length (b .sizes)) (length (b .parents)) (length (b .columnStarts)) 0
+
+-- an outcome of planning fulfils its promise
+promised : (m : Mesh) (answer : PlanAnswer) (found left : Buffers) → Filled (planning m (capacity found)) answer found left → Planned m answer found left
+promised m answer found left h = record { filled = h; demand3 = handed-demand3 m (capacity found) answer found left h }
+
+-- what checks 1 to 8 refuse is refused
+pub planned-refused : (m : Mesh) (found : Buffers) (k : ℕ) → k ≡ firstFault (earlyChecks m (lengthsOf found)) → (k ≡ 0 → ⊥) → Planned m (Refused k) found found
+unfolding planning planChecks buffersTooShort capacity
+planned-refused m found k e some =
+    let nine : Checks = (9, rowsTooShort (planOf m) (capacity found)) ∷ [] in
+    let first : firstFault (planChecks m (capacity found)) ≡ k = unfold meshChecks in first-some (earlyChecks m (lengthsOf found)) nine (λ z. some (e ∙ z)) ∙ sym e in
+    promised m (Refused k) found found (rw first (filled-refused k (planOf m) found some))
+
+-- and where they find no fault, check 9 is left
+pub planned-checked : (m : Mesh) (answer : PlanAnswer) (found left : Buffers) → firstFault (earlyChecks m (lengthsOf found)) ≡ 0 → FilledChecked m answer found left → Planned m answer found left
+unfolding planning planChecks planningChecked buffersTooShort capacity
+planned-checked m answer found left e h =
+    let nine : Checks = (9, rowsTooShort (planOf m) (capacity found)) ∷ [] in
+    let first : firstFault (planChecks m (capacity found)) ≡ firstFault nine = unfold meshChecks in first-none (earlyChecks m (lengthsOf found)) nine refl e in
+    promised m answer found left (rw first h)

@@ -1,0 +1,240 @@
+// Planning: from a lent mesh to its plan in lent buffers, or the first refusal.
+use dissection::dissect;
+use dissection::write_order;
+use dissection::write_parts;
+use layout::count_rows;
+use layout::invert;
+use layout::sum;
+use layout::write_columns;
+use layout::write_starts;
+use mesh::check;
+use mesh::index;
+use plan::Plan;
+use plan::PlanAnswer;
+ghost use mathlib.Core.Path.{_≡_};
+ghost use mathlib.Core.Bool.{false};
+ghost use mathlib.Core.List.{map, flatten};
+ghost use Prim.Native.Nat.{_≤_, _<_};
+ghost use lib.ListN.{length, take};
+ghost use Rattle.plan.specs.Refusals.{firstFault};
+ghost use Rattle.plan.specs.Planning.{buffersTooShort, Planned};
+ghost use Rattle.mesh.specs.Lent.{lent};
+ghost use Rattle.plan.specs.Lists.{written};
+ghost use Rattle.plan.specs.Dissection.{positions as positionsOf};
+ghost use Rattle.plan.specs.Elimination.{columns, startsOf};
+ghost use Rattle.theory.specs.Counting.{Order};
+ghost use Rattle.theory.specs.Checked.{Checked};
+ghost use Rattle.layout.specs.Arrays.{Ordered, Tree};
+ghost use Rattle.planner.specs.Lengths.{lengths, buffers, earlyChecks, FilledChecked};
+
+// Check 8: a lent result other than the rows is too short. O(1).
+fn too_short(
+    n: usize,
+    order: usize,
+    positions: usize,
+    sizes: usize,
+    parents: usize,
+    columnStarts: usize,
+) -> bool
+    ensures { λ r. ⌜ r ≡ buffersTooShort n (lengths order positions sizes parents columnStarts 0) ⌝ }
+{
+    if order < n {
+        return true;
+    }
+    if positions < n {
+        return true;
+    }
+    if sizes < n {
+        return true;
+    }
+    if parents < n {
+        return true;
+    }
+    columnStarts <= n
+}
+
+// The first refusal of checks 1 to 8, 0 for none. O(n + entries · log degree).
+fn refusal(
+    n: usize,
+    starts: &[u32],
+    neighbours: &[u16],
+    order: usize,
+    positions: usize,
+    sizes: usize,
+    parents: usize,
+    columnStarts: usize,
+) -> u32
+    ensures { λ r. ⌜ r ≡ firstFault (earlyChecks (lent n (now (starts .entry)) (now (neighbours .entry))) (lengths order positions sizes parents columnStarts 0)) ⌝ }
+{
+    let fault = check(n, starts, neighbours);
+    if fault != 0 {
+        return fault;
+    }
+    if too_short(n, order, positions, sizes, parents, columnStarts) {
+        return 8;
+    }
+    0
+}
+
+// Room for a position each. O(4,096).
+fn no_positions() -> [u16; 4096]
+    ensures { λ r. ⌜ length r ≡ 4096 ⌝ }
+{
+    [0; 4096]
+}
+
+// The positions, the elimination tree and the column counts of the order at the front of an array. O(slots + entries).
+fn count_columns(
+    n: usize,
+    starts: &[u32],
+    neighbours: &[u16],
+    held: &[u16; 4096],
+    places: &mut [u16],
+    tree: &mut [u16],
+    marks: &mut [u16],
+    counts: &mut [u16],
+)
+    requires { ⌜ Checked (lent n (now starts) (now neighbours)) × (length (now held) ≡ 4096) × Order n (take n (now held)) ⌝ }
+    requires { ⌜ (n ≤ length (now places)) × (n ≤ length (now tree)) × (n ≤ length (now marks)) × (n ≤ length (now counts)) ⌝ }
+    ensures { λ _. ⌜ Ordered (lent n (now (starts .entry)) (now (neighbours .entry))) (take n (now (held .entry))) (now (places .exit)) ⌝ }
+    ensures { λ _. ⌜ (take n (now (counts .exit)) ≡ map length (columns (lent n (now (starts .entry)) (now (neighbours .entry))) (take n (now (held .entry))))) × Tree (lent n (now (starts .entry)) (now (neighbours .entry))) (take n (now (held .entry))) (now (tree .exit)) ⌝ }
+{
+    let all = &held[..];
+    let nodes = &all[..n];
+    invert(nodes, places);
+    count_rows(n, starts, neighbours, nodes, places, tree, marks, counts);
+}
+
+// The layout of the order at the front of an array: positions, column starts and rows. O(slots + entries + the ways up the elimination tree).
+fn lay_out(
+    n: usize,
+    starts: &[u32],
+    neighbours: &[u16],
+    held: &[u16; 4096],
+    places: &[u16],
+    tree: &[u16],
+    counts: &[u16],
+    positions: &mut [u16],
+    columnStarts: &mut [u32],
+    rows: &mut [u16],
+)
+    requires { ⌜ (length (now held) ≡ 4096) × Ordered (lent n (now starts) (now neighbours)) (take n (now held)) (now places) × (n ≤ length (now tree)) × Tree (lent n (now starts) (now neighbours)) (take n (now held)) (now tree) ⌝ }
+    requires { ⌜ (n ≤ length (now counts)) × (take n (now counts) ≡ map length (columns (lent n (now starts) (now neighbours)) (take n (now held)))) ⌝ }
+    requires { ⌜ (n ≤ length (now positions)) × (n < length (now columnStarts)) × (length (flatten (columns (lent n (now starts) (now neighbours)) (take n (now held)))) ≤ length (now rows)) ⌝ }
+    ensures { λ _. ⌜ now (positions .exit) ≡ written (positionsOf n (take n (now (held .entry)))) (now (positions .entry)) ⌝ }
+    ensures { λ _. ⌜ now (columnStarts .exit) ≡ written (startsOf (columns (lent n (now (starts .entry)) (now (neighbours .entry))) (take n (now (held .entry))))) (now (columnStarts .entry)) ⌝ }
+    ensures { λ _. ⌜ now (rows .exit) ≡ written (flatten (columns (lent n (now (starts .entry)) (now (neighbours .entry))) (take n (now (held .entry))))) (now (rows .entry)) ⌝ }
+{
+    let all = &held[..];
+    let nodes = &all[..n];
+    invert(nodes, positions);
+    write_starts(n, counts, columnStarts);
+    write_columns(
+        n,
+        starts,
+        neighbours,
+        nodes,
+        places,
+        tree,
+        columnStarts,
+        rows,
+    );
+}
+
+// The plan of a mesh that has passed checks 1 to 8, or refusal 9 once the slots are counted. Nothing is written before.
+fn plan_checked(
+    n: usize,
+    starts: &[u32],
+    neighbours: &[u16],
+    order: &mut [u16],
+    positions: &mut [u16],
+    sizes: &mut [u16],
+    parents: &mut [u16],
+    columnStarts: &mut [u32],
+    rows: &mut [u16],
+) -> PlanAnswer
+    requires { ⌜ Checked (lent n (now starts) (now neighbours)) ⌝ }
+    requires { ⌜ buffersTooShort n (lengths (length (now order)) (length (now positions)) (length (now sizes)) (length (now parents)) (length (now columnStarts)) 0) ≡ false ⌝ }
+    ensures { λ r. ⌜ FilledChecked (lent n (now (starts .entry)) (now (neighbours .entry))) r
+        (buffers (now (order .entry)) (now (positions .entry)) (now (sizes .entry)) (now (parents .entry)) (now (columnStarts .entry)) (now (rows .entry)))
+        (buffers (now (order .exit)) (now (positions .exit)) (now (sizes .exit)) (now (parents .exit)) (now (columnStarts .exit)) (now (rows .exit))) ⌝ }
+{
+    let d = dissect(n, starts, neighbours);
+    let mut places = no_positions();
+    let mut tree = no_positions();
+    let mut marks = no_positions();
+    let mut counts = no_positions();
+    count_columns(
+        n,
+        starts,
+        neighbours,
+        &d.order,
+        &mut places,
+        &mut tree,
+        &mut marks,
+        &mut counts,
+    );
+    let totals = sum(n, &counts);
+    let slots = totals.slots;
+    if rows.len() < index(slots) {
+        return PlanAnswer::Refused(9);
+    }
+    let count = d.parts;
+    write_order(n, &d.order, order);
+    write_parts(n, &d.heads, count, sizes, parents);
+    lay_out(
+        n,
+        starts,
+        neighbours,
+        &d.order,
+        &places,
+        &tree,
+        &counts,
+        positions,
+        columnStarts,
+        rows,
+    );
+    PlanAnswer::Accepted(Plan::new(n as u32, count as u32, slots, totals.multiplications))
+}
+
+// Planning: checks 1 to 9 in their order, then the plan in the lent buffers.
+pub fn plan(
+    n: usize,
+    starts: &[u32],
+    neighbours: &[u16],
+    order: &mut [u16],
+    positions: &mut [u16],
+    sizes: &mut [u16],
+    parents: &mut [u16],
+    columnStarts: &mut [u32],
+    rows: &mut [u16],
+) -> PlanAnswer
+    ensures { λ r. ⌜ Planned (lent n (now (starts .entry)) (now (neighbours .entry))) r
+        (buffers (now (order .entry)) (now (positions .entry)) (now (sizes .entry)) (now (parents .entry)) (now (columnStarts .entry)) (now (rows .entry)))
+        (buffers (now (order .exit)) (now (positions .exit)) (now (sizes .exit)) (now (parents .exit)) (now (columnStarts .exit)) (now (rows .exit))) ⌝ }
+{
+    let fault = refusal(
+        n,
+        starts,
+        neighbours,
+        order.len(),
+        positions.len(),
+        sizes.len(),
+        parents.len(),
+        columnStarts.len(),
+    );
+    if fault != 0 {
+        return PlanAnswer::Refused(fault);
+    }
+    plan_checked(
+        n,
+        starts,
+        neighbours,
+        order,
+        positions,
+        sizes,
+        parents,
+        columnStarts,
+        rows,
+    )
+}
