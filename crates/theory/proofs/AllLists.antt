@@ -2,9 +2,9 @@
 use mathlib.Core.Path.{_≡_}
 use mathlib.Core.Bool.{true}
 use mathlib.Core.List.{reverseAux, List, [], _∷_, flatten, _++_}
-use Prim.Native.Nat.{ℕ, _<_, _≤_}
+use Prim.Native.Nat.{ℕ, zero, suc, _<_, _≤_}
 use native.Mathlib.Omega.{arith}
-use lib.ListN.{length, length-append}
+use lib.ListN.{length, getD, length-append}
 use Rattle.plan.specs.Lists.{isIn}
 use Rattle.theory.specs.Regions.{All}
 use Rattle.theory.proofs.Lists.{isIn-append-left, isIn-append-right}
@@ -13,6 +13,12 @@ use Rattle.theory.proofs.Lists.{isIn-append-left, isIn-append-right}
 pub all-map : (P Q : List ℕ → Type 0) → ((l : List ℕ) → P l → Q l) → (ls : List (List ℕ)) → All P ls → All Q ls
 all-map P Q f [] all = tt
 all-map P Q f (l ∷ ls) all = (f l (all .0), all-map P Q f ls (all .1))
+
+-- what holds of each list holds of the one at a place
+pub all-getD : (P : List ℕ → Type 0) (ls : List (List ℕ)) → All P ls → (i : ℕ) → i < length ls → P (getD ls i [])
+all-getD P [] all i h = absurd (omega arith)
+all-getD P (l ∷ ls) all zero h = all .0
+all-getD P (l ∷ ls) all (suc i) h = all-getD P ls (all .1) i (omega arith)
 
 -- what holds of each list of the first and of the second holds of each of both together
 pub all-append : (P : List ℕ → Type 0) (xs ys : List (List ℕ)) → All P xs → All P ys → All P (xs ++ ys)

@@ -1,15 +1,15 @@
 -- Ascending lists: a set of numbers has one of them.
-use mathlib.Core.Path.{_≡_, refl, sym, ap₂, _∙_}
+use mathlib.Core.Path.{_≡_, refl, sym, ap, ap₂, _∙_}
 use mathlib.Core.Logic.{inl, inr}
 use mathlib.Core.Bool.{Bool, true, false, cond, false≢true}
 use mathlib.Core.List.{List, [], _∷_, headD}
 use Prim.Native.Nat.{ℕ, zero, suc, _≤_, _<_}
 use native.Mathlib.Omega.{arith}
-use lib.Dec.{ltb}
-use lib.ListN.{length, getD}
-use borrow.Author.Tests.{ltb-true, lt-ltb, ltb-false}
+use lib.Dec.{eqb, ltb}
+use lib.ListN.{length, getD, take, drop}
+use borrow.Author.Tests.{eq-eqb, ltb-true, lt-ltb, ltb-false}
 use Rattle.plan.specs.Lists.{falls, keep, upFrom, below, isIn, ascending}
-use Rattle.theory.proofs.Bools.{or-false-left, or-false-right, and-left, and-right, and-both, iff-eq}
+use Rattle.theory.proofs.Bools.{or-false-left, or-false-right, and-left, and-right, and-both, clash, iff-eq}
 use Rattle.theory.proofs.Lists.{isIn-head, isIn-tail, isIn-cons, isIn-getD, of-keep}
 use Rattle.theory.proofs.Ranges.{isIn-upFrom}
 
@@ -61,6 +61,35 @@ headD-least d [] h x t = absurd (false≢true t)
 headD-least d (y ∷ ys) h x t = elim (isIn-cons x y ys t) [
   | inl e ↦ omega arith
   | inr u ↦ omega (arith, ascending-lt y ys h x u)
+]
+
+-- an ascending list begins with its least element
+pub first-least : (l : List ℕ) (x : ℕ) → ascending l ≡ true → isIn x l ≡ true → ((y : ℕ) → isIn y l ≡ true → x ≤ y) → l ≡ x ∷ drop 1 l
+first-least [] x h m f = absurd (false≢true m)
+first-least (y ∷ l) x h m f = elim (isIn-cons x y l m) [
+  | inl e ↦ ap (λ (z : ℕ). z ∷ l) (sym e)
+  | inr t ↦ absurd (omega (arith, ascending-lt y l h x t, f y (isIn-head y l)))
+]
+
+-- in an ascending list the elements in front of a place are less than the one at it
+pub front-less : (l : List ℕ) → ascending l ≡ true → (i x : ℕ) → i < length l → isIn x (take i l) ≡ true → x < getD l i 0
+front-less [] h i x lt m = absurd (omega arith)
+front-less (y ∷ l) h zero x lt m = absurd (false≢true m)
+front-less (y ∷ l) h (suc i) x lt m = elim (isIn-cons x y (take i l) m) [
+  | inl e ↦ omega (arith, e, ascending-lt y l h (getD l i 0) (isIn-getD l i 0 (omega arith)))
+  | inr t ↦ front-less l (ascending-tail y l h) i x (omega arith) t
+]
+
+-- and the others are not
+pub back-least : (l : List ℕ) → ascending l ≡ true → (i x : ℕ) → i < length l → isIn x l ≡ true → isIn x (take i l) ≡ false → getD l i 0 ≤ x
+back-least [] h i x lt m f = absurd (omega arith)
+back-least (y ∷ l) h zero x lt m f = elim (isIn-cons x y l m) [
+  | inl e ↦ omega arith
+  | inr t ↦ omega (arith, ascending-lt y l h x t)
+]
+back-least (y ∷ l) h (suc i) x lt m f = elim (isIn-cons x y l m) [
+  | inl e ↦ clash (eqb x y) (eq-eqb x y e) (or-false-left (eqb x y) (isIn x (take i l)) f)
+  | inr t ↦ back-least l (ascending-tail y l h) i x (omega arith) t (or-false-right (eqb x y) (isIn x (take i l)) f)
 ]
 
 -- two ascending lists with the same elements are equal

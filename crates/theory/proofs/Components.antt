@@ -6,7 +6,7 @@ use mathlib.Core.List.{List, [], _∷_, map, headD, flatten}
 use Prim.Native.Nat.{ℕ, zero, suc, _+_, _≤_, _<_}
 use native.Mathlib.Omega.{arith}
 use lib.Dec.{eqb}
-use lib.ListN.{length, getD}
+use lib.ListN.{length, getD, drop}
 use lib.Seq.{take-length}
 use borrow.Author.Tests.{not-true, eqb-true, eq-eqb}
 use Rattle.plan.specs.Lists.{keep, isIn, without, ascending}
@@ -14,11 +14,12 @@ use Rattle.plan.specs.Levels.{Graph, levelsBack, levels, component, componentsU
 use Rattle.plan.specs.Enough.{ComponentsWhole}
 use Rattle.theory.specs.Counting.{count}
 use Rattle.theory.specs.Regions.{All, Apart, Walk, stay, go, Connected, Region}
-use Rattle.theory.proofs.Bools.{or-left, clash, cond-true, eqb-same, lt-or-le}
+use Rattle.theory.proofs.Bools.{or-left, clash, iff-eq, cond-true, eqb-same, lt-or-le}
 use Rattle.theory.proofs.Lists.{isIn-head, isIn-tail, isIn-cons, isIn-append-right, isIn-append-cases, exists-isIn, in-keep, of-keep}
 use Rattle.theory.proofs.Flatten.{isIn-flatten-take, isIn-flatten-reverse, isIn-flatten-head}
+use Rattle.theory.proofs.AllLists.{lists-few}
 use Rattle.theory.proofs.Ascending.{ascending-tail, ascending-lt, ascending-cons, ascending-keep}
-use Rattle.theory.proofs.Counting.{count-append, count-le, same-members, count-part}
+use Rattle.theory.proofs.Counting.{count-append, count-le, same-members, same-length, count-part}
 use Rattle.theory.proofs.Levels.{Levelled, first, after, of-next, levelled, root-reached, reached-closed, levels-end}
 
 -- the first node of each list
@@ -146,6 +147,39 @@ module _ (edge : Graph) where
   unfolding components
   components-same most nodes l = same-up-to most (length nodes) nodes l (omega arith)
 
+  -- the empty set has none
+  pub components-none : components edge [] ≡ []
+  unfolding components
+  components-none = none-up-to 0
+
+  -- the first component is that of the first node, and the others are the components of what is left
+  components-cons : (v : ℕ) (nodes : List ℕ)
+      → components edge (v ∷ nodes) ≡ component edge (v ∷ nodes) v ∷ components edge (without (component edge (v ∷ nodes) v) (v ∷ nodes))
+  unfolding components componentsUpTo
+  components-cons v nodes =
+      let c : List ℕ = component edge (v ∷ nodes) v in
+      ap (λ (cs : List (List ℕ)). c ∷ cs)
+      (components-same (length nodes) (without c nodes) (few-left v nodes (length nodes) (omega arith)) ∙ ap (components edge) (left-of v nodes))
+
+  -- the same of a set that begins with v
+  pub components-next : (v : ℕ) (nodes : List ℕ) → nodes ≡ v ∷ drop 1 nodes
+      → components edge nodes ≡ component edge nodes v ∷ components edge (without (component edge nodes v) nodes)
+  components-next v nodes e =
+      subst (λ (l : List ℕ). components edge l ≡ component edge l v ∷ components edge (without (component edge l v) l)) (sym e) (components-cons v (drop 1 nodes))
+
+  -- together they hold just the nodes of the set
+  pub in-components : (nodes : List ℕ) (v : ℕ) → isIn v (flatten (components edge nodes)) ≡ isIn v nodes
+  in-components nodes v = iff-eq _ _
+      (same-members (flatten (components edge nodes)) nodes (components-count nodes) v)
+      (same-members nodes (flatten (components edge nodes)) (λ p. sym (components-count nodes p)) v)
+
+  -- a node of one of them is a node of the set
+  pub component-inside : (nodes : List ℕ) (c v : ℕ) → c < length (components edge nodes) → isIn v (getD (components edge nodes) c []) ≡ true → isIn v nodes ≡ true
+  component-inside nodes c v lt m =
+      sym (in-components nodes v)
+      ∙ ap (λ (ls : List (List ℕ)). isIn v (flatten ls)) (sym (take-length (components edge nodes)))
+      ∙ isIn-flatten-take (components edge nodes) (length (components edge nodes)) c v lt m
+
   -- no edge leads from one of them to a later one
   pub components-apart : (nodes : List ℕ) → Apart edge (components edge nodes)
   unfolding components
@@ -181,6 +215,11 @@ module _ (edge : Graph) where
   pub components-some : (nodes : List ℕ) → All (λ r. 0 < length r) (components edge nodes)
   unfolding components
   components-some nodes = some-up-to (length nodes) nodes
+
+  -- so there are no more of them than nodes
+  pub components-few : (nodes : List ℕ) → length (components edge nodes) ≤ length nodes
+  components-few nodes =
+      omega (arith, lists-few (components edge nodes) (components-some nodes), same-length (flatten (components edge nodes)) nodes (components-count nodes))
 
   -- ---- connected
 

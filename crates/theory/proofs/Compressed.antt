@@ -2,9 +2,10 @@
 use mathlib.Core.Path.{_≡_, refl, sym, ap, _∙_}
 use mathlib.Core.Bool.{false}
 use mathlib.Core.List.{List, [], _∷_, _++_, map, flatten, append-assoc}
-use Prim.Native.Nat.{ℕ, zero, suc, _+_, _-_, _<_}
+use Prim.Native.Nat.{ℕ, zero, suc, _+_, _-_, _≤_, _<_}
+use native.Mathlib.Numerals.{add-one}
 use native.Mathlib.Omega.{arith}
-use lib.ListN.{length, getD, length-append}
+use lib.ListN.{length, take, getD, length-append}
 use lib.Seq.{take-at, drop-at}
 use borrow.Author.Tests.{le-ltb}
 use Rattle.plan.specs.Lists.{listAt, total, runningSums, falls}
@@ -40,6 +41,29 @@ sums-rise a (c ∷ (d ∷ cs)) = rw (le-ltb (a + c) a (omega arith)) (sums-rise 
 pub total-lengths : (ls : List (List ℕ)) → total (map length ls) ≡ length (flatten ls)
 total-lengths [] = ap length (sym flatten-nil)
 total-lengths (l ∷ ls) = omega (arith, total-lengths ls, ap length (flatten-cons l ls), length-append l (flatten ls))
+
+-- behind list c the next one begins
+pub lengths-more : (ls : List (List ℕ)) (c : ℕ) → total (map length (take (c + 1) ls)) ≡ total (map length (take c ls)) + length (getD ls c [])
+lengths-more ls c = rw add-one (go ls c)
+  where
+    go : (ls : List (List ℕ)) (c : ℕ) → total (map length (take (suc c) ls)) ≡ total (map length (take c ls)) + length (getD ls c [])
+    go [] zero = refl
+    go [] (suc c) = refl
+    go (l ∷ ls) zero = omega arith
+    go (l ∷ ls) (suc c) = omega (arith, go ls c)
+
+-- a later list does not begin before an earlier one
+pub lengths-mono : (ls : List (List ℕ)) (c d : ℕ) → c ≤ d → total (map length (take c ls)) ≤ total (map length (take d ls))
+lengths-mono ls zero d h = omega arith
+lengths-mono [] (suc c) d h = omega arith
+lengths-mono (l ∷ ls) (suc c) zero h = absurd (omega arith)
+lengths-mono (l ∷ ls) (suc c) (suc d) h = omega (arith, lengths-mono ls c d (omega arith))
+
+-- none begins behind the last place
+pub lengths-within : (ls : List (List ℕ)) (c : ℕ) → total (map length (take c ls)) ≤ length (flatten ls)
+lengths-within ls zero = omega arith
+lengths-within [] (suc c) = omega arith
+lengths-within (l ∷ ls) (suc c) = omega (arith, lengths-within ls c, ap length (flatten-cons l ls), length-append l (flatten ls))
 
 -- behind entries that do not count, with the first start after them, each list is found by its starts, whatever stands behind
 list-from : (ls : List (List ℕ)) (a : ℕ) (front more rest : List ℕ) → length front ≡ a → (j : ℕ) → j < length ls

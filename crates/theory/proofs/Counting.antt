@@ -4,15 +4,17 @@ use mathlib.Core.Logic.{_⊎_, inl, inr}
 use mathlib.Core.Bool.{Bool, true, false, not, cond, false≢true, _&&_}
 use mathlib.Core.List.{reverseAux, reverse, List, [], _∷_, _++_, map, map-append, flatten}
 use Prim.Native.Nat.{ℕ, zero, suc, _+_, _-_, _≤_, _<_, _*_}
+use native.Mathlib.Numerals.{add-one}
 use native.Mathlib.Nat.{zero-add}
 use native.Mathlib.Omega.{arith}
 use lib.Dec.{eqb, ltb}
-use lib.ListN.{length, getD}
+use lib.ListN.{length, getD, take, drop, take-append-drop}
+use lib.Seq.{take-suc, split-at, getD-at}
 use borrow.Author.Tests.{eq-eqb, ne-eqb, le-ltb, eqb-true, ltb-true, lt-ltb}
 use Rattle.plan.specs.Lists.{total, occurrences, exists, keep, upFrom, below, isIn, without}
 use Rattle.theory.specs.Counting.{count, Alike}
 use Rattle.theory.proofs.Bools.{or-cases, or-left, or-right, and-left, and-right, and-both, tested, clash, refuted, iff-eq, eq-or-ne, lt-or-le}
-use Rattle.theory.proofs.Lists.{isIn-head, isIn-tail, isIn-cons, isIn-getD, none-exists, keep-ext, without-keep}
+use Rattle.theory.proofs.Lists.{isIn-head, isIn-tail, isIn-cons, isIn-getD, none-exists, keep-ext, keep-append, without-keep}
 use Rattle.theory.proofs.Ranges.{isIn-upFrom, upFrom-add, upFrom-snoc}
 use Rattle.theory.proofs.Sums.{total-append}
 
@@ -43,6 +45,26 @@ count-all (x ∷ l) = ap suc (count-all l)
 pub count-le : (p : ℕ → Bool) (l : List ℕ) → count p l ≤ length l
 count-le p [] = omega arith
 count-le p (x ∷ l) = omega (arith, count-cons p x l, unit-le (p x), count-le p l)
+
+-- one more element of a list is tried
+pub count-more : (p : ℕ → Bool) (l : List ℕ) (i : ℕ) → i < length l → count p (take (i + 1) l) ≡ count p (take i l) + unit (p (getD l i 0))
+count-more p l i lt =
+    rw (add-one, take-suc l i 0 lt) (omega (arith, count-append p (take i l) (getD l i 0 ∷ []), count-cons p (getD l i 0) []))
+
+-- no more pass up to a place than in all
+pub count-front : (p : ℕ → Bool) (l : List ℕ) (i : ℕ) → count p (take i l) ≤ count p l
+count-front p l i = omega (arith, ap (count p) (take-append-drop i l), count-append p (take i l) (drop i l))
+
+-- an element that passes comes behind those before it that do
+pub keep-next : (p : ℕ → Bool) (l : List ℕ) (i : ℕ) → i < length l → p (getD l i 0) ≡ true → getD (keep p l) (count p (take i l)) 0 ≡ getD l i 0
+keep-next p l i lt t =
+    let v : ℕ = getD l i 0 in
+    let tail : List ℕ = drop (suc i) l in
+    ap (λ (x : List ℕ). getD x (count p (take i l)) 0)
+    (ap (keep p) (split-at l i 0 lt)
+    ∙ keep-append p (take i l) (v ∷ tail)
+    ∙ ap (λ (b : Bool). keep p (take i l) ++ cond b (v ∷ keep p tail) (keep p tail)) t)
+    ∙ getD-at (keep p (take i l)) v (keep p tail) 0 (count p (take i l)) refl
 
 -- something passes exactly where the count is not 0
 pub exists-count : (p : ℕ → Bool) (l : List ℕ) → exists p l ≡ true → 0 < count p l

@@ -1,12 +1,15 @@
 -- Lists of lists, one behind the other.
 use mathlib.Core.Path.{_≡_, refl, sym, ap, _∙_}
-use mathlib.Core.Bool.{Bool, true, false, _||_, false≢true, or-assoc, or-comm, or-false}
-use mathlib.Core.List.{getLastD, reverseAux, reverse, List, [], _∷_, flatten, _++_, append-assoc, headD}
-use Prim.Native.Nat.{ℕ, _<_, zero, suc}
+use mathlib.Core.Logic.{inl, inr}
+use mathlib.Core.Bool.{Bool, true, _||_, false≢true, or-assoc, or-comm, or-false}
+use mathlib.Core.List.{getLastD, reverseAux, reverse, List, [], _∷_, flatten, _++_, append-nil, append-assoc, headD}
+use Prim.Native.Nat.{ℕ, _+_, _<_, zero, suc}
+use native.Mathlib.Numerals.{add-one}
 use native.Mathlib.Omega.{arith}
-use lib.ListN.{take, getD}
+use lib.ListN.{length, take, getD}
+use lib.Seq.{take-suc}
 use Rattle.plan.specs.Lists.{isIn}
-use Rattle.theory.proofs.Lists.{isIn-append-left, isIn-append-right, isIn-append}
+use Rattle.theory.proofs.Lists.{isIn-append-left, isIn-append-right, isIn-append-cases, isIn-append}
 
 module _ {A : Type 0} where
   pub flatten-append : (xs ys : List (List A)) → flatten (xs ++ ys) ≡ flatten xs ++ flatten ys
@@ -21,6 +24,24 @@ module _ {A : Type 0} where
   pub flatten-cons : (x : List A) (xs : List (List A)) → flatten (x ∷ xs) ≡ x ++ flatten xs
   unfolding flatten
   flatten-cons x xs = refl
+
+  -- one more list
+  pub flatten-more : (ls : List (List A)) (k : ℕ) → k < length ls → flatten (take (k + 1) ls) ≡ flatten (take k ls) ++ getD ls k []
+  flatten-more ls k lt =
+      rw (add-one, take-suc ls k [] lt, flatten-append (take k ls) (getD ls k [] ∷ []), flatten-cons (getD ls k []) [], flatten-nil, append-nil (getD ls k []))
+
+-- an element is in the first list, or in one behind it
+pub isIn-flatten-cons : (x : ℕ) (l : List ℕ) (ls : List (List ℕ)) → isIn x (flatten (l ∷ ls)) ≡ (isIn x l || isIn x (flatten ls))
+isIn-flatten-cons x l ls = ap (isIn x) (flatten-cons l ls) ∙ isIn-append x l (flatten ls)
+
+-- an element of several lists together is in one of them
+pub of-flatten : (ls : List (List ℕ)) (x : ℕ) → isIn x (flatten ls) ≡ true → (i : ℕ) × (i < length ls) × (isIn x (getD ls i []) ≡ true)
+unfolding flatten
+of-flatten [] x h = absurd (false≢true h)
+of-flatten (l ∷ ls) x h = elim (isIn-append-cases x l (flatten ls) h) [
+  | inl m ↦ (0, omega arith, m)
+  | inr m ↦ (let r = of-flatten ls x m in (suc (r .0), omega (arith, r .1), r .2))
+]
 
 -- an element of one of the first k lists is in them together
 pub isIn-flatten-take : (ls : List (List ℕ)) (k i x : ℕ) → i < k → isIn x (getD ls i []) ≡ true → isIn x (flatten (take k ls)) ≡ true

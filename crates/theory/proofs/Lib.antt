@@ -1,5 +1,7 @@
 pub mod Bools
 pub mod Lists
+pub mod Segments
+pub mod Written
 pub mod Ranges
 pub mod Flatten
 pub mod AllLists

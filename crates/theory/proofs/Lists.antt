@@ -1,16 +1,17 @@
--- Laws of the book's lists: membership, tests over lists, what passes a test, places; and lists the other way round.
+-- Laws of the book's lists: membership, tests over lists, what passes a test, places; and any list by its places, and the other way round.
 use mathlib.Core.Path.{_≡_, refl, sym, ap, _∙_}
 use mathlib.Core.Logic.{_⊎_, inl, inr}
-use mathlib.Core.Bool.{Bool, true, false, not, _&&_, _||_, cond, false≢true}
-use mathlib.Core.List.{List, [], _∷_, _++_, map, reverse, reverse-cons, reverse-append}
-use Prim.Native.Nat.{ℕ, zero, suc, _-_, _≤_, _<_}
+use mathlib.Core.Bool.{Bool, true, false, not, _&&_, _||_, cond, false≢true, or-false, or-assoc}
+use mathlib.Core.List.{List, [], _∷_, _++_, map, headD, getLastD, append-nil, reverse, reverse-cons, reverse-append}
+use Prim.Native.Nat.{ℕ, zero, suc, _+_, _-_, _≤_, _<_}
+use native.Mathlib.Numerals.{add-one}
 use native.Mathlib.Omega.{arith}
 use lib.Dec.{eqb}
-use lib.ListN.{length, getD, take, drop, take-append-drop, length-drop, length-reverse}
-use lib.Seq.{drop-cons, getD-take, take-at, getD-at}
+use lib.ListN.{length, getD, take, drop, take-append-drop, length-drop, length-reverse, drop-of-length-le}
+use lib.Seq.{take-suc, drop-cons, getD-take, take-at, getD-at}
 use borrow.Author.Tests.{eqb-true, eq-eqb}
-use Rattle.plan.specs.Lists.{written, exists, every, keep, isIn, without, indexOf}
-use Rattle.theory.proofs.Bools.{or-cases, or-left, or-right, and-left, and-right, and-both, clash, refuted, iff-eq, eqb-same}
+use Rattle.plan.specs.Lists.{exists, every, keep, isIn, without, indexOf}
+use Rattle.theory.proofs.Bools.{or-cases, or-left, or-right, and-left, and-right, and-both, clash, refuted, iff-eq, cond-true, cond-false, eqb-same}
 
 -- ---- membership
 
@@ -41,10 +42,13 @@ isIn-append-cases x (y ∷ xs) ys h = elim (or-cases (eqb x y) (isIn x (xs ++ ys
   | inr m ↦ elim (isIn-append-cases x xs ys m) [ inl a ↦ inl (or-right (eqb x y) _ a) | inr a ↦ inr a ]
 ]
 
+-- an element of one of two lists passes a test
+pub exists-append : (p : ℕ → Bool) (xs ys : List ℕ) → exists p (xs ++ ys) ≡ (exists p xs || exists p ys)
+exists-append p [] ys = refl
+exists-append p (x ∷ xs) ys = rw (exists-append p xs ys) (sym (or-assoc (p x) (exists p xs) (exists p ys)))
+
 pub isIn-append : (x : ℕ) (xs ys : List ℕ) → isIn x (xs ++ ys) ≡ (isIn x xs || isIn x ys)
-isIn-append x xs ys = iff-eq _ _
-    (λ h. elim (isIn-append-cases x xs ys h) [ inl a ↦ or-left (isIn x xs) _ a | inr a ↦ or-right (isIn x xs) _ a ])
-    (λ h. elim (or-cases (isIn x xs) (isIn x ys) h) [ inl a ↦ isIn-append-left x xs ys a | inr a ↦ isIn-append-right x xs ys a ])
+isIn-append x xs ys = exists-append (eqb x) xs ys
 
 pub isIn-getD : (l : List ℕ) (i d : ℕ) → i < length l → isIn (getD l i d) l ≡ true
 isIn-getD [] i d h = absurd (omega arith)
@@ -103,6 +107,22 @@ exists-none p l h x m = refuted (p x) (λ t. clash (exists p l) (isIn-exists p l
 pub none-exists : (p : ℕ → Bool) (l : List ℕ) → ((x : ℕ) → isIn x l ≡ true → p x ≡ false) → exists p l ≡ false
 none-exists p l f = refuted (exists p l) (λ t. let r = exists-isIn p l t in clash (p (r .0)) (r .2) (f (r .0) (r .1)))
 
+-- one more element of a list is tried
+pub exists-more : (p : ℕ → Bool) (l : List ℕ) (i : ℕ) → i < length l → exists p (take (i + 1) l) ≡ (exists p (take i l) || p (getD l i 0))
+exists-more p l i h = rw (add-one, take-suc l i 0 h, exists-append p (take i l) (getD l i 0 ∷ []), or-false (p (getD l i 0)))
+
+-- tests that agree pass together
+pub exists-ext : (p q : ℕ → Bool) (l : List ℕ) → ((x : ℕ) → p x ≡ q x) → exists p l ≡ exists q l
+exists-ext p q [] f = refl
+exists-ext p q (x ∷ l) f = rw (f x, exists-ext p q l f)
+
+-- lists with the same members pass the same tests
+pub exists-same : (p : ℕ → Bool) (xs ys : List ℕ) → ((x : ℕ) → isIn x xs ≡ isIn x ys) → exists p xs ≡ exists p ys
+exists-same p xs ys h = iff-eq _ _ (half xs ys h) (half ys xs (λ x. sym (h x)))
+  where
+    half : (xs ys : List ℕ) → ((x : ℕ) → isIn x xs ≡ isIn x ys) → exists p xs ≡ true → exists p ys ≡ true
+    half xs ys h t = let r = exists-isIn p xs t in isIn-exists p ys (r .0) (sym (h (r .0)) ∙ r .1) (r .2)
+
 -- a test of mapped elements
 pub exists-map : (p : ℕ → Bool) (f : ℕ → ℕ) (l : List ℕ) → exists p (map f l) ≡ exists (λ x. p (f x)) l
 exists-map p f [] = refl
@@ -158,10 +178,34 @@ keep-keep p q (y ∷ l) = go (q y) (keep-keep p q l)
     go true e = rw e
     go false e = e
 
+-- what passes of two lists, one behind the other
+pub keep-append : (p : ℕ → Bool) (xs ys : List ℕ) → keep p (xs ++ ys) ≡ keep p xs ++ keep p ys
+keep-append p [] ys = refl
+keep-append p (x ∷ xs) ys = go (p x) (keep-append p xs ys)
+  where
+    go : (b : Bool) → keep p (xs ++ ys) ≡ keep p xs ++ keep p ys → cond b (x ∷ keep p (xs ++ ys)) (keep p (xs ++ ys)) ≡ cond b (x ∷ keep p xs) (keep p xs) ++ keep p ys
+    go true e = ap (λ (l : List ℕ). x ∷ l) e
+    go false e = e
+
+-- one more element of a list is tried
+pub keep-more : (p : ℕ → Bool) (l : List ℕ) (i : ℕ) → i < length l
+    → keep p (take (i + 1) l) ≡ cond (p (getD l i 0)) (keep p (take i l) ++ (getD l i 0 ∷ [])) (keep p (take i l))
+keep-more p l i h = rw (add-one, take-suc l i 0 h) (keep-append p (take i l) (getD l i 0 ∷ []) ∙ go (p (getD l i 0)))
+  where
+    go : (b : Bool) → keep p (take i l) ++ cond b (getD l i 0 ∷ []) [] ≡ cond b (keep p (take i l) ++ (getD l i 0 ∷ [])) (keep p (take i l))
+    go true = refl
+    go false = append-nil (keep p (take i l))
+
 -- a list kept from another by some test
 pub record Kept (region l : List ℕ) : Type 0 where
   pub test : ℕ → Bool
   pub same : l ≡ keep test region
+
+-- it is what the other list has in common with it
+pub kept-own : (region l : List ℕ) → Kept region l → keep (λ v. isIn v l) region ≡ l
+kept-own region l k =
+    keep-ext (λ v. isIn v l) (k .test) region (λ v m. ap (isIn v) (k .same) ∙ isIn-keep (k .test) region v ∙ ap (λ (b : Bool). b && k .test v) m)
+    ∙ sym (k .same)
 
 pub keep-all : (l : List ℕ) → keep (λ v. true) l ≡ l
 keep-all [] = refl
@@ -207,11 +251,25 @@ indexOf-lt (y ∷ ys) x h = go (eqb x y) refl h (indexOf-lt ys x)
     go true e m ih = omega arith
     go false e m ih = omega (arith, ih m)
 
--- ---- a buffer
+-- ---- a scan for the first element that passes, where those before place i fail
 
--- the front of a buffer once entries are written there
-pub front-written : (k : ℕ) (entries found left : List ℕ) → left ≡ written entries found → length entries ≡ k → take k left ≡ entries
-front-written k entries found left e h = rw e (take-at entries (drop (length entries) found) k h)
+-- the element at place i fails too
+pub scan-miss : (p : ℕ → Bool) (l : List ℕ) (i : ℕ) → i < length l → keep p l ≡ keep p (drop i l) → p (getD l i 0) ≡ false → keep p l ≡ keep p (drop (i + 1) l)
+scan-miss p l i h e t =
+    e ∙ ap (keep p) (drop-cons l i 0 h) ∙ cond-false (p (getD l i 0)) (getD l i 0 ∷ keep p (drop (suc i) l)) (keep p (drop (suc i) l)) t
+    ∙ ap (λ (k : ℕ). keep p (drop k l)) (sym (add-one i))
+
+-- or it is the first that passes
+pub scan-hit : (p : ℕ → Bool) (l : List ℕ) (i d : ℕ) → i < length l → keep p l ≡ keep p (drop i l) → p (getD l i 0) ≡ true → headD (keep p l) d ≡ getD l i 0
+unfolding headD
+scan-hit p l i d h e t =
+    ap (λ (k : List ℕ). headD k d)
+    (e ∙ ap (keep p) (drop-cons l i 0 h) ∙ cond-true (p (getD l i 0)) (getD l i 0 ∷ keep p (drop (suc i) l)) (keep p (drop (suc i) l)) t)
+
+-- or none is left, so that none passes
+pub scan-none : (p : ℕ → Bool) (l : List ℕ) (i d : ℕ) → length l ≤ i → keep p l ≡ keep p (drop i l) → headD (keep p l) d ≡ d
+unfolding headD
+scan-none p l i d h e = ap (λ (k : List ℕ). headD k d) (e ∙ ap (keep p) (drop-of-length-le l h))
 
 -- ---- any list: a place in it, and the list the other way round
 
@@ -221,6 +279,32 @@ module _ {A : Type 0} where
   getD-default [] i d e h = absurd (omega arith)
   getD-default (x ∷ l) zero d e h = refl
   getD-default (x ∷ l) (suc i) d e h = getD-default l i d e (omega arith)
+
+  -- the first element by its place
+  pub headD-getD : (l : List A) (d : A) → headD l d ≡ getD l 0 d
+  unfolding headD
+  headD-getD [] d = refl
+  headD-getD (x ∷ l) d = refl
+
+  -- and the last
+  pub getLastD-getD : (l : List A) (d : A) → getLastD l d ≡ getD l (length l - 1) d
+  unfolding getLastD
+  getLastD-getD [] d = refl
+  getLastD-getD (x ∷ []) d = refl
+  getLastD-getD (x ∷ (y ∷ l)) d =
+      let e : suc (suc (length l)) - 1 ≡ suc (suc (length l) - 1) = omega arith in
+      rw e (getLastD-getD (y ∷ l) d)
+
+  -- lists with the same front have the same elements in it
+  pub getD-front : (l r : List A) (i k : ℕ) (d : A) → i < k → take k l ≡ take k r → getD l i d ≡ getD r i d
+  getD-front l r i k d lt e = sym (getD-take k l i d lt) ∙ ap (λ (q : List A). getD q i d) e ∙ getD-take k r i d lt
+
+  -- where a list goes on from place k with x and then xs, k is a place of it, its element there is x, and xs follow
+  pub drop-first : (l : List A) (k : ℕ) (d x : A) (xs : List A) → drop k l ≡ x ∷ xs → (k < length l) × (getD l k d ≡ x) × (drop (suc k) l ≡ xs)
+  drop-first l k d x xs e =
+      let lt : k < length l = omega (arith, length-drop k l, ap length e) in
+      let split : getD l k d ∷ drop (suc k) l ≡ x ∷ xs = sym (drop-cons l k d lt) ∙ e in
+      (lt, cc, cc)
 
   -- the first k of a list the other way round are its last k
   pub take-reverse : (k : ℕ) (l : List A) → k ≤ length l → take k (reverse l) ≡ reverse (drop (length l - k) l)

@@ -21,7 +21,7 @@ use Rattle.theory.specs.Regions.{Takes}
 use Rattle.theory.specs.Checked.{Checked}
 use Rattle.theory.specs.Rows.{edgeAt}
 use Rattle.theory.specs.PartTree.{PartTree, Nested}
-use Rattle.theory.proofs.Lists.{front-written}
+use Rattle.theory.proofs.Written.{front-written}
 use Rattle.theory.proofs.Refusals.{no-fault-first}
 use Rattle.theory.proofs.Checked.{checked}
 use Rattle.theory.proofs.Orders.{order-length, order-passes, order-of-position, position-of-order}
