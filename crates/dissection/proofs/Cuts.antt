@@ -1,74 +1,33 @@
 -- The division of a region as it stands in the numbers: the separator is left out in place, what stays becomes fresh, and in the end the part's nodes get the last number.
 use mathlib.Core.Path.{_≡_, refl, sym, ap, ap₂, _∙_}
 use mathlib.Core.Logic.{inl, inr, _≢_}
-use mathlib.Core.Bool.{Bool, true, false, not, cond, _&&_, _||_, false≢true, or-false}
-use mathlib.Core.List.{List, [], _∷_, _++_, map, map-append, flatten}
-use Prim.Native.Nat.{ℕ, suc, _+_, _/_, _≤_, _<_}
+use mathlib.Core.Bool.{Bool, true, false, not, cond, _&&_, _||_, or-false}
+use mathlib.Core.List.{List, [], _∷_, _++_, map, map-append}
+use Prim.Native.Nat.{ℕ, _+_, _/_, _≤_, _<_}
 use native.Mathlib.Numerals.{add-one}
 use native.Mathlib.Nat.{zero-add}
 use native.Mathlib.Omega.{arith}
 use lib.Dec.{eqb, leb}
-use lib.ListN.{length, getD, take, set}
-use lib.Seq.{take-suc, getD-set-same, getD-set-other}
+use lib.ListN.{length, getD, set}
+use lib.Seq.{getD-set-same, getD-set-other}
 use borrow.Author.Tests.{eqb-true, eq-eqb, ne-eqb, not-true, le-leb, lt-leb}
 use Rattle.plan.specs.Lists.{exists, keep, below, isIn, without}
 use Rattle.plan.specs.Mesh.{Mesh, neighboursOf, adjacent}
-use Rattle.plan.specs.Levels.{Graph, levels, eccentricity, components}
+use Rattle.plan.specs.Levels.{levels, eccentricity, components}
 use Rattle.plan.specs.Choice.{rootOf, staysWhole, cutLevel, separator, numbering, standard, choosePart, georgeLiu}
 use Rattle.theory.specs.Checked.{Checked}
 use Rattle.theory.proofs.Bools.{or-right, and-left, and-right, tested, clash, refuted, iff-eq, cond-true, cond-false, eqb-same, eq-or-ne, lt-or-le}
-use Rattle.theory.proofs.Lists.{isIn-append, isIn-append-cases, exists-isIn, isIn-exists, in-keep, of-keep, isIn-keep, keep-ext, Kept, keep-all}
-use Rattle.theory.proofs.Ranges.{isIn-below, below-isIn, length-upFrom, upFrom-snoc, length-map-upFrom, map-ext-upFrom}
-use Rattle.theory.proofs.AllLists.{lists-few}
-use Rattle.theory.proofs.Ascending.{ascending-keep, ascending-kept, ascending-ext}
-use Rattle.theory.proofs.Counting.{count-le, same-length}
-use Rattle.theory.proofs.Levels.{levelled, levels-room}
-use Rattle.theory.proofs.LevelNumbers.{levels-length}
+use Rattle.theory.proofs.Lists.{exists-ext, exists-isIn, isIn-exists, in-keep, of-keep, isIn-keep, keep-ext, Kept, kept-own, keep-all}
+use Rattle.theory.proofs.Ranges.{upFrom-snoc, map-ext-upFrom}
+use Rattle.theory.proofs.Ascending.{ascending-keep}
 use Rattle.theory.proofs.Choice.{separator-kept}
-use Rattle.theory.proofs.Components.{components-count, components-some}
 use Rattle.dissection.specs.Numbers.{fresh, outside, freshOf, Within, Only, Renumbered, grouped, Labelled}
 use Rattle.dissection.specs.Standing.{Standing, opened, closed, separatesAt, Parted, Divided}
 use Rattle.dissection.specs.Rooted.{Rooted}
-
--- ---- lists
-
--- the first i + 1 elements are the first i, and element i
-pub isIn-take-more : (x i : ℕ) (l : List ℕ) → i < length l → isIn x (take (i + 1) l) ≡ (isIn x (take i l) || eqb x (getD l i 0))
-isIn-take-more x i l h =
-    rw add-one
-    (ap (isIn x) (take-suc l i 0 h)
-    ∙ isIn-append x (take i l) (getD l i 0 ∷ [])
-    ∙ ap (λ (b : Bool). isIn x (take i l) || b) (or-false (eqb x (getD l i 0))))
-
--- an element of lists together is in one of them
-isIn-flatten-place : (ls : List (List ℕ)) (x : ℕ) → isIn x (flatten ls) ≡ true → (i : ℕ) × (i < length ls) × (isIn x (getD ls i []) ≡ true)
-unfolding flatten
-isIn-flatten-place [] x h = absurd (false≢true h)
-isIn-flatten-place (l ∷ ls) x h = elim (isIn-append-cases x l (flatten ls) h) [
-  | inl t ↦ (0, omega arith, t)
-  | inr t ↦ (let r = isIn-flatten-place ls x t in (suc (r .0), omega (arith, r .1), r .2))
-]
-
--- what is kept from a list is what the list has in common with it
-kept-own : (r p : List ℕ) → Kept r p → keep (λ v. isIn v p) r ≡ p
-kept-own r p k =
-    keep-ext (λ v. isIn v p) (k .test) r (λ v m. ap (isIn v) (k .same) ∙ isIn-keep (k .test) r v ∙ ap (λ (b : Bool). b && k .test v) m)
-    ∙ sym (k .same)
-
--- ascending nodes below n are at most n
-within-few : (n : ℕ) (nodes : List ℕ) → Within n nodes → length nodes ≤ n
-within-few n nodes w =
-    let same : nodes ≡ keep (λ v. isIn v nodes) (below n) =
-    ascending-ext nodes (keep (λ v. isIn v nodes) (below n)) (w .ascends) (ascending-kept (λ v. isIn v nodes) n)
-    (λ x. iff-eq _ _
-    (λ h. in-keep (λ v. isIn v nodes) (below n) x (below-isIn n x (w .inside x h)) h)
-    (λ h. of-keep (λ v. isIn v nodes) (below n) x h .1)) in
-    omega (arith, ap length same, count-le (λ v. isIn v nodes) (below n), length-upFrom n 0)
-
--- tests that agree pass together
-exists-ext : (p q : ℕ → Bool) (l : List ℕ) → ((x : ℕ) → p x ≡ q x) → exists p l ≡ exists q l
-exists-ext p q [] f = refl
-exists-ext p q (x ∷ l) f = ap₂ _||_ (f x) (exists-ext p q l f)
+use Rattle.dissection.proofs.Fresh.{of-fresh, fresh-same}
+use Rattle.dissection.proofs.Renumbering.{renumbered-in, renumbered-out}
+use Rattle.dissection.proofs.Grouped.{hasNumber}
+use Rattle.dissection.proofs.Standing.{levels-few, number-inside, number-level}
 
 -- ---- the separator left out, in place
 
@@ -126,62 +85,29 @@ module _ (m : Mesh) (j : ℕ) (old : List ℕ) where
           ∙ ap (λ (b : Bool). cond (b && separatesAt m j old v) outside (getD old v 0)) (sym (ap (λ (b : Bool). touched v || b) (ne-eqb v u e) ∙ or-false (touched v)))
     ]
 
--- ---- the levels as they stand in the numbers
+-- ---- the separator, where the levels stand in the numbers
 
-module _ (m : Mesh) (nodes : List ℕ) (within : Within (m .nodes) nodes) (root : ℕ) where
+module _ (m : Mesh) (nodes : List ℕ) (within : Within (m .nodes) nodes) (root : ℕ) (checked : Checked m) (numbers : List ℕ) (standing : Standing m nodes root numbers) where
   -- the levels
   abbrev ls : List (List ℕ)
   ls = levels (adjacent m) nodes root
 
-  -- there are at most as many levels as nodes, and one
-  levels-few : length ls ≤ m .nodes + 1
-  levels-few =
-      omega (
-        arith,
-        levels-length (adjacent m) nodes root,
-        levels-room (adjacent m) nodes root (levelled (adjacent m) nodes root (length nodes)),
-        within-few (m .nodes) nodes within,
-      )
+  -- the test of the separator, by the numbers and by the levels
+  separates-level : (j v : ℕ) → j + 1 < length ls → v < m .nodes → separatesAt m j numbers v ≡ isIn v (separator (adjacent m) ls j)
+  unfolding separator adjacent
+  separates-level j v few lt =
+      ap₂ _&&_ (number-level m nodes within root checked numbers standing j v (omega arith) lt) (iff-eq _ _ to from)
+      ∙ sym (isIn-keep (λ v. exists (adjacent m v) (getD ls (j + 1) [])) (getD ls j []) v)
+    where
+      to : exists (λ w. eqb (getD numbers w 0) (j + 1)) (neighboursOf m v) ≡ true → exists (adjacent m v) (getD ls (j + 1) []) ≡ true
+      to h =
+          let r = exists-isIn (λ w. eqb (getD numbers w 0) (j + 1)) (neighboursOf m v) h in
+          isIn-exists (adjacent m v) (getD ls (j + 1) []) (r .0) (sym (number-level m nodes within root checked numbers standing (j + 1) (r .0) few (checked .inside v (r .0) (r .1) .1)) ∙ r .2) (r .1)
 
-  module _ (checked : Checked m) (numbers : List ℕ) (standing : Standing m nodes root numbers) where
-    -- no node of the region is outside
-    number-inside : (v : ℕ) → isIn v nodes ≡ true → getD numbers v 0 ≢ outside
-    number-inside v i e = elim (tested (isIn v (flatten ls))) [
-      | inl t ↦ (let r = isIn-flatten-place ls v t in omega (arith, standing .own (r .0) v (r .2), r .1, levels-few, checked .few))
-      | inr t ↦ omega (arith, standing .unreached v i t)
-    ]
-
-    -- a node has the number of a level exactly where it is in the level
-    number-level : (k v : ℕ) → k < length ls → v < m .nodes → eqb (getD numbers v 0) k ≡ isIn v (getD ls k [])
-    number-level k v few lt = iff-eq _ _ to (λ h. eq-eqb (getD numbers v 0) k (standing .own k v h))
-      where
-        to : eqb (getD numbers v 0) k ≡ true → isIn v (getD ls k []) ≡ true
-        to t =
-            let e : getD numbers v 0 ≡ k = eqb-true (getD numbers v 0) k t in
-            elim (tested (isIn v nodes)) [
-              | inl i ↦ elim (tested (isIn v (flatten ls))) [
-                | inl f ↦ (let r = isIn-flatten-place ls v f in ap (λ (j : ℕ). isIn v (getD ls j [])) (sym e ∙ standing .own (r .0) v (r .2)) ∙ r .2)
-                | inr f ↦ absurd (omega (arith, standing .unreached v i f, levels-few, checked .few))
-              ]
-              | inr o ↦ absurd (omega (arith, standing .only v lt o, levels-few, checked .few))
-            ]
-
-    -- the test of the separator, by the numbers and by the levels
-    separates-level : (j v : ℕ) → j + 1 < length ls → v < m .nodes → separatesAt m j numbers v ≡ isIn v (separator (adjacent m) ls j)
-    unfolding separator adjacent
-    separates-level j v few lt =
-        ap₂ _&&_ (number-level j v (omega arith) lt) (iff-eq _ _ to from)
-        ∙ sym (isIn-keep (λ v. exists (adjacent m v) (getD ls (j + 1) [])) (getD ls j []) v)
-      where
-        to : exists (λ w. eqb (getD numbers w 0) (j + 1)) (neighboursOf m v) ≡ true → exists (adjacent m v) (getD ls (j + 1) []) ≡ true
-        to h =
-            let r = exists-isIn (λ w. eqb (getD numbers w 0) (j + 1)) (neighboursOf m v) h in
-            isIn-exists (adjacent m v) (getD ls (j + 1) []) (r .0) (sym (number-level (j + 1) (r .0) few (checked .inside v (r .0) (r .1) .1)) ∙ r .2) (r .1)
-
-        from : exists (adjacent m v) (getD ls (j + 1) []) ≡ true → exists (λ w. eqb (getD numbers w 0) (j + 1)) (neighboursOf m v) ≡ true
-        from h =
-            let r = exists-isIn (adjacent m v) (getD ls (j + 1) []) h in
-            isIn-exists (λ w. eqb (getD numbers w 0) (j + 1)) (neighboursOf m v) (r .0) (r .2) (eq-eqb (getD numbers (r .0) 0) (j + 1) (standing .own (j + 1) (r .0) (r .1)))
+      from : exists (adjacent m v) (getD ls (j + 1) []) ≡ true → exists (λ w. eqb (getD numbers w 0) (j + 1)) (neighboursOf m v) ≡ true
+      from h =
+          let r = exists-isIn (adjacent m v) (getD ls (j + 1) []) h in
+          isIn-exists (λ w. eqb (getD numbers w 0) (j + 1)) (neighboursOf m v) (r .0) (r .2) (eq-eqb (getD numbers (r .0) 0) (j + 1) (standing .own (j + 1) (r .0) (r .1)))
 
 -- ---- the part of a region
 
@@ -214,36 +140,34 @@ parted : (m : Mesh) (nodes numbers : List ℕ) → Within (m .nodes) nodes → O
 parted m nodes numbers within only own =
     record {
       part = λ v i p. own v i ∙ cond-true (isIn v part) outside fresh p;
-      rest = ascending-ext (freshOf (m .nodes) numbers) (without part nodes) (ascending-kept (λ v. eqb (getD numbers v 0) fresh) (m .nodes)) (ascending-keep (λ v. not (isIn v part)) nodes (within .ascends))
-          (λ v. iff-eq _ _ (to v) (from v));
+      rest = fresh-same (m .nodes) numbers (without part nodes)
+          (record { ascends = ascending-keep (λ v. not (isIn v part)) nodes (within .ascends); inside = λ v h. within .inside v (left v h .0) })
+          (λ v h. own v (left v h .0) ∙ cond-false (isIn v part) outside fresh (left v h .1)) others;
       only = only;
     }
   where
     part : List ℕ
     part = georgeLiu m nodes
 
-    to : (v : ℕ) → isIn v (freshOf (m .nodes) numbers) ≡ true → isIn v (without part nodes) ≡ true
-    to v h =
-        let k = of-keep (λ v. eqb (getD numbers v 0) fresh) (below (m .nodes)) v h in
-        let e : getD numbers v 0 ≡ fresh = eqb-true (getD numbers v 0) fresh (k .1) in
-        elim (tested (isIn v nodes)) [
-          | inl i ↦ in-keep (λ v. not (isIn v part)) nodes v i (ap not (refuted (isIn v part) (λ p. omega (arith, e, own v i ∙ cond-true (isIn v part) outside fresh p))))
-          | inr o ↦ absurd (omega (arith, e, only v (isIn-below (m .nodes) v (k .0)) o))
-        ]
+    left : (v : ℕ) → isIn v (without part nodes) ≡ true → (isIn v nodes ≡ true) × (isIn v part ≡ false)
+    left v h = let k = of-keep (λ v. not (isIn v part)) nodes v h in (k .0, not-true (isIn v part) (k .1))
 
-    from : (v : ℕ) → isIn v (without part nodes) ≡ true → isIn v (freshOf (m .nodes) numbers) ≡ true
-    from v h =
-        let k = of-keep (λ v. not (isIn v part)) nodes v h in
-        in-keep (λ v. eqb (getD numbers v 0) fresh) (below (m .nodes)) v (below-isIn (m .nodes) v (within .inside v (k .0)))
-        (eq-eqb (getD numbers v 0) fresh (own v (k .0) ∙ cond-false (isIn v part) outside fresh (not-true (isIn v part) (k .1))))
+    others : (v : ℕ) → v < m .nodes → isIn v (without part nodes) ≡ false → getD numbers v 0 ≢ fresh
+    others v lt none e = elim (tested (isIn v nodes)) [
+      | inl i ↦ elim (tested (isIn v part)) [
+        | inl p ↦ omega (arith, e, own v i ∙ cond-true (isIn v part) outside fresh p)
+        | inr p ↦ clash (isIn v (without part nodes)) (in-keep (λ v. not (isIn v part)) nodes v i (ap not p)) none
+      ]
+      | inr o ↦ omega (arith, e, only v lt o)
+    ]
 
 module _ (m : Mesh) (nodes : List ℕ) (within : Within (m .nodes) nodes) (last : ℕ) (rooted : Rooted m nodes (rootOf m nodes) last) (old : List ℕ) (standing : Standing m nodes (rootOf m nodes) old) where
   -- the whole region is left out
   pub parted-whole : last ≤ 1 → (new : List ℕ) → Renumbered (λ x. outside) nodes old new → Parted m nodes new
   parted-whole le new h =
       parted m nodes new within
-      (λ v lt o. h v ∙ cond-false (isIn v nodes) outside (getD old v 0) o ∙ standing .only v lt o)
-      (λ v i. h v ∙ cond-true (isIn v nodes) outside (getD old v 0) i ∙ sym (cond-true (isIn v (georgeLiu m nodes)) outside fresh (ap (isIn v) (part-whole m nodes (omega (arith, rooted .far))) ∙ i)))
+      (λ v lt o. renumbered-out (λ x. outside) nodes old new h v o ∙ standing .only v lt o)
+      (λ v i. renumbered-in (λ x. outside) nodes old new h v i ∙ sym (cond-true (isIn v (georgeLiu m nodes)) outside fresh (ap (isIn v) (part-whole m nodes (omega (arith, rooted .far))) ∙ i)))
 
   -- the number of the last level is at most the number of nodes
   pub last-few : last ≤ m .nodes
@@ -255,9 +179,9 @@ module _ (m : Mesh) (nodes : List ℕ) (within : Within (m .nodes) nodes) (last 
   unfolding eccentricity
   parted-cut checked lt mid new left h =
       parted m nodes new within
-      (λ v few o. h v ∙ cond-false (isIn v nodes) (opened (getD mid v 0)) (getD mid v 0) o ∙ left v
+      (λ v few o. renumbered-out opened nodes mid new h v o ∙ left v
       ∙ cond-false (isIn v nodes && separatesAt m j old v) outside (getD old v 0) (ap (λ (b : Bool). b && separatesAt m j old v) o) ∙ standing .only v few o)
-      (λ v i. h v ∙ cond-true (isIn v nodes) (opened (getD mid v 0)) (getD mid v 0) i ∙ ap opened (left v ∙ ap (λ (b : Bool). cond (b && separatesAt m j old v) outside (getD old v 0)) i)
+      (λ v i. renumbered-in opened nodes mid new h v i ∙ ap opened (left v ∙ ap (λ (b : Bool). cond (b && separatesAt m j old v) outside (getD old v 0)) i)
       ∙ open-cond (separatesAt m j old v) (getD old v 0) (number-inside m nodes within (rootOf m nodes) checked old standing v i)
       ∙ ap (λ (b : Bool). cond b outside fresh) (same v i))
     where
@@ -287,25 +211,9 @@ pub parted-high : (m : Mesh) (nodes numbers : List ℕ) → Checked m → Parted
 parted-high m nodes numbers h p v i = elim (tested (isIn v (georgeLiu m nodes))) [
   | inl t ↦ omega (arith, p .part v i t, h .few)
   | inr f ↦
-      let k = of-keep (λ x. eqb (getD numbers x 0) fresh) (below (m .nodes)) v (ap (isIn v) (p .rest) ∙ in-keep (λ x. not (isIn x (georgeLiu m nodes))) nodes v i (ap not f)) in
-      omega (arith, eqb-true (getD numbers v 0) fresh (k .1), h .few)
+      let k = of-fresh (m .nodes) numbers v (ap (isIn v) (p .rest) ∙ in-keep (λ x. not (isIn x (georgeLiu m nodes))) nodes v i (ap not f)) in
+      omega (arith, k .1, h .few)
 ]
-
--- there are as many labels as components, at most as many as nodes
-pub labels : (n : ℕ) (edge : Graph) (nodes : List ℕ) (at : ℕ) (old new begins : List ℕ) (count : ℕ) → Labelled n edge nodes at old new begins count
-    → (count ≡ length (components edge (freshOf n old))) × (count ≤ n)
-labels n edge nodes at old new begins count l =
-    let many : count ≡ length (components edge (freshOf n old)) = sym (length-map-upFrom (λ c. keep (λ v. eqb (getD new v 0) c) nodes) count 0) ∙ ap length (l .groups) in (
-      many,
-      omega (
-        arith,
-        many,
-        lists-few (components edge (freshOf n old)) (components-some edge (freshOf n old)),
-        same-length (flatten (components edge (freshOf n old))) (freshOf n old) (components-count edge (freshOf n old)),
-        count-le (λ v. eqb (getD old v 0) fresh) (below n),
-        length-upFrom n 0,
-      ),
-    )
 
 module _ (m : Mesh) (nodes : List ℕ) (at : ℕ) (old mid new begins : List ℕ) (count : ℕ)
     (few : count < outside) (p : Parted m nodes old) (l : Labelled (m .nodes) (adjacent m) nodes at old mid begins count) (h : Renumbered (closed count) nodes mid new) where
@@ -318,13 +226,13 @@ module _ (m : Mesh) (nodes : List ℕ) (at : ℕ) (old mid new begins : List ℕ
   number-part v i t =
       let stale : isIn v (freshOf (m .nodes) old) ≡ false = refuted (isIn v (freshOf (m .nodes) old)) (λ f. clash (isIn v part) t (parted-fresh m nodes old p v f .1)) in
       let e : getD mid v 0 ≡ outside = l .others v stale ∙ p .part v i t in
-      (e, h v ∙ cond-true (isIn v nodes) (closed count (getD mid v 0)) (getD mid v 0) i ∙ cond-true (eqb (getD mid v 0) outside) count (getD mid v 0) (eq-eqb (getD mid v 0) outside e))
+      (e, renumbered-in (closed count) nodes mid new h v i ∙ cond-true (eqb (getD mid v 0) outside) count (getD mid v 0) (eq-eqb (getD mid v 0) outside e))
 
   -- every other node of the region keeps its label
   number-rest : (v : ℕ) → isIn v nodes ≡ true → isIn v part ≡ false → (getD mid v 0 < count) × (getD new v 0 ≡ getD mid v 0)
   number-rest v i f =
       let lt : getD mid v 0 < count = l .done v (ap (isIn v) (p .rest) ∙ in-keep (λ x. not (isIn x part)) nodes v i (ap not f)) in
-      (lt, h v ∙ cond-true (isIn v nodes) (closed count (getD mid v 0)) (getD mid v 0) i ∙ cond-false (eqb (getD mid v 0) outside) count (getD mid v 0) (ne-eqb (getD mid v 0) outside (λ e. omega arith)))
+      (lt, renumbered-in (closed count) nodes mid new h v i ∙ cond-false (eqb (getD mid v 0) outside) count (getD mid v 0) (ne-eqb (getD mid v 0) outside (λ e. omega arith)))
 
   -- so the numbers of the regions left are those of the labels
   same-label : (c : ℕ) → c < count → (v : ℕ) → isIn v nodes ≡ true → eqb (getD new v 0) c ≡ eqb (getD mid v 0) c
@@ -347,15 +255,15 @@ module _ (m : Mesh) (nodes : List ℕ) (at : ℕ) (old mid new begins : List ℕ
       (ap (map group) (upFrom-snoc 0 count)
       ∙ map-append group (below count) ((0 + count) ∷ [])
       ∙ ap₂ _++_
-      (map-ext-upFrom group (λ c. keep (λ v. eqb (getD mid v 0) c) nodes) count 0
-      (λ c le lt. keep-ext (λ v. eqb (getD new v 0) c) (λ v. eqb (getD mid v 0) c) nodes (same-label c (omega arith)))
+      (map-ext-upFrom group (λ c. keep (hasNumber mid c) nodes) count 0
+      (λ c le lt. keep-ext (hasNumber new c) (hasNumber mid c) nodes (same-label c (omega arith)))
       ∙ l .groups
       ∙ ap (components (adjacent m)) (p .rest))
       (ap (λ (g : List ℕ). g ∷ [])
-      (ap group (zero-add count) ∙ keep-ext (λ v. eqb (getD new v 0) count) (λ v. isIn v part) nodes last-label ∙ kept-own nodes part (part-kept m nodes))))
+      (ap group (zero-add count) ∙ keep-ext (hasNumber new count) (λ v. isIn v part) nodes last-label ∙ kept-own nodes part (part-kept m nodes))))
     where
       group : ℕ → List ℕ
-      group c = keep (λ v. eqb (getD new v 0) c) nodes
+      group c = keep (hasNumber new c) nodes
 
   -- the regions left have been labelled, and the part has the number behind them
   pub divided : Divided m nodes at new begins count
@@ -363,8 +271,8 @@ module _ (m : Mesh) (nodes : List ℕ) (at : ℕ) (old mid new begins : List ℕ
       record {
         groups = divided-groups;
         begin = rw (← p .rest) (l .begin);
-        many = labels (m .nodes) (adjacent m) nodes at old mid begins count l .0 ∙ ap (λ (r : List ℕ). length (components (adjacent m) r)) (p .rest);
-        only = λ v lt o. h v ∙ cond-false (isIn v nodes) (closed count (getD mid v 0)) (getD mid v 0) o
+        many = l .many ∙ ap (λ (r : List ℕ). length (components (adjacent m) r)) (p .rest);
+        only = λ v lt o. renumbered-out (closed count) nodes mid new h v o
             ∙ l .others v (refuted (isIn v (freshOf (m .nodes) old)) (λ f. clash (isIn v nodes) (parted-fresh m nodes old p v f .0) o))
             ∙ p .only v lt o;
       }

@@ -1,149 +1,31 @@
 -- The connected components of the fresh nodes, found one after the other along an ascending list of nodes.
-use mathlib.Core.Path.{_≡_, refl, sym, ap, subst, _∙_}
+use mathlib.Core.Path.{_≡_, refl, sym, ap, _∙_}
 use mathlib.Core.Logic.{_⊎_, inl, inr}
-use mathlib.Core.Bool.{Bool, true, false, not, cond, _&&_, _||_, false≢true, and-true, and-false}
-use mathlib.Core.List.{List, [], _∷_, _++_, append-nil, flatten}
-use Prim.Native.Nat.{ℕ, zero, suc, _+_, _≤_, _<_}
+use mathlib.Core.Bool.{Bool, true, false, cond, _||_, false≢true}
+use mathlib.Core.List.{List, [], _∷_, _++_, flatten}
+use Prim.Native.Nat.{ℕ, suc, _+_, _≤_, _<_}
 use native.Mathlib.Numerals.{add-one}
 use native.Mathlib.Omega.{arith}
 use lib.Dec.{eqb}
-use lib.ListN.{length, take, drop, getD, set, length-append, length-drop, take-append-drop}
-use lib.Seq.{length-take-le, getD-take, take-length, take-all, take-suc, drop-cons, getD-set-same, getD-set-other, ext-getD}
-use borrow.Author.Tests.{eqb-true, eqb-false, eq-eqb, ne-eqb}
-use Rattle.plan.specs.Lists.{keep, below, isIn, without, ascending}
-use Rattle.plan.specs.Levels.{Graph, levels, component, componentsUpTo, components}
-use Rattle.theory.specs.Regions.{All, stay}
-use Rattle.theory.proofs.Bools.{or-cases, or-false-left, or-false-right, tested, clash, refuted, iff-eq, cond-true, cond-false, lt-or-le}
-use Rattle.theory.proofs.Lists.{isIn-head, isIn-cons, isIn-append, isIn-append-cases, isIn-getD, isIn-none, in-keep, of-keep, keep-ext, keep-keep}
-use Rattle.theory.proofs.Ranges.{isIn-below, below-isIn, length-upFrom, getD-map-below, length-map-upFrom}
-use Rattle.theory.proofs.Flatten.{flatten-append, flatten-nil, flatten-cons, isIn-flatten-take}
-use Rattle.theory.proofs.AllLists.{lists-few}
-use Rattle.theory.proofs.Ascending.{ascending-lt, ascending-keep, ascending-kept, ascending-ext}
-use Rattle.theory.proofs.Counting.{count-le, same-members, same-length}
-use Rattle.theory.proofs.Compressed.{total-lengths}
+use lib.ListN.{length, take, drop, getD, set, length-drop}
+use lib.Seq.{length-take-le, getD-take, take-all, getD-set-same, getD-set-other, ext-getD}
+use borrow.Author.Tests.{eqb-true, eqb-false, eq-eqb}
+use Rattle.plan.specs.Lists.{keep, isIn, without, ascending}
+use Rattle.plan.specs.Levels.{Graph, component, components}
+use Rattle.theory.specs.Regions.{stay}
+use Rattle.theory.proofs.Bools.{or-cases, or-false-left, or-false-right, tested, clash, refuted, iff-eq, lt-or-le}
+use Rattle.theory.proofs.Lists.{isIn-append, isIn-getD, isIn-none, exists-more, in-keep, of-keep, drop-first}
+use Rattle.theory.proofs.Flatten.{flatten-more, of-flatten}
+use Rattle.theory.proofs.AllLists.{all-getD}
+use Rattle.theory.proofs.Ascending.{first-least, back-least, ascending-keep, ascending-kept, ascending-ext}
+use Rattle.theory.proofs.Counting.{same-length}
+use Rattle.theory.proofs.Compressed.{lengths-more, lengths-within}
 use Rattle.theory.proofs.LevelSets.{levels-cover}
-use Rattle.theory.proofs.Components.{of-component, component-head, components-count, components-same, walk-component, components-some, components-ascending}
+use Rattle.theory.proofs.Components.{of-component, components-count, components-none, components-next, in-components, component-inside, components-few, walk-component, components-ascending}
 use Rattle.dissection.specs.Numbers.{fresh, freshOf, Within, Renumbered, grouped, beginOf, Walked, Skipped, Taken, Labelled}
-use Rattle.dissection.proofs.Renumbering.{isIn-front, back-least}
-
--- ---- lists
-
--- an ascending list begins with its least element
-first-least : (l : List ℕ) (v : ℕ) → ascending l ≡ true → isIn v l ≡ true → ((w : ℕ) → isIn w l ≡ true → v ≤ w) → l ≡ v ∷ drop 1 l
-first-least [] v h m f = absurd (false≢true m)
-first-least (x ∷ l) v h m f = elim (isIn-cons v x l m) [
-  | inl e ↦ ap (λ (y : ℕ). y ∷ l) (sym e)
-  | inr t ↦ absurd (omega (arith, ascending-lt x l h v t, f x (isIn-head x l)))
-]
-
--- where a list goes on from place k with x and then xs, k is a place of it, its element there is x, and xs follow
-drop-first : (ls : List (List ℕ)) (k : ℕ) (x : List ℕ) (xs : List (List ℕ)) → drop k ls ≡ x ∷ xs → (k < length ls) × (getD ls k [] ≡ x) × (drop (suc k) ls ≡ xs)
-drop-first ls k x xs e =
-    let lt : k < length ls = omega (arith, length-drop k ls, ap length e) in
-    let split : getD ls k [] ∷ drop (suc k) ls ≡ x ∷ xs = sym (drop-cons ls k [] lt) ∙ e in
-    (lt, cc, cc)
-
--- what holds of each list holds of the one at a place
-pub all-at : (P : List ℕ → Type 0) (ls : List (List ℕ)) → All P ls → (k : ℕ) → k < length ls → P (getD ls k [])
-all-at P [] all k lt = absurd (omega arith)
-all-at P (l ∷ ls) all zero lt = all .0
-all-at P (l ∷ ls) all (suc k) lt = all-at P ls (all .1) k (omega arith)
-
--- what several lists hold together one of them holds
-pub in-some : (ls : List (List ℕ)) (v : ℕ) → isIn v (flatten ls) ≡ true → (k : ℕ) × (k < length ls) × (isIn v (getD ls k []) ≡ true)
-unfolding flatten
-in-some [] v m = absurd (false≢true m)
-in-some (l ∷ ls) v m = elim (isIn-append-cases v l (flatten ls) m) [
-  | inl t ↦ (0, omega arith, t)
-  | inr t ↦
-      let k = in-some ls v t in
-      (suc (k .0), omega (arith, k .1), k .2)
-]
-
--- the first lists together, one more of them
-flatten-front : (ls : List (List ℕ)) (k : ℕ) → k < length ls → flatten (take (k + 1) ls) ≡ flatten (take k ls) ++ getD ls k []
-flatten-front ls k lt = rw (add-one, take-suc ls k [] lt, flatten-append (take k ls) (getD ls k [] ∷ []), flatten-cons (getD ls k []) [], flatten-nil {A = ℕ}, append-nil (getD ls k []))
-
--- the first lists hold no more than all of them
-front-few : (ls : List (List ℕ)) (k : ℕ) → length (flatten (take k ls)) ≤ length (flatten ls)
-front-few ls k =
-    let e : flatten ls ≡ flatten (take k ls) ++ flatten (drop k ls) = ap flatten (sym (take-append-drop k ls)) ∙ flatten-append (take k ls) (drop k ls) in
-    omega (arith, ap length e, length-append (flatten (take k ls)) (flatten (drop k ls)))
-
--- the place where a list begins lies behind all elements of those before it
-pub begin-at : (at : ℕ) (ls : List (List ℕ)) (k : ℕ) → beginOf at ls k ≡ at + length (flatten (take k ls))
-begin-at at ls k = ap (λ (x : ℕ). at + x) (total-lengths (take k ls))
-
--- and each list begins where the one before it ends
-pub begin-more : (at : ℕ) (ls : List (List ℕ)) (k : ℕ) → k < length ls → beginOf at ls (k + 1) ≡ beginOf at ls k + length (getD ls k [])
-begin-more at ls k lt =
-    omega (arith, begin-at at ls k, begin-at at ls (k + 1), ap length (flatten-front ls k lt), length-append (flatten (take k ls)) (getD ls k []))
-
--- ---- components
-
-module _ (edge : Graph) where
-  -- an empty set has none
-  components-none : components edge [] ≡ []
-  unfolding components componentsUpTo
-  components-none = refl
-
-  -- the first component is that of the first node, and the others are the components of what is left
-  components-cons : (v : ℕ) (rest : List ℕ)
-      → components edge (v ∷ rest) ≡ component edge (v ∷ rest) v ∷ components edge (without (component edge (v ∷ rest) v) (v ∷ rest))
-  unfolding components componentsUpTo
-  components-cons v rest =
-      let c : List ℕ = component edge (v ∷ rest) v in
-      let own : isIn v c ≡ true = ap (isIn v) (component-head edge v rest) ∙ isIn-head v (keep (λ w. isIn w (flatten (levels edge (v ∷ rest) v))) rest) in
-      let e : without c (v ∷ rest) ≡ without c rest = cond-false (not (isIn v c)) _ _ (ap not own) in
-      ap (λ (ls : List (List ℕ)). c ∷ ls) (components-same edge (length rest) (without c rest) (count-le (λ w. not (isIn w c)) rest) ∙ ap (components edge) (sym e))
-
-  -- the same of a set that begins with v
-  components-next : (v : ℕ) (l : List ℕ) → l ≡ v ∷ drop 1 l → components edge l ≡ component edge l v ∷ components edge (without (component edge l v) l)
-  components-next v l e = subst (λ (l : List ℕ). components edge l ≡ component edge l v ∷ components edge (without (component edge l v) l)) (sym e) (components-cons v (drop 1 l))
-
-  -- together they hold just the nodes of the set
-  pub in-components : (nodes : List ℕ) (v : ℕ) → isIn v (flatten (components edge nodes)) ≡ isIn v nodes
-  in-components nodes v = iff-eq _ _
-      (same-members (flatten (components edge nodes)) nodes (components-count edge nodes) v)
-      (same-members nodes (flatten (components edge nodes)) (λ p. sym (components-count edge nodes p)) v)
-
-  -- a node of one of them is a node of the set
-  pub component-inside : (nodes : List ℕ) (c v : ℕ) → c < length (components edge nodes) → isIn v (getD (components edge nodes) c []) ≡ true → isIn v nodes ≡ true
-  component-inside nodes c v lt m =
-      sym (in-components nodes v)
-      ∙ ap (λ (ls : List (List ℕ)). isIn v (flatten ls)) (sym (take-length (components edge nodes)))
-      ∙ isIn-flatten-take (components edge nodes) (length (components edge nodes)) c v lt m
-
-  -- there are no more of them than nodes
-  pub components-few : (nodes : List ℕ) → length (components edge nodes) ≤ length nodes
-  components-few nodes =
-      omega (arith, lists-few (components edge nodes) (components-some edge nodes), same-length (flatten (components edge nodes)) nodes (components-count edge nodes))
-
--- ---- the fresh nodes
-
--- a fresh node is a node whose number is `fresh`
-pub of-fresh : (n : ℕ) (numbers : List ℕ) (v : ℕ) → isIn v (freshOf n numbers) ≡ true → (v < n) × (getD numbers v 0 ≡ fresh)
-of-fresh n numbers v m =
-    let k = of-keep (λ v. eqb (getD numbers v 0) fresh) (below n) v m in
-    (isIn-below n v (k .0), eqb-true (getD numbers v 0) fresh (k .1))
-
--- and back
-pub in-fresh : (n : ℕ) (numbers : List ℕ) (v : ℕ) → v < n → getD numbers v 0 ≡ fresh → isIn v (freshOf n numbers) ≡ true
-in-fresh n numbers v lt e = in-keep (λ v. eqb (getD numbers v 0) fresh) (below n) v (below-isIn n v lt) (eq-eqb (getD numbers v 0) fresh e)
-
--- there are at most n of them
-pub fresh-few : (n : ℕ) (numbers : List ℕ) → length (freshOf n numbers) ≤ n
-fresh-few n numbers = omega (arith, count-le (λ v. eqb (getD numbers v 0) fresh) (below n), length-upFrom n 0)
-
--- where the nodes of a list have got a number that is not `fresh`, the fresh nodes are those that are not in the list
-fresh-without : (n x : ℕ) (taken old new : List ℕ) → x < fresh → Renumbered (λ _. x) taken old new → freshOf n new ≡ without taken (freshOf n old)
-fresh-without n x taken old new lt r =
-    keep-ext (λ v. eqb (getD new v 0) fresh) (λ v. eqb (getD old v 0) fresh && not (isIn v taken)) (below n) (λ v m. ap (λ (y : ℕ). eqb y fresh) (r v) ∙ each (isIn v taken) (getD old v 0))
-    ∙ sym (keep-keep (λ v. not (isIn v taken)) (λ v. eqb (getD old v 0) fresh) (below n))
-  where
-    each : (b : Bool) (y : ℕ) → eqb (cond b x y) fresh ≡ (eqb y fresh && not b)
-    each true y = ne-eqb x fresh (λ e. omega arith) ∙ sym (and-false (eqb y fresh))
-    each false y = sym (and-true (eqb y fresh))
+use Rattle.dissection.proofs.Fresh.{not-fresh, in-fresh, of-fresh, fresh-few, fresh-without}
+use Rattle.dissection.proofs.Renumbering.{renumbered-in, renumbered-out}
+use Rattle.dissection.proofs.Grouped.{hasNumber, grouped-length, group-at}
 
 -- ---- one component
 
@@ -169,7 +51,7 @@ pub record Labelable (n : ℕ) (nodes old : List ℕ) : Type 0 where
   pub unlabelled : (v : ℕ) → isIn v nodes ≡ true → n ≤ getD old v 0
 
 -- the components that are to be found
-abbrev pub all : ℕ → Graph → List ℕ → List (List ℕ)
+abbrev all : ℕ → Graph → List ℕ → List (List ℕ)
 all n edge old = components edge (freshOf n old)
 
 -- the first i nodes have been tried: the first `count` components are labelled, the others are the components of the nodes that are still fresh, and none of the nodes tried is
@@ -207,7 +89,7 @@ module _ {n : ℕ} {edge : Graph} {nodes : List ℕ} {at : ℕ} {old : List ℕ}
       let f = of-fresh n numbers v m in
       elim (tested (isIn v (flatten (take count (all n edge old))))) [
         | inl t ↦
-            let k = in-some (take count (all n edge old)) v t in
+            let k = of-flatten (take count (all n edge old)) v t in
             let lt : k .0 < count = omega (arith, k .1, length-take-le count (all n edge old) (r .few)) in
             absurd (omega (arith, h .small, labelling-few, lt, f .1, r .own (k .0) v lt (ap (isIn v) (sym (getD-take count (all n edge old) (k .0) [] lt)) ∙ k .2)))
         | inr t ↦ in-fresh n old v (f .0) (sym (r .others v t) ∙ f .1)
@@ -234,7 +116,7 @@ module _ {n : ℕ} {edge : Graph} {nodes : List ℕ} {at : ℕ} {old : List ℕ}
       let c : List ℕ = component edge (freshOf n numbers) (getD nodes i 0) in
       (count < length (all n edge old)) × (getD (all n edge old) count [] ≡ c) × (drop (suc count) (all n edge old) ≡ components edge (without c (freshOf n numbers)))
   next-component lt e =
-      drop-first (all n edge old) count _ _ (r .left ∙ components-next edge (getD nodes i 0) (freshOf n numbers) (next-first lt e))
+      drop-first (all n edge old) count [] _ _ (r .left ∙ components-next edge (getD nodes i 0) (freshOf n numbers) (next-first lt e))
 
   -- there is room for one more
   pub labelling-room : i < length nodes → getD numbers (getD nodes i 0) 0 ≡ fresh → count < n
@@ -246,8 +128,7 @@ module _ {n : ℕ} {edge : Graph} {nodes : List ℕ} {at : ℕ} {old : List ℕ}
       omega (
         arith,
         r .begin count (omega arith),
-        begin-at at (all n edge old) count,
-        front-few (all n edge old) count,
+        lengths-within (all n edge old) count,
         same-length (flatten (all n edge old)) (freshOf n old) (components-count edge (freshOf n old)),
         fresh-few n old,
       )
@@ -257,7 +138,7 @@ module _ {n : ℕ} {edge : Graph} {nodes : List ℕ} {at : ℕ} {old : List ℕ}
   labelling-skip lt f = record { few = r .few; left = r .left; own = r .own; others = r .others; begin = r .begin; tried = each }
     where
       each : (v : ℕ) → isIn v (take (i + 1) nodes) ≡ true → eqb (getD numbers v 0) fresh ≡ false
-      each v m = elim (or-cases (isIn v (take i nodes)) (eqb v (getD nodes i 0)) (sym (isIn-front nodes i v lt) ∙ m)) [
+      each v m = elim (or-cases (isIn v (take i nodes)) (eqb v (getD nodes i 0)) (sym (exists-more (eqb v) nodes i lt) ∙ m)) [
         | inl t ↦ r .tried v t
         | inr t ↦ ap (λ (w : ℕ). eqb (getD numbers w 0) fresh) (eqb-true v (getD nodes i 0) t) ∙ f
       ]
@@ -293,24 +174,22 @@ module _ {n : ℕ} {edge : Graph} {nodes : List ℕ} {at : ℕ} {old : List ℕ}
       own c v l m = elim (lt-or-le c count) [
         | inl k ↦
             let e : getD numbers v 0 ≡ c = r .own c v k m in
-            t .numbers v
-            ∙ cond-false (isIn v taken) count (getD numbers v 0)
+            renumbered-out (λ _. count) taken numbers new (t .numbers) v
             (refuted (isIn v taken) (λ u. omega (arith, e, of-fresh n numbers v (of-component edge (freshOf n numbers) (getD nodes i 0) v u .0) .1, small)))
             ∙ e
         | inr k ↦
             let e : c ≡ count = omega arith in
             let u : isIn v taken ≡ true = ap (isIn v) (sym (ap (λ (j : ℕ). getD (all n edge old) j []) e ∙ next .1)) ∙ m in
-            t .numbers v ∙ cond-true (isIn v taken) count (getD numbers v 0) u ∙ sym e
+            renumbered-in (λ _. count) taken numbers new (t .numbers) v u ∙ sym e
       ]
 
       others : (v : ℕ) → isIn v (flatten (take (count + 1) (all n edge old))) ≡ false → getD new v 0 ≡ getD old v 0
       others v m =
           let e : (isIn v (flatten (take count (all n edge old))) || isIn v taken) ≡ false =
           sym (isIn-append v (flatten (take count (all n edge old))) taken)
-          ∙ ap (isIn v) (sym (flatten-front (all n edge old) count (next .0) ∙ ap (λ (l : List ℕ). flatten (take count (all n edge old)) ++ l) (next .1)))
+          ∙ ap (isIn v) (sym (flatten-more (all n edge old) count (next .0) ∙ ap (λ (l : List ℕ). flatten (take count (all n edge old)) ++ l) (next .1)))
           ∙ m in
-          t .numbers v
-          ∙ cond-false (isIn v taken) count (getD numbers v 0) (or-false-right (isIn v (flatten (take count (all n edge old)))) (isIn v taken) e)
+          renumbered-out (λ _. count) taken numbers new (t .numbers) v (or-false-right (isIn v (flatten (take count (all n edge old)))) (isIn v taken) e)
           ∙ r .others v (or-false-left (isIn v (flatten (take count (all n edge old)))) (isIn v taken) e)
 
       begin : (c : ℕ) → c ≤ count + 1 → getD begins₁ c 0 ≡ beginOf at (all n edge old) c
@@ -319,16 +198,16 @@ module _ {n : ℕ} {edge : Graph} {nodes : List ℕ} {at : ℕ} {old : List ℕ}
             let e : c ≡ count + 1 = omega arith in
             rw (e, t .begins)
             (getD-set-same begins (count + 1) (getD begins count 0 + length taken) 0 (omega (arith, labelling-room lt (t .unreached)))
-            ∙ omega (arith, r .begin count (omega arith), begin-more at (all n edge old) count (next .0), ap length (next .1)))
+            ∙ omega (arith, r .begin count (omega arith), lengths-more (all n edge old) count, ap length (next .1)))
         | inr k ↦ rw (t .begins) (getD-set-other begins (count + 1) c (getD begins count 0 + length taken) 0 (λ e. omega arith) ∙ r .begin c k)
       ]
 
       each : (v : ℕ) → isIn v (take (i + 1) nodes) ≡ true → eqb (getD new v 0) fresh ≡ false
       each v m = elim (tested (isIn v taken)) [
-        | inl u ↦ ap (λ (x : ℕ). eqb x fresh) (t .numbers v ∙ cond-true (isIn v taken) count (getD numbers v 0) u) ∙ ne-eqb count fresh (λ e. omega (arith, small))
+        | inl u ↦ ap (λ (x : ℕ). eqb x fresh) (renumbered-in (λ _. count) taken numbers new (t .numbers) v u) ∙ not-fresh count small
         | inr u ↦
-            ap (λ (x : ℕ). eqb x fresh) (t .numbers v ∙ cond-false (isIn v taken) count (getD numbers v 0) u)
-            ∙ elim (or-cases (isIn v (take i nodes)) (eqb v (getD nodes i 0)) (sym (isIn-front nodes i v lt) ∙ m)) [
+            ap (λ (x : ℕ). eqb x fresh) (renumbered-out (λ _. count) taken numbers new (t .numbers) v u)
+            ∙ elim (or-cases (isIn v (take i nodes)) (eqb v (getD nodes i 0)) (sym (exists-more (eqb v) nodes i lt) ∙ m)) [
               | inl w ↦ r .tried v w
               | inr w ↦ clash (isIn v taken) (ap (λ (x : ℕ). isIn x taken) (eqb-true v (getD nodes i 0) w) ∙ first) u
             ]
@@ -352,7 +231,7 @@ module _ {n : ℕ} {edge : Graph} {nodes : List ℕ} {at : ℕ} {old : List ℕ}
   -- a node that was fresh has the number of its component
   found : length nodes ≤ i → (v : ℕ) → isIn v (freshOf n old) ≡ true → (getD numbers v 0 < count) × (isIn v (getD (all n edge old) (getD numbers v 0) []) ≡ true)
   found le v m =
-      let k = in-some (all n edge old) v (in-components edge (freshOf n old) v ∙ m) in
+      let k = of-flatten (all n edge old) v (in-components edge (freshOf n old) v ∙ m) in
       let lt : k .0 < count = omega (arith, k .1, all-found le) in
       let e : getD numbers v 0 ≡ k .0 = r .own (k .0) v lt (k .2) in
       rw e (lt, k .2)
@@ -363,25 +242,25 @@ module _ {n : ℕ} {edge : Graph} {nodes : List ℕ} {at : ℕ} {old : List ℕ}
       r .others v (ap (λ (ls : List (List ℕ)). isIn v (flatten ls)) (take-all count (all n edge old) (omega (arith, all-found le))) ∙ in-components edge (freshOf n old) v ∙ m)
 
   -- the nodes with number c are component c
-  labelled-component : length nodes ≤ i → (c : ℕ) → c < count → keep (λ v. eqb (getD numbers v 0) c) nodes ≡ getD (all n edge old) c []
+  labelled-component : length nodes ≤ i → (c : ℕ) → c < count → keep (hasNumber numbers c) nodes ≡ getD (all n edge old) c []
   labelled-component le c lt =
-      ascending-ext (keep (λ v. eqb (getD numbers v 0) c) nodes) (getD (all n edge old) c [])
-      (ascending-keep (λ v. eqb (getD numbers v 0) c) nodes (h .within .ascends))
-      (all-at (λ l. ascending l ≡ true) (all n edge old) (components-ascending edge (freshOf n old) (ascending-kept (λ v. eqb (getD old v 0) fresh) n)) c (omega (arith, all-found le)))
+      ascending-ext (keep (hasNumber numbers c) nodes) (getD (all n edge old) c [])
+      (ascending-keep (hasNumber numbers c) nodes (h .within .ascends))
+      (all-getD (λ l. ascending l ≡ true) (all n edge old) (components-ascending edge (freshOf n old) (ascending-kept (λ v. eqb (getD old v 0) fresh) n)) c (omega (arith, all-found le)))
       (λ v. iff-eq _ _ (into v) (outof v))
     where
-      into : (v : ℕ) → isIn v (keep (λ v. eqb (getD numbers v 0) c) nodes) ≡ true → isIn v (getD (all n edge old) c []) ≡ true
+      into : (v : ℕ) → isIn v (keep (hasNumber numbers c) nodes) ≡ true → isIn v (getD (all n edge old) c []) ≡ true
       into v m =
-          let k = of-keep (λ v. eqb (getD numbers v 0) c) nodes v m in
+          let k = of-keep (hasNumber numbers c) nodes v m in
           let e : getD numbers v 0 ≡ c = eqb-true (getD numbers v 0) c (k .1) in
           elim (tested (isIn v (freshOf n old))) [
             | inl t ↦ rw e at (found le v t .1)
             | inr t ↦ absurd (omega (arith, e, kept le v t, h .unlabelled v (k .0), labelling-few))
           ]
 
-      outof : (v : ℕ) → isIn v (getD (all n edge old) c []) ≡ true → isIn v (keep (λ v. eqb (getD numbers v 0) c) nodes) ≡ true
+      outof : (v : ℕ) → isIn v (getD (all n edge old) c []) ≡ true → isIn v (keep (hasNumber numbers c) nodes) ≡ true
       outof v m =
-          in-keep (λ v. eqb (getD numbers v 0) c) nodes v (h .whole v (component-inside edge (freshOf n old) c v (omega (arith, all-found le)) m))
+          in-keep (hasNumber numbers c) nodes v (h .whole v (component-inside edge (freshOf n old) c v (omega (arith, all-found le)) m))
           (eq-eqb (getD numbers v 0) c (r .own c v lt m))
 
   -- all of them
@@ -389,11 +268,10 @@ module _ {n : ℕ} {edge : Graph} {nodes : List ℕ} {at : ℕ} {old : List ℕ}
   labelling-all le =
       record {
         groups =
-            let f : ℕ → List ℕ = λ c. keep (λ v. eqb (getD numbers v 0) c) nodes in
-            ext-getD [] (grouped count numbers nodes) (all n edge old) (length-map-upFrom f count 0 ∙ all-found le)
+            ext-getD [] (grouped count numbers nodes) (all n edge old) (grouped-length count numbers nodes ∙ all-found le)
             (λ c lt.
-            let k : c < count = omega (arith, length-map-upFrom f count 0) in
-            getD-map-below f [] count c k ∙ labelled-component le c k);
+            let k : c < count = omega (arith, grouped-length count numbers nodes) in
+            group-at count numbers nodes c k ∙ labelled-component le c k);
         begin = λ c k. r .begin c (omega (arith, all-found le));
         others = kept le;
         done = λ v m. found le v m .0;

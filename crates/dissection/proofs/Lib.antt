@@ -1,11 +1,12 @@
+pub mod Fresh
 pub mod Renumbering
+pub mod Grouped
+pub mod Standing
 pub mod Spreads
 pub mod Walks
 pub mod Labels
-pub mod Groups
 pub mod Roots
 pub mod Cuts
-pub mod Written
 pub mod Distribution
 pub mod Heads
 pub mod Blocks

@@ -1,49 +1,27 @@
--- A loop that gives each node of a list a new number. One relation serves every loop: the first i nodes have theirs, the others the numbers that they had.
-use mathlib.Core.Path.{_≡_, refl, sym, ap, _∙_}
+-- Nodes that get new numbers, and the loop that gives them. One relation serves every loop: the first i nodes have theirs, the others the numbers that they had.
+use mathlib.Core.Path.{_≡_, refl, sym, _∙_}
 use mathlib.Core.Logic.{inl, inr, _≢_}
-use mathlib.Core.Bool.{Bool, true, false, cond, _||_, false≢true, or-false}
-use mathlib.Core.List.{List, [], _∷_}
-use Prim.Native.Nat.{ℕ, zero, suc, _+_, _≤_, _<_}
-use native.Mathlib.Numerals.{add-one}
+use mathlib.Core.Bool.{true, false, cond, or-false}
+use mathlib.Core.List.{List}
+use Prim.Native.Nat.{ℕ, _+_, _≤_, _<_}
 use native.Mathlib.Omega.{arith}
 use lib.Dec.{eqb}
 use lib.ListN.{length, take, getD, set, length-set}
-use lib.Seq.{take-all, take-suc, getD-set-same, getD-set-other}
-use borrow.Author.Tests.{eq-eqb, ne-eqb}
+use lib.Seq.{take-all, getD-set-same, getD-set-other}
+use borrow.Author.Tests.{ne-eqb}
 use Rattle.plan.specs.Lists.{isIn, ascending}
-use Rattle.theory.proofs.Bools.{or-right, or-false-left, or-false-right, clash, refuted, cond-true, cond-false, eqb-same, eq-or-ne}
-use Rattle.theory.proofs.Lists.{isIn-cons, isIn-append, isIn-getD}
-use Rattle.theory.proofs.Ascending.{ascending-tail, ascending-lt}
+use Rattle.theory.proofs.Bools.{or-right, refuted, cond-true, cond-false, eqb-same, eq-or-ne}
+use Rattle.theory.proofs.Lists.{isIn-getD, exists-more}
+use Rattle.theory.proofs.Ascending.{front-less}
 use Rattle.dissection.specs.Numbers.{Renumbered}
 
--- ---- the front of a list
+-- a node of the list has the number that f makes of its old one
+pub renumbered-in : (f : ℕ → ℕ) (nodes old new : List ℕ) → Renumbered f nodes old new → (v : ℕ) → isIn v nodes ≡ true → getD new v 0 ≡ f (getD old v 0)
+renumbered-in f nodes old new h v t = h v ∙ cond-true (isIn v nodes) (f (getD old v 0)) (getD old v 0) t
 
--- one place more: what stood in front, and the element at the place
-pub isIn-front : (l : List ℕ) (i v : ℕ) → i < length l → isIn v (take (i + 1) l) ≡ (isIn v (take i l) || eqb v (getD l i 0))
-isIn-front l i v lt =
-    rw (add-one, take-suc l i 0 lt)
-    (isIn-append v (take i l) (getD l i 0 ∷ []) ∙ ap (λ (b : Bool). isIn v (take i l) || b) (or-false (eqb v (getD l i 0))))
-
--- in an ascending list the elements in front of a place are less than the one at it
-pub front-less : (l : List ℕ) → ascending l ≡ true → (i v : ℕ) → i < length l → isIn v (take i l) ≡ true → v < getD l i 0
-front-less [] h i v lt m = absurd (omega arith)
-front-less (x ∷ l) h zero v lt m = absurd (false≢true m)
-front-less (x ∷ l) h (suc i) v lt m = elim (isIn-cons v x (take i l) m) [
-  | inl e ↦ omega (arith, e, ascending-lt x l h (getD l i 0) (isIn-getD l i 0 (omega arith)))
-  | inr t ↦ front-less l (ascending-tail x l h) i v (omega arith) t
-]
-
--- and the others are not
-pub back-least : (l : List ℕ) → ascending l ≡ true → (i v : ℕ) → i < length l → isIn v l ≡ true → isIn v (take i l) ≡ false → getD l i 0 ≤ v
-back-least [] h i v lt m f = absurd (omega arith)
-back-least (x ∷ l) h zero v lt m f = elim (isIn-cons v x l m) [
-  | inl e ↦ omega arith
-  | inr t ↦ omega (arith, ascending-lt x l h v t)
-]
-back-least (x ∷ l) h (suc i) v lt m f = elim (isIn-cons v x l m) [
-  | inl e ↦ clash (eqb v x) (eq-eqb v x e) (or-false-left (eqb v x) (isIn v (take i l)) f)
-  | inr t ↦ back-least l (ascending-tail x l h) i v (omega arith) t (or-false-right (eqb v x) (isIn v (take i l)) f)
-]
+-- every other node has the number that it had
+pub renumbered-out : (f : ℕ → ℕ) (nodes old new : List ℕ) → Renumbered f nodes old new → (v : ℕ) → isIn v nodes ≡ false → getD new v 0 ≡ getD old v 0
+renumbered-out f nodes old new h v t = h v ∙ cond-false (isIn v nodes) (f (getD old v 0)) (getD old v 0) t
 
 -- ---- the loop
 
@@ -82,12 +60,12 @@ module _ {f : ℕ → ℕ} {nodes old : List ℕ} {i : ℕ} {new : List ℕ} (r 
           (getD-set-same new (getD nodes i 0) x 0 (renumbering-inside lt inside)
           ∙ e
           ∙ sym (cond-true _ _ _
-          (isIn-front nodes i (getD nodes i 0) lt
+          (exists-more (eqb (getD nodes i 0)) nodes i lt
           ∙ or-right (isIn (getD nodes i 0) (take i nodes)) (eqb (getD nodes i 0) (getD nodes i 0)) (eqb-same (getD nodes i 0)))))
 
       off : (v : ℕ) → v ≢ getD nodes i 0 → getD (set new (getD nodes i 0) x) v 0 ≡ cond (isIn v (take (i + 1) nodes)) (f (getD old v 0)) (getD old v 0)
       off v s =
-          rw (getD-set-other new (getD nodes i 0) v x 0 s, isIn-front nodes i v lt, ne-eqb v (getD nodes i 0) s, or-false (isIn v (take i nodes))) (r .front v)
+          rw (getD-set-other new (getD nodes i 0) v x 0 s, exists-more (eqb v) nodes i lt, ne-eqb v (getD nodes i 0) s, or-false (isIn v (take i nodes))) (r .front v)
 
   -- all of them
   pub renumbering-all : length nodes ≤ i → Renumbered f nodes old new

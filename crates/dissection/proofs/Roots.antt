@@ -1,8 +1,8 @@
--- Levels from a root as they stand in the numbers, the candidates of a root, and the turns of the root search.
+-- The root search: nodes of least degree, the candidates of a root, and the turns of the search.
 use mathlib.Core.Path.{_≡_, refl, sym, ap, _∙_}
 use mathlib.Core.Logic.{_≢_, inl, inr}
 use mathlib.Core.Bool.{Bool, true, false, cond}
-use mathlib.Core.List.{List, [], _∷_, _++_, map, getLastD, flatten}
+use mathlib.Core.List.{List, [], _∷_, _++_, map, getLastD}
 use Prim.Native.Nat.{ℕ, zero, suc, _+_, _-_, _≤_, _<_}
 use native.Mathlib.Omega.{arith}
 use lib.Dec.{eqb, ltb}
@@ -15,22 +15,23 @@ use Rattle.plan.specs.Levels.{levels, eccentricity, components}
 use Rattle.plan.specs.Choice.{degreeIn, lesser, leastFrom, leastDegree, candidates, improves, nextRoot, rootFrom, rootOf}
 use Rattle.theory.specs.Checked.{Checked}
 use Rattle.theory.proofs.Bools.{tested, clash, refuted, cond-true, cond-false, eq-or-ne}
-use Rattle.theory.proofs.Lists.{isIn-take, of-keep}
-use Rattle.theory.proofs.AllLists.{lists-few}
+use Rattle.theory.proofs.Lists.{isIn-take, of-keep, keep-more, headD-getD, getLastD-getD}
+use Rattle.theory.proofs.AllLists.{all-getD}
 use Rattle.theory.proofs.Flatten.{isIn-flatten-last}
 use Rattle.theory.proofs.Ascending.{ascending-keep}
-use Rattle.theory.proofs.Counting.{same-length}
-use Rattle.theory.proofs.Components.{of-component, components-count, components-some}
+use Rattle.theory.proofs.Components.{components-some}
 use Rattle.theory.proofs.LevelNumbers.{level-first, level-kept, levels-some}
-use Rattle.theory.proofs.LevelSets.{levels-cover}
-use Rattle.theory.proofs.RootSearch.{eccentricity-le, next-cases, turn-ends, turn-goes, search-same, root-same}
+use Rattle.theory.proofs.RootSearch.{next-cases, turn-ends, turn-goes, search-same, root-same}
 use Rattle.theory.proofs.RootInside.{leastDegree-isIn}
 use Rattle.mesh.specs.Lent.{ListWithin}
 use Rattle.mesh.proofs.Lists.{checked-within}
-use Rattle.dissection.specs.Numbers.{fresh, outside, freshOf, Within, Only, Renumbered, grouped, Walked, Labelled}
+use Rattle.dissection.specs.Numbers.{fresh, outside, freshOf, Within, Only, Renumbered, grouped, Labelled}
 use Rattle.dissection.specs.Standing.{Regional, Standing, onlyLevel}
 use Rattle.dissection.specs.Rooted.{none, degreeOf, betterOf, bestOf, Bests, Compared, Rooted, Better}
-use Rattle.dissection.proofs.Groups.{keep-more, first-headD, hasNumber, renumbered-in, renumbered-out, group-at, of-flatten, last-list, all-getD, grouped-length, fresh-same, within-few}
+use Rattle.dissection.proofs.Fresh.{fresh-same}
+use Rattle.dissection.proofs.Renumbering.{renumbered-in, renumbered-out}
+use Rattle.dissection.proofs.Grouped.{hasNumber, group-at}
+use Rattle.dissection.proofs.Standing.{level-inside, number-level}
 
 -- ---- a node of least degree
 
@@ -81,13 +82,13 @@ module _ (m : Mesh) where
   ]
 
   -- the best of nodes below n is a node below n, where there is one
-  pub best-node : (n : ℕ) (l : List ℕ) → ((x : ℕ) → isIn x l ≡ true → x < n) → bestOf m l ≢ none → bestOf m l < n
+  best-node : (n : ℕ) (l : List ℕ) → ((x : ℕ) → isIn x l ≡ true → x < n) → bestOf m l ≢ none → bestOf m l < n
   unfolding leastDegree
   best-node n [] f h = absurd (h refl)
   best-node n (v ∷ l) f h = f (bestOf m (v ∷ l)) (leastDegree-isIn (degreeOf m) (v ∷ l) (omega arith))
 
   -- the best of a list with one more at the end
-  pub best-more : (n : ℕ) (l : List ℕ) (v : ℕ) → ((x : ℕ) → isIn x l ≡ true → x < n) → n ≤ maxNodes → betterOf m (bestOf m l) v ≡ bestOf m (l ++ (v ∷ []))
+  best-more : (n : ℕ) (l : List ℕ) (v : ℕ) → ((x : ℕ) → isIn x l ≡ true → x < n) → n ≤ maxNodes → betterOf m (bestOf m l) v ≡ bestOf m (l ++ (v ∷ []))
   unfolding leastDegree leastFrom
   best-more n [] v f few = refl
   best-more n (w ∷ l) v f few =
@@ -139,40 +140,6 @@ module _ (m : Mesh) (checked : Checked m) (nodes : List ℕ) (within : Within (m
   leading-all i best le h c lt =
       h c lt ∙ ap (λ (l : List ℕ). bestOf m (keep (hasNumber numbers c) l)) (take-all i nodes le) ∙ ap (bestOf m) (sym (group-at count numbers nodes c lt))
 
--- ---- levels as they stand in the numbers
-
--- once each node of a region has the fresh number, the region is what is fresh
-filled-fresh : (m : Mesh) (nodes numbers filled queue : List ℕ) → Regional m nodes numbers queue → Renumbered (λ _. fresh) nodes numbers filled → freshOf (m .nodes) filled ≡ nodes
-filled-fresh m nodes numbers filled queue h f =
-    fresh-same (m .nodes) filled nodes (h .within)
-    (renumbered-in (λ _. fresh) nodes numbers filled f)
-    (λ v lt t e. omega (arith, h .only v lt t, renumbered-out (λ _. fresh) nodes numbers filled f v t))
-
-module _ (m : Mesh) (nodes : List ℕ) where
-  -- a node of a level is a node of the region
-  level-inside : (r v : ℕ) → isIn r nodes ≡ true → isIn v (flatten (levels (adjacent m) nodes r)) ≡ true → isIn v nodes ≡ true
-  level-inside r v h t = of-component (adjacent m) nodes r v (sym (levels-cover (adjacent m) nodes r h v) ∙ t) .0
-
-  module _ {numbers filled queue new after : List ℕ} {r last reached : ℕ} (h : Regional m nodes numbers queue) (inside : isIn r nodes ≡ true)
-      (walked : Walked (m .nodes) (adjacent m) (freshOf (m .nodes) filled) r filled new after last reached) (f : Renumbered (λ _. fresh) nodes numbers filled) where
-    -- so a walk in what is fresh is one in the region
-    over : Walked (m .nodes) (adjacent m) nodes r filled new after last reached
-    over = rw (filled-fresh m nodes numbers filled queue h f) at walked
-
-    -- it tells the number of the last level
-    pub walk-rooted : Rooted m nodes r last
-    unfolding eccentricity
-    walk-rooted = record { inside = inside; far = omega (arith, over .count) }
-
-    -- and the levels stand in the numbers
-    pub walk-standing : Standing m nodes r new
-    walk-standing = record {
-      own = over .numbered .own;
-      unreached = λ v i o. over .numbered .others v o ∙ renumbered-in (λ _. fresh) nodes numbers filled f v i;
-      only = λ v lt o. over .numbered .others v (refuted _ (λ t. clash (isIn v nodes) (level-inside r v inside t) o))
-          ∙ renumbered-out (λ _. fresh) nodes numbers filled f v o ∙ h .only v lt o;
-    }
-
 -- ---- the candidates of a root
 
 module _ (m : Mesh) (nodes : List ℕ) {numbers queue : List ℕ} {root last : ℕ} (h : Regional m nodes numbers queue) (rooted : Rooted m nodes root last) where
@@ -189,7 +156,7 @@ module _ (m : Mesh) (nodes : List ℕ) {numbers queue : List ℕ} {root last : �
   last-is : getLastD ls [] ≡ getD ls last []
   last-is =
       let e : length ls - 1 ≡ last = omega (arith, last-count) in
-      last-list ls ∙ ap (λ (k : ℕ). getD ls k []) e
+      getLastD-getD ls [] ∙ ap (λ (k : ℕ). getD ls k []) e
 
   -- each ascends
   level-ascends : (j : ℕ) → j < length ls → ascending (getD ls j []) ≡ true
@@ -216,13 +183,10 @@ module _ (m : Mesh) (nodes : List ℕ) {numbers queue : List ℕ} {root last : �
 
     -- and a node of the region with this number is of the last level
     number-own : (v : ℕ) → isIn v nodes ≡ true → getD numbers v 0 ≡ last → isIn v (getLastD ls []) ≡ true
-    number-own v i e = elim (tested (isIn v (flatten ls))) [
-      | inl t ↦
-          let k = of-flatten ls v t in
-          let same : k .0 ≡ last = sym (standing .own (k .0) v (k .2)) ∙ e in
-          ap (isIn v) last-is ∙ ap (λ (j : ℕ). isIn v (getD ls j [])) (sym same) ∙ k .2
-      | inr t ↦ absurd (omega (arith, e, standing .unreached v i t, rooted .far, eccentricity-le (adjacent m) nodes root, within-few (m .nodes) nodes (h .within), h .checked .few))
-    ]
+    number-own v i e =
+        ap (isIn v) last-is
+        ∙ sym (number-level m nodes (h .within) root (h .checked) numbers standing last v (omega (arith, last-count)) (h .within .inside v i))
+        ∙ eq-eqb (getD numbers v 0) last e
 
     module _ (kept : List ℕ) (renumbered : Renumbered (onlyLevel last) nodes numbers kept) where
       -- once all other levels are left out, the last level is what is fresh
@@ -262,17 +226,7 @@ module _ (m : Mesh) (nodes : List ℕ) {numbers queue : List ℕ} {root last : �
 
         -- as many as are told
         many : length cs ≡ count
-        many = ap length (sym groups) ∙ grouped-length count new nodes
-
-        -- at most n
-        pub groups-few : count ≤ m .nodes
-        groups-few = omega (
-          arith,
-          many,
-          lists-few cs (components-some (adjacent m) (getLastD ls [])),
-          same-length (flatten cs) (getLastD ls []) (components-count (adjacent m) (getLastD ls [])),
-          within-few (m .nodes) (getLastD ls []) last-within,
-        )
+        many = sym (labelled .many ∙ ap (λ (l : List ℕ). length (components (adjacent m) l)) last-fresh)
 
         -- the other nodes stay outside
         pub labelled-only : Only (m .nodes) nodes new
@@ -339,8 +293,8 @@ module _ (m : Mesh) (nodes : List ℕ) where
   foundFrom r = rootFrom (suc (length nodes)) m nodes r
 
   -- from the smallest node it finds the region's root
-  pub found-first : 0 < length nodes → foundFrom (getD nodes 0 0) ≡ rootOf m nodes
-  found-first some = ap foundFrom (first-headD nodes some) ∙ root-same m nodes (suc (length nodes)) (omega arith)
+  pub found-first : foundFrom (getD nodes 0 0) ≡ rootOf m nodes
+  found-first = ap foundFrom (sym (headD-getD nodes 0)) ∙ root-same m nodes (suc (length nodes)) (omega arith)
 
   -- a turn that goes to a farther root finds the same
   pub found-next : {root next a b : ℕ} → next ≡ nextRoot m nodes root → Rooted m nodes root a → Rooted m nodes next b → a < b → foundFrom next ≡ foundFrom root

@@ -12,27 +12,23 @@ use lib.ListN.{length, getD, take, set, length-reverse, List·getD-eq-default}
 use lib.Seq.{length-take-le, take-all, take-add, getD-take, set-getD, set-set}
 use Rattle.plan.specs.Lists.{exists, keep, isIn, segment, below}
 use Rattle.plan.specs.Levels.{Graph, nextLevel, addLevel, levelsBack, levels, component}
-use Rattle.theory.proofs.Bools.{and-left, tested, clash, refuted, lt-or-le}
-use Rattle.theory.proofs.Lists.{isIn-getD, isIn-append, isIn-none, isIn-keep, exists-isIn, keep-keep, getD-reverse}
-use Rattle.theory.proofs.Ranges.{below-isIn, isIn-below}
-use Rattle.theory.proofs.Flatten.{flatten-nil, flatten-cons, isIn-flatten-take, isIn-flatten-reverse}
+use Rattle.theory.proofs.Bools.{tested, clash, refuted, lt-or-le}
+use Rattle.theory.proofs.Lists.{isIn-getD, isIn-append, isIn-none, isIn-keep, exists-isIn, exists-same, keep-keep, getD-reverse}
+use Rattle.theory.proofs.Segments.{segment-none, segment-front, segment-some}
+use Rattle.theory.proofs.Ranges.{below-isIn}
+use Rattle.theory.proofs.Flatten.{flatten-nil, isIn-flatten-cons, isIn-flatten-take, isIn-flatten-reverse}
 use Rattle.theory.proofs.Counting.{unit, count-sum}
 use Rattle.theory.proofs.Levels.{Levelled, first, after, of-next, levelled, levels-stay, reached-inside}
 use Rattle.theory.proofs.LevelSets.{levels-cover}
 use Rattle.dissection.specs.Numbers.{fresh, freshOf, Walked}
 use Rattle.dissection.specs.Spread.{Room, newly, Spread}
-use Rattle.dissection.proofs.Spreads.{exists-same, segment-none, segment-front, segment-some, not-fresh, fresh-is, fresh-few, spread-one}
-
--- ---- lists
-
--- a number is in the first list, or in one behind it
-isIn-flatten-cons : (v : ℕ) (l : List ℕ) (ls : List (List ℕ)) → isIn v (flatten (l ∷ ls)) ≡ (isIn v l || isIn v (flatten ls))
-isIn-flatten-cons v l ls = ap (isIn v) (flatten-cons l ls) ∙ isIn-append v l (flatten ls)
+use Rattle.dissection.proofs.Fresh.{not-fresh, fresh-is, in-fresh, of-fresh, fresh-few}
+use Rattle.dissection.proofs.Spreads.{spread-one}
 
 -- ---- the number of a node by the levels so far
 
 -- The number of node v where the levels, the last one first, stand in the numbers and v had number x before: the number of the level that has it.
-abbrev pub placed : ℕ → List (List ℕ) → ℕ → ℕ
+abbrev placed : ℕ → List (List ℕ) → ℕ → ℕ
 placed v [] x = x
 placed v (l ∷ ls) x = cond (isIn v l) (length ls) (placed v ls x)
 
@@ -123,12 +119,8 @@ walk-start n edge old root q lt e long long′ =
     }
 
 -- the nodes that a step touches: those next to a node that stands in the queue from place lo up to, not including, hi
-abbrev pub touched : Graph → List ℕ → ℕ → ℕ → ℕ → Bool
+abbrev touched : Graph → List ℕ → ℕ → ℕ → ℕ → Bool
 touched edge queue lo hi v = exists (λ u. edge u v) (segment queue lo hi)
-
--- the root may be reached
-root-inside : (n : ℕ) (old : List ℕ) (root : ℕ) → root < n → getD old root 0 ≡ fresh → isIn root (freshOf n old) ≡ true
-root-inside n old root lt e = fresh-is n old root ∙ rw (below-isIn n root lt, e)
 
 -- a walk from old numbers, in which every edge leads to a node
 module _ (n : ℕ) (edge : Graph) (inside : (u v : ℕ) → edge u v ≡ true → v < n) (small : n < fresh) (old : List ℕ) (root : ℕ) where
@@ -231,8 +223,8 @@ module _ (n : ℕ) (edge : Graph) (inside : (u v : ℕ) → edge u v ≡ true �
         let v : ℕ = getD q k 0 in
         let in-queue : isIn v (take hi q) ≡ true =
         ap (λ (x : ℕ). isIn x (take hi q)) (sym (getD-take hi q k 0 h)) ∙ isIn-getD (take hi q) k 0 (omega (arith, length-take-le hi q (omega (arith, s .left .room, s .left .queueLong)))) in
-        let in-region : isIn v region ≡ true = reached-inside edge region root (levelled edge region root last) (root-inside n old root lt e) v (sym (s .reached v) ∙ in-queue) in
-        isIn-below n v (and-left (isIn v (below n)) _ (sym (fresh-is n old v) ∙ in-region))
+        let in-region : isIn v region ≡ true = reached-inside edge region root (levelled edge region root last) (in-fresh n old root lt e) v (sym (s .reached v) ∙ in-queue) in
+        of-fresh n old v in-region .0
 
     -- there is no next level
     module _ (stop : nextLevel edge region (back last) ≡ []) where
@@ -289,7 +281,7 @@ module _ (n : ℕ) (edge : Graph) (inside : (u v : ℕ) → edge u v ≡ true �
             numbered = record { own = own; others = λ v h. s .numbered v ∙ placed-others v (getD old v 0) (back last) (sym (in-levels v) ∙ h) };
             count = levels-many ∙ s .count;
             deep = omega (arith, stand-few s);
-            members = λ v. s .reached v ∙ sym (in-levels v) ∙ levels-cover edge region root (root-inside n old root lt e) v;
+            members = λ v. s .reached v ∙ sym (in-levels v) ∙ levels-cover edge region root (in-fresh n old root lt e) v;
             many = reached-many;
             few = stand-few s .0;
           }

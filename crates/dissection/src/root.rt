@@ -6,7 +6,7 @@ use crate::levels::label;
 use crate::levels::walk;
 use mesh::node;
 ghost use mathlib.Core.Path.{_≡_};
-ghost use mathlib.Core.Bool.{true, false};
+ghost use mathlib.Core.Bool.{true};
 ghost use mathlib.Core.Logic.{_≢_};
 ghost use mathlib.Core.List.{[], headD};
 ghost use Prim.Native.Nat.{ℕ, _≤_, _<_};

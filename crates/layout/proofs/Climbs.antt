@@ -18,7 +18,7 @@ use Rattle.theory.proofs.Ranges.{isIn-upFrom, upFrom-add, upFrom-snoc}
 use Rattle.theory.proofs.Counting.{count-exists}
 use Rattle.theory.proofs.EliminationTree.{Above, self as above-self, parent as above-parent, first-later, parent-at-most}
 use Rattle.layout.specs.Arrays.{none, Tree, Rising, markedBelow, Ancestor, self, parent, Meets}
-use Rattle.layout.proofs.Grown.{written-push}
+use Rattle.theory.proofs.Written.{written-push}
 
 -- ---- lists
 

@@ -1,12 +1,12 @@
--- A buffer that is written from its front on, part by part; the rows of the first columns, written so, and where each column starts in them.
+-- The rows of the first columns, and where each column starts in them.
 use mathlib.Core.Path.{_≡_, refl, sym, ap, subst, _∙_}
 use mathlib.Core.List.{List, [], _∷_, _++_, map, flatten, append-assoc, append-nil, map-append}
 use Prim.Native.Nat.{ℕ, zero, suc, _+_, _-_, _≤_, _<_}
 use native.Mathlib.Nat.{zero-add, add-zero}
 use native.Mathlib.Numerals.{add-one}
 use native.Mathlib.Omega.{arith}
-use lib.ListN.{length, take, drop, set, getD, length-append, length-take, length-drop, drop-of-length-le, List·getD-map}
-use lib.Seq.{take-all, take-at, drop-at, take-append-seam, drop-append-seam, drop-cons, set-append-seam, append-snoc, drop-drop, getD-take}
+use lib.ListN.{length, take, drop, getD, length-append, length-take, List·getD-map}
+use lib.Seq.{take-at, drop-at, getD-take}
 use Rattle.plan.specs.Lists.{written, below, listAt, runningSums}
 use Rattle.plan.specs.Mesh.{Mesh}
 use Rattle.plan.specs.Elimination.{column, columns, startsOf}
@@ -16,42 +16,6 @@ use Rattle.theory.proofs.Compressed.{sums-first, sums-next, sums-length}
 use Rattle.theory.proofs.Slots.{counts-length, column-number}
 use Rattle.mesh.specs.Lent.{ListWithin}
 use Rattle.layout.specs.Arrays.{rowsOf}
-
-module _ {A : Type 0} where
-  -- one element more, stored at the end of what is written
-  pub written-push : (l found : List A) (i : ℕ) (v : A) → length l ≡ i → i < length found → set (written l found) i v ≡ written (l ++ (v ∷ [])) found
-  written-push l found i v e h =
-      let q : length l < length found = omega arith in
-      let n : length (l ++ (v ∷ [])) ≡ suc (length l) = length-append l (v ∷ []) ∙ omega arith in
-      rw (← e, drop-cons found (length l) v q, set-append-seam, n, append-snoc)
-
-  -- a part from the end of what is written to the buffer's end, itself written over, and back in its place
-  written-part : (l new found : List A) (i k : ℕ) → length l ≡ i → length (drop i (written l found)) ≤ k
-      → take i (written l found) ++ (written new (take k (drop i (written l found))) ++ drop k (drop i (written l found))) ≡ written (l ++ new) found
-  written-part l new found i k e m =
-      rw (take-all k (drop i (written l found)) m, drop-of-length-le (drop i (written l found)) m, append-nil, ← e, take-append-seam, drop-append-seam, drop-drop, length-append, append-assoc)
-
-  -- the same, as it is met: a call that was lent `&mut rows[at..]` left `last` there
-  pub written-grow : (found rows l new last : List A) (at : ℕ) → rows ≡ written l found → at ≡ length l → last ≡ written new (take (length rows - at) (drop at rows))
-      → take at rows ++ (last ++ drop (length rows - at) (drop at rows)) ≡ written (l ++ new) found
-  written-grow found rows l new last at e f g =
-      rw (g, e) (written-part l new found at (length (written l found) - at) (sym f) (rw length-drop (omega arith)))
-
-  -- what is written stands at the front
-  pub written-again : (l found : List A) → written l (written l found) ≡ written l found
-  written-again l found = ap (λ (x : List A). l ++ x) (drop-append-seam l (drop (length l) found))
-
-  -- what is written over something shorter hides it
-  pub written-over : (l new found : List A) → written (l ++ new) (written l found) ≡ written (l ++ new) found
-  written-over l new found =
-      ap (λ (x : List A). (l ++ new) ++ x)
-      (ap (λ (k : ℕ). drop k (l ++ drop (length l) found)) (length-append l new)
-      ∙ sym (drop-drop (length new) (length l) (l ++ drop (length l) found))
-      ∙ ap (drop (length new)) (drop-append-seam l (drop (length l) found))
-      ∙ drop-drop (length new) (length l) found
-      ∙ ap (λ (k : ℕ). drop k found) (sym (length-append l new)))
-
--- ---- the rows of the first columns
 
 module _ (m : Mesh) (order : List ℕ) where
   -- no column

@@ -14,7 +14,7 @@ use Rattle.theory.proofs.Bools.{eq-or-ne}
 use Rattle.theory.proofs.Ranges.{length-map-upFrom, getD-map-below}
 use Rattle.theory.proofs.Orders.{order-inside, order-distinct, position-inside, order-of-position, position-of-order}
 use Rattle.layout.specs.Arrays.{Ordered}
-use Rattle.layout.proofs.Written.{written-all}
+use Rattle.theory.proofs.Written.{written-all}
 
 -- the first i nodes of an order have their positions, and what does not belong to a node is as found
 pub record Inverted (n : ℕ) (order : List ℕ) (i : ℕ) (found inverse : List ℕ) : Type 0 where

@@ -1,4 +1,3 @@
-pub mod Written
 pub mod Inverse
 pub mod Climbing
 pub mod Totals

@@ -26,7 +26,7 @@ use Rattle.theory.proofs.Refusals.{no-fault, fault-here, no-fault-first}
 use Rattle.theory.proofs.Checked.{checked}
 use Rattle.theory.proofs.Planned.{handed-demand3}
 use Rattle.theory.proofs.Ranges.{map-ext-upFrom, length-map-upFrom, getD-map-below}
-use Rattle.theory.proofs.Lists.{front-written}
+use Rattle.theory.proofs.Written.{front-written}
 use Rattle.theory.proofs.Compressed.{sums-length, total-lengths}
 use Rattle.theory.proofs.Orders.{order-length}
 use Rattle.theory.proofs.Slots.{column-counted, counts-length}

@@ -1,10 +1,8 @@
 -- `cut::borders` meets its contract: the loop tries each entry of the node's list.
 use mathlib.Core.Path.{_≡_, refl, sym, ap, _∙_}
-use mathlib.Core.Bool.{Bool}
 use mathlib.Core.List.{List}
 use Prim.Native.Nat.{ℕ, _-_, _<_}
 use native.Mathlib.Omega.{arith}
-use lib.Dec.{eqb}
 use lib.ListN.{length, getD}
 use borrow.Author.Tests.{eq-eqb, ne-eqb}
 use borrow.Author.Needs.{needs}
@@ -13,15 +11,12 @@ use Rattle.plan.specs.Mesh.{Mesh, neighboursOf}
 use Rattle.mesh.specs.Lent.{lent}
 use Rattle.mesh.proofs.Lists.{checked-within, entry-node}
 use Rattle.mesh.proofs.Scans.{Clear, clear-more, elementAt, found-in, none-in}
+use Rattle.dissection.proofs.Grouped.{hasNumber}
 use Rattle.dissection.proofs.cut.borders.Statement.{statement}
 use Rattle.dissection.proofs.cut.borders.Tie as tie
 
--- whether node w has number x
-abbrev has : List ℕ → ℕ → ℕ → Bool
-has numbers x w = eqb (getD numbers w 0) x
-
 abbrev Inv-loop : tie.InvT-loop
-Inv-loop n starts neighbours v x numbers entries k₀ k-end k = Clear (elementAt (has numbers x) entries) k
+Inv-loop n starts neighbours v x numbers entries k₀ k-end k = Clear (elementAt (hasNumber numbers x) entries) k
 
 abbrev μ-loop : tie.MeasureT-loop
 μ-loop n starts neighbours v x numbers entries k₀ k-end k = k-end - k
@@ -62,20 +57,20 @@ returns : tie.Need-returns Inv-loop μ-loop
 returns c =
     let l = c .before .before .before .before .before in
     let a = start l .args in
-    sym (ap (exists (has (a .numbers .now) (a .x))) (sym (whole l))
-    ∙ found-in (has (a .numbers .now) (a .x)) (entries l) (l .loop .k) (omega arith) (rw (← c .before .before .node .ensures) (eq-eqb _ _ (c .if1 .taken))))
+    sym (ap (exists (hasNumber (a .numbers .now) (a .x))) (sym (whole l))
+    ∙ found-in (hasNumber (a .numbers .now) (a .x)) (entries l) (l .loop .k) (omega arith) (rw (← c .before .before .node .ensures) (eq-eqb _ _ (c .if1 .taken))))
 
 loop-again : tie.Need-loop-again Inv-loop μ-loop
 loop-again c =
     let l = c .before .before .before .before .before in
     let a = start l .args in
-    clear-more (elementAt (has (a .numbers .now) (a .x)) (entries l)) (l .loop .k) (l .loop .inv) (rw (← c .before .before .node .ensures) (ne-eqb _ _ (c .if1 .left)))
+    clear-more (elementAt (hasNumber (a .numbers .now) (a .x)) (entries l)) (l .loop .k) (l .loop .inv) (rw (← c .before .before .node .ensures) (ne-eqb _ _ (c .if1 .left)))
 
 returns-2 : tie.Need-returns-2 Inv-loop μ-loop
 returns-2 c =
     let l = c .before in
     let a = start l .args in
-    sym (ap (exists (has (a .numbers .now) (a .x))) (sym (whole l)) ∙ none-in (has (a .numbers .now) (a .x)) (entries l) (l .loop .k) (omega arith) (l .loop .inv))
+    sym (ap (exists (hasNumber (a .numbers .now) (a .x))) (sym (whole l)) ∙ none-in (hasNumber (a .numbers .now) (a .x)) (entries l) (l .loop .k) (omega arith) (l .loop .inv))
 
 pub borders-spec : {M : Type 1} → statement M
 borders-spec =

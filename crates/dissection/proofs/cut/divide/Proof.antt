@@ -2,9 +2,9 @@
 use Prim.Native.Nat.{_≤_}
 use native.Mathlib.Omega.{arith}
 use borrow.Author.Needs.{needs}
-use Rattle.plan.specs.Mesh.{Mesh, adjacent}
+use Rattle.plan.specs.Mesh.{Mesh}
 use Rattle.mesh.specs.Lent.{lent}
-use Rattle.dissection.proofs.Cuts.{parted-fresh, parted-high, labels, divided}
+use Rattle.dissection.proofs.Cuts.{parted-fresh, parted-high, divided}
 use Rattle.dissection.proofs.cut.divide.Statement.{statement}
 use Rattle.dissection.proofs.cut.divide.Tie as tie
 
@@ -26,10 +26,7 @@ chosen c = c .before .before .before .before .before .before
 
 -- there are at most as many labels as nodes
 few : (c : tie.After-label) → c .label .result ≤ start (searched (chosen c)) .args .n
-few c =
-    let s = start (searched (chosen c)) in
-    labels (s .args .n) (adjacent (mesh s)) (s .args .nodes .now) (s .args .at) (chosen c .choose .last .1 .1 .1 .1 .1 .0) (c .label .last .1 .1 .1 .1 .1 .0) (c .label .last .1 .1 .1 .1 .1 .1 .1 .0)
-    (c .label .result) (c .label .ensures) .1
+few c = c .label .ensures .few
 
 choose-requires : tie.Need-choose-requires
 choose-requires c κs =

@@ -9,9 +9,9 @@ use lib.Seq.{take-all}
 use borrow.Author.Needs.{needs}
 use Rattle.plan.specs.Lists.{isIn}
 use Rattle.plan.specs.Mesh.{Mesh}
-use Rattle.theory.proofs.Lists.{isIn-getD}
+use Rattle.theory.proofs.Lists.{isIn-getD, exists-more}
 use Rattle.mesh.specs.Lent.{lent}
-use Rattle.dissection.proofs.Cuts.{isIn-take-more, LeftOut, left-out-as, left-out-more}
+use Rattle.dissection.proofs.Cuts.{LeftOut, left-out-as, left-out-more}
 use Rattle.dissection.proofs.cut.separate.Statement.{statement}
 use Rattle.dissection.proofs.cut.separate.Tie as tie
 
@@ -58,7 +58,7 @@ loop-again c =
     let i : ℕ = l .loop .i in (
       length-set (l .loop .numbers) u (c .separated .result) ∙ l .loop .inv .0,
       left-out-as (mesh s) (a .j) (a .numbers .now) (λ v. isIn v (take i (a .nodes .now)) || eqb v u) (λ v. isIn v (take (i + 1) (a .nodes .now))) (set (l .loop .numbers) u (c .separated .result))
-          (λ v. isIn-take-more v i (a .nodes .now) (omega arith) ∙ ap (λ (x : ℕ). isIn v (take i (a .nodes .now)) || eqb v x) (sym (c .before .before .node .ensures)))
+          (λ v. exists-more (eqb v) (a .nodes .now) i (omega arith) ∙ ap (λ (x : ℕ). isIn v (take i (a .nodes .now)) || eqb v x) (sym (c .before .before .node .ensures)))
           (rw (c .separated .ensures)
           (left-out-more (mesh s) (a .j) (a .numbers .now) (omega (arith, s .pre .3, s .pre .0 .few)) (λ v. isIn v (take i (a .nodes .now))) (l .loop .numbers) (l .loop .inv .1) u (slice-write-numbers c))),
     )

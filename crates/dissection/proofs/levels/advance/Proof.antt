@@ -1,5 +1,5 @@
 -- `dissection::levels::advance` meets its contract: the lists of the nodes before place k have been visited.
-use mathlib.Core.Path.{_≡_, ap, _∙_}
+use mathlib.Core.Path.{_≡_, sym, ap, _∙_}
 use mathlib.Core.Bool.{_||_}
 use Prim.Native.Nat.{ℕ, _-_, _≤_}
 use native.Mathlib.Omega.{arith}
@@ -7,9 +7,11 @@ use borrow.Author.Needs.{needs}
 use lib.ListN.{getD}
 use Rattle.plan.specs.Lists.{exists, segment}
 use Rattle.plan.specs.Mesh.{Mesh, adjacent}
+use Rattle.theory.proofs.Lists.{getD-front}
+use Rattle.theory.proofs.Segments.{segment-none, segment-more}
 use Rattle.mesh.specs.Lent.{lent}
 use Rattle.dissection.specs.Spread.{Spread}
-use Rattle.dissection.proofs.Spreads.{segment-none, segment-more, getD-front, spread-start, spread-as, spread-both}
+use Rattle.dissection.proofs.Spreads.{spread-start, spread-as, spread-both}
 use Rattle.dissection.proofs.levels.advance.Statement.{statement}
 use Rattle.dissection.proofs.levels.advance.Tie as tie
 
@@ -46,7 +48,7 @@ same-node : (c : tie.In-loop Inv-loop μ-loop) →
 same-node c =
     let l = c .before .loop in
     let a = c .before .before .before .before .before .before .args in
-    getD-front (l .queue) (a .queue .now) (l .k) (a .hi) (c .loop-test .taken) (l .inv .3 .kept)
+    getD-front (l .queue) (a .queue .now) (l .k) (a .hi) 0 (c .loop-test .taken) (l .inv .3 .kept)
 
 visit-requires : tie.Need-visit-requires Inv-loop μ-loop
 visit-requires c κs =
@@ -67,7 +69,7 @@ loop-again c =
       l .inv .2,
       spread-as
           (λ v. ap (λ (w : ℕ). exists (λ u. adjacent (mesh s) u v) (segment (a .queue .now) (a .lo) (l .k)) || adjacent (mesh s) w v) same
-          ∙ segment-more (λ u. adjacent (mesh s) u v) (a .queue .now) (a .lo) (l .k) (l .inv .0) (omega (arith, k .loop-test .taken, l .inv .2, s .pre .3 .queueLong)))
+          ∙ sym (segment-more (λ u. adjacent (mesh s) u v) (a .queue .now) (a .lo) (l .k) (l .inv .0) (omega (arith, k .loop-test .taken, l .inv .2, s .pre .3 .queueLong))))
           (spread-both {t = adjacent (mesh s) (c .before .before .before .before .before .before .before .node .result)} (s .pre .1) (l .inv .3) (c .before .before .before .before .visit .ensures)),
     )
 

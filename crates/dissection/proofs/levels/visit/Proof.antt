@@ -1,5 +1,5 @@
 -- `dissection::levels::visit` meets its contract: the entries before place k have been touched.
-use mathlib.Core.Path.{_≡_, refl, ap, _∙_}
+use mathlib.Core.Path.{_≡_, refl, sym, ap, _∙_}
 use Prim.Native.Nat.{_-_, _<_}
 use native.Mathlib.Omega.{arith}
 use borrow.Author.Needs.{needs}
@@ -8,10 +8,11 @@ use lib.ListN.{take, getD}
 use lib.Seq.{take-all}
 use Rattle.plan.specs.Lists.{isIn}
 use Rattle.plan.specs.Mesh.{Mesh, neighboursOf, adjacent}
+use Rattle.theory.proofs.Lists.{exists-more}
 use Rattle.mesh.specs.Lent.{lent}
 use Rattle.mesh.proofs.Lists.{checked-within, entry-node}
 use Rattle.dissection.specs.Spread.{Spread}
-use Rattle.dissection.proofs.Spreads.{exists-more, spread-start, spread-as, spread-both}
+use Rattle.dissection.proofs.Spreads.{spread-start, spread-as, spread-both}
 use Rattle.dissection.proofs.levels.visit.Statement.{statement}
 use Rattle.dissection.proofs.levels.visit.Tie as tie
 
@@ -63,7 +64,7 @@ loop-again c =
     let l = k .before .loop in
     let e = k .before .before in
     let s = e .before .before .before .before .before in
-    spread-as (λ v. exists-more (eqb v) (e .list .result .now) (l .k) (k .loop-test .taken))
+    spread-as (λ v. sym (exists-more (eqb v) (e .list .result .now) (l .k) (k .loop-test .taken)))
     (spread-both (s .pre .2) (l .inv) (c .before .before .before .before .touch .ensures))
 
 returns : tie.Need-returns Inv-loop μ-loop

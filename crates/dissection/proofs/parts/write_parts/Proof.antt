@@ -11,8 +11,8 @@ use borrow.Author.Needs.{needs}
 use Rattle.plan.specs.Lists.{written}
 use Rattle.plan.specs.Mesh.{noParent}
 use Rattle.plan.specs.Steps.{byNumber}
+use Rattle.theory.proofs.Written.{written-next}
 use Rattle.dissection.specs.Blocks.{blockSizes, blockParents}
-use Rattle.dissection.proofs.Written.{written-next}
 use Rattle.dissection.proofs.Heads.{sizes-many, blocks-few, Passed, passed-none, passed-place, passed-parent, passed-known, passed-end, passed-size, passed-more, numbers-many, number-at}
 use Rattle.dissection.proofs.parts.write_parts.Statement.{statement}
 use Rattle.dissection.proofs.parts.write_parts.Tie as tie

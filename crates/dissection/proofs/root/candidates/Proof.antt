@@ -4,7 +4,7 @@ use native.Mathlib.Omega.{arith}
 use borrow.Author.Needs.{needs}
 use Rattle.plan.specs.Mesh.{Mesh}
 use Rattle.mesh.specs.Lent.{lent}
-use Rattle.dissection.proofs.Roots.{fresh-inside, level-high, groups-few, labelled-only, candidates-found}
+use Rattle.dissection.proofs.Roots.{fresh-inside, level-high, labelled-only, candidates-found}
 use Rattle.dissection.proofs.root.candidates.Statement.{statement}
 use Rattle.dissection.proofs.root.candidates.Tie as tie
 
@@ -37,10 +37,7 @@ label-requires c κs =
 
 -- there are at most n candidates
 few : (l : tie.After-label) → l .label .result ≤ entry (kept l) .args .n
-few l =
-    let k = kept l in
-    let s = entry k in
-    groups-few (mesh s) (s .args .nodes .now) (s .pre .0 .0) (s .pre .1 .0) (s .pre .1 .1) (k .keep-level .last .1 .1 .0) (k .keep-level .ensures) (l .label .ensures)
+few l = l .label .ensures .few
 
 least-requires : tie.Need-least-requires
 least-requires c κs =

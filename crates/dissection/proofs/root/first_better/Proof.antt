@@ -10,10 +10,9 @@ use borrow.Author.Needs.{needs}
 use Rattle.plan.specs.Lists.{keep}
 use Rattle.plan.specs.Mesh.{Mesh}
 use Rattle.plan.specs.Choice.{improves}
-use Rattle.theory.proofs.Lists.{isIn-getD}
+use Rattle.theory.proofs.Lists.{isIn-getD, scan-miss, scan-hit, scan-none}
 use Rattle.mesh.specs.Lent.{lent}
 use Rattle.dissection.specs.Standing.{Regional}
-use Rattle.dissection.proofs.Groups.{scan-miss, scan-hit, scan-none}
 use Rattle.dissection.proofs.Roots.{regional-again, better-walked, better-same, improves-more, improves-not}
 use Rattle.dissection.proofs.root.first_better.Statement.{statement}
 use Rattle.dissection.proofs.root.first_better.Tie as tie

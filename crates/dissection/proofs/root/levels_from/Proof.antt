@@ -8,7 +8,7 @@ use Rattle.plan.specs.Mesh.{Mesh}
 use Rattle.theory.proofs.Bools.{cond-true}
 use Rattle.mesh.specs.Lent.{lent}
 use Rattle.dissection.specs.Numbers.{fresh}
-use Rattle.dissection.proofs.Roots.{walk-rooted, walk-standing}
+use Rattle.dissection.proofs.Standing.{walk-rooted, walk-standing}
 use Rattle.dissection.proofs.root.levels_from.Statement.{statement}
 use Rattle.dissection.proofs.root.levels_from.Tie as tie
 

@@ -61,7 +61,7 @@ loop-holds c =
         regional = regional-again (mesh s) nodes (s .pre .0) (e .2 .only) (c .before .before .before .numbers .given) (c .before .queue .given);
         rooted = rw (e .0) (e .1);
         standing = rw (e .0) (e .2);
-        found = ap (foundFrom (mesh s) nodes) (e .0) ∙ found-first (mesh s) nodes (s .pre .0 .some);
+        found = ap (foundFrom (mesh s) nodes) (e .0) ∙ found-first (mesh s) nodes;
       },
     )
 

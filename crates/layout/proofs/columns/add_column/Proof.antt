@@ -13,7 +13,8 @@ use Rattle.theory.specs.Rows.{isRow}
 use Rattle.theory.proofs.EliminationTree.{row-range}
 use Rattle.mesh.specs.Lent.{lent}
 use Rattle.layout.specs.Arrays.{markedBelow, Meets, rowsOf}
-use Rattle.layout.proofs.Grown.{rows-more, starts-long, start-at, start-next, column-found, column-within, written-grow}
+use Rattle.theory.proofs.Written.{written-grow}
+use Rattle.layout.proofs.Grown.{rows-more, starts-long, start-at, start-next, column-found, column-within}
 use Rattle.layout.proofs.Climbs.{tree-meets}
 use Rattle.layout.proofs.Rows.{Listed, child-column, marks-below, row-marked, marked-column}
 use Rattle.layout.proofs.columns.add_column.Statement.{statement}

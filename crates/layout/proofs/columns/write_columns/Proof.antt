@@ -11,7 +11,8 @@ use Rattle.plan.specs.Mesh.{Mesh}
 use Rattle.plan.specs.Elimination.{column}
 use Rattle.mesh.specs.Lent.{lent}
 use Rattle.layout.specs.Arrays.{MarksBelow, rowsOf}
-use Rattle.layout.proofs.Grown.{written-again, written-over, rows-none, rows-more, rows-all}
+use Rattle.theory.proofs.Written.{written-again, written-over}
+use Rattle.layout.proofs.Grown.{rows-none, rows-more, rows-all}
 use Rattle.layout.proofs.Climbs.{tree-rising}
 use Rattle.layout.proofs.columns.write_columns.Statement.{statement}
 use Rattle.layout.proofs.columns.write_columns.Tie as tie

@@ -8,7 +8,7 @@ use lib.ListN.{length, take, getD, set, length-set}
 use lib.Seq.{length-take-le}
 use Rattle.plan.specs.Lists.{total, runningSums, written}
 use Rattle.theory.proofs.Compressed.{sums-length}
-use Rattle.layout.proofs.Written.{written-over, written-push}
+use Rattle.theory.proofs.Written.{written-push, written-set}
 use Rattle.layout.proofs.Totals.{total-more, sums-more}
 use Rattle.layout.proofs.counts.write_starts.Statement.{statement}
 use Rattle.layout.proofs.counts.write_starts.Tie as tie
@@ -34,7 +34,7 @@ loop-holds c =
       low = search needs;
       next = refl;
       few = search needs;
-      sums = written-push [] found 0 0 refl (omega arith) ∙ sym (written-over (0 ∷ []) found 0 (omega arith));
+      sums = written-push [] found 0 0 refl (omega arith) ∙ sym (written-set (0 ∷ []) found 0 (omega arith));
       long = refl;
     }
 
@@ -75,7 +75,7 @@ returns c =
     let e : l .j ≡ c .before .before .args .n = omega arith in
     let s = c .before .before .args in
     let sums : List ℕ = runningSums 0 (take (s .n) (s .counts .now)) in
-    rw e at (l .inv .sums) ∙ written-over sums (s .columnStarts .now) 0 (omega (arith, sums-length 0 (take (s .n) (s .counts .now))))
+    rw e at (l .inv .sums) ∙ written-set sums (s .columnStarts .now) 0 (omega (arith, sums-length 0 (take (s .n) (s .counts .now))))
 
 pub write-starts-spec : {M : Type 1} → statement M
 write-starts-spec =
