@@ -1,0 +1,253 @@
+-- The listing of planning's answer: what planning leaves in buffers that are long enough is listed as the book says.
+use mathlib.Core.Path.{_≡_, refl, sym, ap, _∙_, subst}
+use mathlib.Core.Logic.{inl, inr}
+use mathlib.Core.Bool.{Bool, true, false, not, cond, _||_}
+use mathlib.Core.List.{List, [], _∷_, _++_, map, flatten, append-nil}
+use Prim.Native.Nat.{ℕ, zero, suc, _+_, _≤_, _<_}
+use native.Mathlib.Omega.{arith}
+use lib.Dec.{ltb}
+use lib.ListN.{length, getD, take, drop, length-append, List·getD-append}
+use borrow.Author.Tests.{ltb-true, le-ltb, eq-eqb}
+use Rattle.plan.specs.declared.PlanAnswer.{PlanAnswer}
+use Rattle.plan.specs.declared.PlanAnswer.the-variants.{Accepted, Refused}
+use Rattle.plan.specs.declared.Plan.{Plan}
+use Rattle.plan.specs.Lists.{every, below, listAt, written}
+use Rattle.plan.specs.Refusals.{Checks, firstFault}
+use Rattle.plan.specs.Answers.{Reply, planReply}
+use Rattle.plan.specs.Mesh.{Mesh, badStarts, badMeshStarts, meshChecks}
+use Rattle.plan.specs.Elimination.{columns}
+use Rattle.plan.specs.Planning.{planBy, planOf, Buffers, Capacity, capacity, buffersTooShort, rowsTooShort, planChecks, handOut, planning, fill, Filled, Planned}
+use Rattle.plan.specs.Listing.{maxListedNodes, inputMesh, badInput, listingChecks, headLine, positionLine, refusalLine, print, listing}
+use Rattle.theory.proofs.Bools.{and-left, and-right, or-neither, tested}
+use Rattle.theory.proofs.Written.{front-written}
+use Rattle.theory.proofs.Refusals.{fault-here, fault-later}
+use Rattle.theory.proofs.Ranges.{map-ext-upFrom}
+use Rattle.theory.proofs.Orders.{order-length}
+use Rattle.theory.proofs.Slots.{column-listed, column-at, slots-last}
+use Rattle.theory.proofs.Eliminated.{columns-starts}
+use Rattle.theory.proofs.Planned.{planned-once, planned-sizes}
+use Rattle.mesh.specs.Lent.{lent, ListWithin}
+use Rattle.mesh.proofs.Lists.{list-within}
+use Rattle.text.specs.Lines.{lineAt, headOf, linesOf, lentPlan, PlanWithin, answerText, AnswerWithin, meshText}
+use Rattle.text.proofs.Lines.{head-counts, plan-parts}
+use Rattle.text.proofs.Inputs.{input-passes, mesh-nodes}
+use Rattle.text.proofs.Bound.{planned-nodes, slots-at-most, plan-fits, refusal-fits}
+
+-- ---- the first fault
+
+-- checks 8 and 9 that find no fault change nothing
+none-behind : (cs : Checks) (a b : Bool) → a ≡ false → b ≡ false → firstFault (cs ++ ((8, a) ∷ (9, b) ∷ [])) ≡ firstFault cs
+unfolding firstFault
+none-behind [] a b ha hb = rw (ha, hb)
+none-behind (c ∷ cs) a b ha hb = ap (λ (k : ℕ). cond (c .1) (c .0) k) (none-behind cs a b ha hb)
+
+-- the number of a fault is one of the checks' numbers
+fault-below : (b : ℕ) (cs : Checks) → 0 < b → every (λ c. ltb (c .0) b) cs ≡ true → firstFault cs < b
+unfolding firstFault
+fault-below b [] pos h = pos
+fault-below b (c ∷ cs) pos h = go (c .1) (fault-below b cs pos (and-right (ltb (c .0) b) _ h))
+  where
+    go : (t : Bool) → firstFault cs < b → cond t (c .0) (firstFault cs) < b
+    go true later = ltb-true (c .0) b (and-left (ltb (c .0) b) _ h)
+    go false later = later
+
+-- those of the mesh's checks are below 100
+mesh-fault : (m : Mesh) → firstFault (meshChecks m) < 100
+unfolding meshChecks
+mesh-fault m = fault-below 100 (meshChecks m) (omega arith) refl
+
+-- buffers for a mesh of at most 256 nodes
+pub record Roomy (room : Capacity) : Type 0 where
+  pub order : maxListedNodes ≤ room .order
+  pub positions : maxListedNodes ≤ room .positions
+  pub sizes : maxListedNodes ≤ room .sizes
+  pub parents : maxListedNodes ≤ room .parents
+  pub columnStarts : maxListedNodes + 1 ≤ room .columnStarts
+  pub rows : 32640 ≤ room .rows
+
+module _ (m : Mesh) (few : m .nodes ≤ maxListedNodes) where
+  -- such buffers are long enough
+  long-enough : (room : Capacity) → Roomy room → buffersTooShort (m .nodes) room ≡ false
+  unfolding buffersTooShort
+  long-enough room r =
+      let n : ℕ = m .nodes in
+      or-neither (ltb (room .order) n || ltb (room .positions) n || ltb (room .sizes) n || ltb (room .parents) n) (ltb (room .columnStarts) (n + 1))
+      (or-neither (ltb (room .order) n || ltb (room .positions) n || ltb (room .sizes) n) (ltb (room .parents) n)
+      (or-neither (ltb (room .order) n || ltb (room .positions) n) (ltb (room .sizes) n)
+      (or-neither (ltb (room .order) n) (ltb (room .positions) n) (le-ltb (room .order) n (omega (arith, r .order))) (le-ltb (room .positions) n (omega (arith, r .positions))))
+      (le-ltb (room .sizes) n (omega (arith, r .sizes))))
+      (le-ltb (room .parents) n (omega (arith, r .parents))))
+      (le-ltb (room .columnStarts) (n + 1) (omega (arith, r .columnStarts)))
+
+  -- and so are the rows
+  rows-enough : (room : Capacity) → Roomy room → rowsTooShort (planOf m) room ≡ false
+  unfolding rowsTooShort
+  rows-enough room r = le-ltb (room .rows) (planOf m .slots) (omega (arith, r .rows, slots-at-most m few))
+
+  -- so planning's first fault is the mesh's
+  same-fault : (room : Capacity) → Roomy room → firstFault (planChecks m room) ≡ firstFault (meshChecks m)
+  unfolding planChecks
+  same-fault room r = none-behind (meshChecks m) (buffersTooShort (m .nodes) room) (rowsTooShort (planOf m) room) (long-enough room r) (rows-enough room r)
+
+  -- the text fits
+  pub mesh-fits : length (meshText m) ≤ 135168
+  unfolding meshText
+  mesh-fits = go (firstFault (meshChecks m)) (mesh-fault m)
+    where
+      go : (k : ℕ) → k < 100 → length (print k (planOf m)) ≤ 135168
+      go zero h = plan-fits m few
+      go (suc k) h = unfold print in omega (arith, refusal-fits (suc k) h)
+
+-- ---- a plan that was handed out
+
+-- a list that lies within its entries does so where more stands behind both
+within-longer : (starts entries more rest : List ℕ) (j : ℕ) → ListWithin starts entries j → ListWithin (starts ++ more) (entries ++ rest) j
+within-longer starts entries more rest j w =
+    let here : getD (starts ++ more) j 0 ≡ getD starts j 0 = List·getD-append starts more 0 j (omega (arith, w .started)) in
+    let next : getD (starts ++ more) (j + 1) 0 ≡ getD starts (j + 1) 0 = List·getD-append starts more 0 (j + 1) (w .started) in
+    record {
+      started = omega (arith, w .started, length-append starts more);
+      ordered = omega (arith, w .ordered, here, next);
+      ended = omega (arith, w .ended, next, length-append entries rest);
+    }
+
+-- each column of a plan lies within the rows
+column-within : (m : Mesh) (j : ℕ) → j < m .nodes → ListWithin (planOf m .columnStarts) (planOf m .rows) j
+unfolding planOf planBy badMeshStarts
+column-within m j h =
+    let last : getD (planOf m .columnStarts) (m .nodes) 0 ≡ length (planOf m .rows) = simp append-nil at (slots-last m (planOf m .order) []) in
+    list-within (lent (m .nodes) (planOf m .columnStarts) (planOf m .rows))
+    (or-neither (badStarts (m .nodes) (planOf m .columnStarts)) _ (columns-starts m (planOf m .order))
+    (ap not (eq-eqb (getD (planOf m .columnStarts) (m .nodes) 0) (length (planOf m .rows)) last)))
+    j h
+
+module _ (m : Mesh) (p : Plan) (found left : Buffers) (h : Filled (handOut 0 (planOf m)) (Accepted p) found left) where
+  -- the counts of the answer are the plan's
+  value : (k : ℕ) → getD (planReply (Accepted p) .values) k 0 ≡ getD (handOut 0 (planOf m) .reply .values) k 0
+  value k = ap (λ (r : Reply). getD (r .values) k 0) (h .reply)
+
+  -- nodes, parts, slots
+  nodes : p .nodes ≡ m .nodes
+  unfolding handOut planOf planBy
+  nodes = value 0
+
+  parts : p .parts ≡ planOf m .parts
+  unfolding handOut
+  parts = value 1
+
+  slots : p .slots ≡ planOf m .slots
+  unfolding handOut
+  slots = value 2
+
+  -- the order has a node for each position
+  many : length (planOf m .order) ≡ m .nodes
+  many = order-length (m .nodes) (planOf m .order) (planned-once m)
+
+  -- what planning left in the buffers
+  order-left : left .order ≡ written (planOf m .order) (found .order)
+  unfolding handOut fill
+  order-left = h .order
+
+  sizes-left : left .sizes ≡ written (planOf m .sizes) (found .sizes)
+  unfolding handOut fill
+  sizes-left = h .sizes
+
+  starts-left : left .columnStarts ≡ written (planOf m .columnStarts) (found .columnStarts)
+  unfolding handOut fill
+  starts-left = h .columnStarts
+
+  rows-left : left .rows ≡ written (planOf m .rows) (found .rows)
+  unfolding handOut fill
+  rows-left = h .rows
+
+  -- the order and the sizes stand at the front
+  order-front : take (p .nodes) (left .order) ≡ planOf m .order
+  order-front = front-written (p .nodes) (planOf m .order) (found .order) (left .order) order-left (many ∙ sym nodes)
+
+  sizes-front : take (p .parts) (left .sizes) ≡ planOf m .sizes
+  sizes-front = front-written (p .parts) (planOf m .sizes) (found .sizes) (left .sizes) sizes-left (planned-sizes m ∙ sym parts)
+
+  -- and so do the columns
+  column-front : (j : ℕ) → j < m .nodes → listAt (left .columnStarts) (left .rows) j ≡ listAt (planOf m .columnStarts) (planOf m .rows) j
+  unfolding planOf planBy
+  column-front j l =
+      rw (starts-left, rows-left)
+      (column-listed m (planOf m .order) (drop (length (planOf m .columnStarts)) (found .columnStarts)) (drop (length (planOf m .rows)) (found .rows)) j l
+      ∙ sym (column-at m (planOf m .order) j l))
+
+  -- the buffers hold the plan
+  plan-within : PlanWithin (p .nodes) (p .parts) (left .order) (left .sizes) (left .columnStarts) (left .rows)
+  plan-within =
+      record {
+        nodes = omega (arith, nodes, many, ap length order-left, length-append (planOf m .order) (drop (length (planOf m .order)) (found .order)));
+        parts = omega (arith, parts, planned-sizes m, ap length sizes-left, length-append (planOf m .sizes) (drop (length (planOf m .sizes)) (found .sizes)));
+        columns = λ j l. rw (starts-left, rows-left) (within-longer (planOf m .columnStarts) (planOf m .rows) _ _ j (column-within m j (omega (arith, nodes))));
+      }
+
+  -- its lines are those of the plan of the mesh
+  lines-same : linesOf (planOf m .order) (planOf m .sizes) (left .columnStarts) (left .rows) ≡ flatten (map (positionLine (planOf m)) (below (m .nodes)))
+  unfolding positionLine
+  lines-same =
+      rw many
+      (ap flatten (map-ext-upFrom (lineAt (planOf m .order) (planOf m .sizes) (left .columnStarts) (left .rows)) (positionLine (planOf m)) (m .nodes) 0
+      (λ j l u. rw (column-front j (omega arith)))))
+
+  -- and so is its first line
+  head-same : headOf (p .nodes) (p .parts) (p .slots) ≡ headLine (planOf m)
+  head-same = rw (nodes ∙ sym (planned-nodes m), parts, slots) (sym (head-counts (planOf m)))
+
+  -- so it is listed as that plan
+  plan-text : print 0 (lentPlan (p .nodes) (p .parts) (p .slots) (left .order) (left .sizes) (left .columnStarts) (left .rows)) ≡ print 0 (planOf m)
+  unfolding print
+  plan-text =
+      plan-parts (p .nodes) (p .parts) (p .slots) (left .order) (left .sizes) (left .columnStarts) (left .rows) (plan-within .nodes)
+      ∙ rw (order-front, sizes-front, lines-same, head-same) (ap (λ (n : ℕ). headLine (planOf m) ++ flatten (map (positionLine (planOf m)) (below n))) (sym (planned-nodes m)))
+
+-- ---- an answer
+
+-- an answer and buffers from which `text` is listed
+pub record Listed (answer : PlanAnswer) (left : Buffers) (text : List ℕ) : Type 0 where
+  pub same : answerText answer (left .order) (left .sizes) (left .columnStarts) (left .rows) ≡ text
+  pub held : AnswerWithin answer (left .order) (left .sizes) (left .columnStarts) (left .rows)
+
+-- a plan
+accepted-listed : (m : Mesh) (answer : PlanAnswer) (found left : Buffers) → Filled (handOut 0 (planOf m)) answer found left → Listed answer left (print 0 (planOf m))
+unfolding answerText AnswerWithin handOut
+accepted-listed m (Accepted p) found left h = record { same = plan-text m p found left h; held = plan-within m p found left h }
+accepted-listed m (Refused j) found left h = absurd (omega (arith, ap (λ (r : Reply). length (r .values)) (h .reply)))
+
+-- a refusal
+refused-listed : (k : ℕ) (m : Mesh) (answer : PlanAnswer) (found left : Buffers) → Filled (handOut (suc k) (planOf m)) answer found left → Listed answer left (print (suc k) (planOf m))
+unfolding handOut answerText AnswerWithin print
+refused-listed k m (Accepted p) found left h = absurd (omega (arith, ap (λ (r : Reply). r .number) (h .reply)))
+refused-listed k m (Refused j) found left h = record { same = ap refusalLine (ap (λ (r : Reply). r .number) (h .reply)); held = tt }
+
+-- planning's answer, where the buffers are long enough
+pub planned-listed : (m : Mesh) → m .nodes ≤ maxListedNodes → (answer : PlanAnswer) (found left : Buffers) → Roomy (capacity found) → Planned m answer found left
+    → Listed answer left (meshText m)
+unfolding planning meshText
+planned-listed m few answer found left room h =
+    go (firstFault (meshChecks m)) (subst (λ (k : ℕ). Filled (handOut k (planOf m)) answer found left) (same-fault m few (capacity found) room) (h .filled))
+  where
+    go : (k : ℕ) → Filled (handOut k (planOf m)) answer found left → Listed answer left (print k (planOf m))
+    go zero f = accepted-listed m answer found left f
+    go (suc k) f = refused-listed k m answer found left f
+
+-- ---- the listing
+
+-- input that fails check 20 is refused
+pub listing-refused : (bytes : List ℕ) → badInput bytes ≡ true → listing bytes ≡ refusalLine 20
+unfolding listing listingChecks print
+listing-refused bytes h = ap (λ (k : ℕ). print k (planOf (inputMesh bytes))) (fault-here 20 (badInput bytes) (meshChecks (inputMesh bytes)) h)
+
+-- other input is listed by the mesh that it holds
+pub listing-mesh : (bytes : List ℕ) → badInput bytes ≡ false → listing bytes ≡ meshText (inputMesh bytes)
+unfolding listing listingChecks meshText
+listing-mesh bytes h = ap (λ (k : ℕ). print k (planOf (inputMesh bytes))) (fault-later 20 (badInput bytes) (meshChecks (inputMesh bytes)) h)
+
+-- every listing fits
+pub listing-fits : (bytes : List ℕ) → length (listing bytes) ≤ 135168
+listing-fits bytes = elim (tested (badInput bytes)) [
+  | inl h ↦ omega (arith, ap length (listing-refused bytes h), refusal-fits 20 (omega arith))
+  | inr h ↦ rw (listing-mesh bytes h) (mesh-fits (inputMesh bytes) (rw (mesh-nodes bytes) (input-passes bytes h .nodes)))
+]

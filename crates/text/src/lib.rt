@@ -1,0 +1,123 @@
+// The listing program's text: from the bytes of the input to the bytes of the listing.
+mod input;
+mod listed;
+mod output;
+
+use crate::input::bad_input;
+use crate::input::entry_count;
+use crate::input::node_count;
+use crate::input::read_neighbours;
+use crate::input::read_starts;
+use crate::listed::put_answer;
+use crate::output::put_refusal;
+ghost use mathlib.Core.Path.{_≡_};
+ghost use mathlib.Core.Bool.{false};
+ghost use Prim.Native.Nat.{_≤_};
+ghost use lib.ListN.{length, take};
+ghost use Rattle.plan.specs.Listing.{maxListedNodes, inputMesh, badInput, listing};
+ghost use Rattle.mesh.specs.Lent.{lent};
+ghost use Rattle.text.specs.Put.{Put};
+ghost use Rattle.text.specs.Lines.{meshText};
+
+// A text at the front of its bytes. The listing of 256 nodes is shorter than 135,168 bytes.
+pub struct Text {
+    pub bytes: [u8; 135168],
+    pub length: usize,
+}
+
+// Room for a number for each node. O(256).
+fn no_nodes() -> [u16; 256]
+    ensures { λ r. ⌜ length r ≡ 256 ⌝ }
+{
+    [0; 256]
+}
+
+// Room for the starts of their lists. O(256).
+fn no_starts() -> [u32; 257]
+    ensures { λ r. ⌜ length r ≡ 257 ⌝ }
+{
+    [0; 257]
+}
+
+// Room for the entries. O(2,048).
+fn no_entries() -> [u16; 2048]
+    ensures { λ r. ⌜ length r ≡ 2048 ⌝ }
+{
+    [0; 2048]
+}
+
+// Room for the rows of 256 columns. O(32,640).
+fn no_rows() -> [u16; 32640]
+    ensures { λ r. ⌜ length r ≡ 32640 ⌝ }
+{
+    [0; 32640]
+}
+
+// Room for the text. O(135,168).
+fn no_bytes() -> [u8; 135168]
+    ensures { λ r. ⌜ length r ≡ 135168 ⌝ }
+{
+    [0; 135168]
+}
+
+// The listing of a mesh: its plan, or the number of its first fault. O(planning + n · parts + slots · digits).
+fn put_mesh(out: &mut [u8], n: usize, starts: &[u32], neighbours: &[u16]) -> usize
+    requires { ⌜ (n ≤ maxListedNodes) × (135168 ≤ length (now out)) ⌝ }
+    ensures { λ r. ⌜ Put (now (out .entry)) 0 (meshText (lent n (now (starts .entry)) (now (neighbours .entry)))) (now (out .exit)) r ⌝ }
+{
+    let mut order = no_nodes();
+    let mut positions = no_nodes();
+    let mut sizes = no_nodes();
+    let mut parents = no_nodes();
+    let mut columnStarts = no_starts();
+    let mut rows = no_rows();
+    let answer = planner::plan(
+        n,
+        starts,
+        neighbours,
+        &mut order,
+        &mut positions,
+        &mut sizes,
+        &mut parents,
+        &mut columnStarts,
+        &mut rows,
+    );
+    put_answer(out, 0, answer, &order, &sizes, &columnStarts, &rows)
+}
+
+// The listing of the mesh that the input holds, which has passed check 20. O(planning + n · parts + slots · digits).
+fn put_input(out: &mut [u8], input: &[u8]) -> usize
+    requires { ⌜ (badInput (now input) ≡ false) × (135168 ≤ length (now out)) ⌝ }
+    ensures { λ r. ⌜ Put (now (out .entry)) 0 (meshText (inputMesh (now (input .entry)))) (now (out .exit)) r ⌝ }
+{
+    let mut starts = no_starts();
+    let mut neighbours = no_entries();
+    read_starts(input, &mut starts);
+    read_neighbours(input, &mut neighbours);
+    let n = node_count(input);
+    let entries = entry_count(input);
+    let allStarts = &starts[..];
+    let allNeighbours = &neighbours[..];
+    put_mesh(out, n, &allStarts[0..n + 1], &allNeighbours[0..entries])
+}
+
+// The listing into a lent buffer: check 20, then the mesh. O(planning + n · parts + slots · digits).
+fn put_listing(out: &mut [u8], input: &[u8]) -> usize
+    requires { ⌜ 135168 ≤ length (now out) ⌝ }
+    ensures { λ r. ⌜ Put (now (out .entry)) 0 (listing (now (input .entry))) (now (out .exit)) r ⌝ }
+{
+    if bad_input(input) {
+        return put_refusal(out, 0, 20);
+    }
+    put_input(out, input)
+}
+
+// The listing, whole: what the program writes when it has read these bytes. O(planning + n · parts + slots · digits).
+pub fn list(input: &[u8]) -> Text
+    ensures { λ r. ⌜ take (r .length) (r .bytes) ≡ listing (now (input .entry)) ⌝ }
+    ensures { λ r. ⌜ r .length ≤ length (r .bytes) ⌝ }
+{
+    let mut bytes = no_bytes();
+    let length = put_listing(&mut bytes, input);
+    Text { bytes, length }
+}
