@@ -7,7 +7,7 @@ use lib.ListN.{length}
 use borrow.Author.Needs.{needs}
 use Rattle.plan.specs.File.{decode16}
 use Rattle.plan.specs.Listing.{entryCount, inputMesh}
-use Rattle.text.proofs.Written.{Fills, fills-none, fills-more, fills-all}
+use Rattle.text.proofs.Fills.{Fills, fills-none, fills-more, fills-all}
 use Rattle.text.proofs.Inputs.{starts-behind, entries-within, entries-many, entry-at}
 use Rattle.text.proofs.input.read_neighbours.Statement.{statement}
 use Rattle.text.proofs.input.read_neighbours.Tie as tie

@@ -6,7 +6,7 @@ use native.Mathlib.Omega.{arith}
 use borrow.Author.Needs.{needs}
 use Rattle.plan.specs.File.{decode16}
 use Rattle.plan.specs.Listing.{inputMesh}
-use Rattle.text.proofs.Written.{Fills, fills-none, fills-more, fills-all}
+use Rattle.text.proofs.Fills.{Fills, fills-none, fills-more, fills-all}
 use Rattle.text.proofs.Inputs.{starts-behind, start-within, starts-many, start-at}
 use Rattle.text.proofs.input.read_starts.Statement.{statement}
 use Rattle.text.proofs.input.read_starts.Tie as tie
