@@ -1,0 +1,67 @@
+// Parts of lent buffers, and whether a buffer holds what it should.
+
+// The first k entries, or all where there are not so many.
+pub fn first16<'a>(s: &'a [u16], k: usize) -> &'a [u16] {
+    if k <= s.len() {
+        return &s[0..k];
+    }
+    s
+}
+
+pub fn first32<'a>(s: &'a [u32], k: usize) -> &'a [u32] {
+    if k <= s.len() {
+        return &s[0..k];
+    }
+    s
+}
+
+pub fn front16<'a>(s: &'a mut [u16], k: usize) -> &'a mut [u16] {
+    if k <= s.len() {
+        return &mut s[0..k];
+    }
+    s
+}
+
+pub fn front32<'a>(s: &'a mut [u32], k: usize) -> &'a mut [u32] {
+    if k <= s.len() {
+        return &mut s[0..k];
+    }
+    s
+}
+
+// What entry i should be: that of `want` where it is used, `rest` elsewhere.
+fn wanted16(want: &[u16], used: usize, rest: u16, i: usize) -> u16 {
+    if i < used {
+        if i < want.len() {
+            return want[i];
+        }
+    }
+    rest
+}
+
+pub fn holds16(buffer: &[u16], want: &[u16], used: usize, rest: u16) -> bool {
+    for i in 0..buffer.len() {
+        if buffer[i] != wanted16(want, used, rest, i) {
+            return false;
+        }
+    }
+    true
+}
+
+fn wanted32(want: &[u32], used: usize, rest: u32, i: usize) -> u32 {
+    if i < used {
+        if i < want.len() {
+            return want[i];
+        }
+    }
+    rest
+}
+
+pub fn holds32(buffer: &[u32], want: &[u32], used: usize, rest: u32) -> bool {
+    for i in 0..buffer.len() {
+        if buffer[i] != wanted32(want, used, rest, i) {
+            return false;
+        }
+    }
+    true
+}

@@ -1,0 +1,72 @@
+// Plans some thousand meshes with the planner and with `naive`, which is written apart from it, and counts the meshes on
+// which they differ in an answer or in any entry of a lent result.
+mod buffers;
+mod counts;
+mod trial;
+
+use crate::buffers::first16;
+use crate::counts::Counts;
+use crate::counts::counted;
+use crate::counts::none;
+use crate::counts::print;
+use crate::trial::try_case;
+use crate::trial::try_lent;
+
+// Every mesh of n nodes, of which there are `count`.
+fn every(c: Counts, n: u8, count: u64) -> Counts {
+    let mut d = c;
+    for number in 0..count {
+        d = counted(d, try_case(meshes::numbered(n, number)));
+    }
+    d
+}
+
+// The mesh that the seed draws, and the same damaged once and twice.
+fn drawn(c: Counts, seed: u64) -> Counts {
+    let sound = meshes::drawn(seed);
+    let damaged = meshes::damaged(sound, seed);
+    let twice = meshes::damaged(damaged, seed % 4294967296 + 1);
+    let d = counted(c, try_case(sound));
+    let e = counted(d, try_case(damaged));
+    counted(e, try_case(twice))
+}
+
+fn all_drawn(c: Counts) -> Counts {
+    let mut d = c;
+    for seed in 0..1500u64 {
+        d = drawn(d, seed);
+    }
+    d
+}
+
+// A mesh of n nodes with so many entries, each of them 0.
+fn many(c: Counts, n: u8, starts: &[u32], count: usize) -> Counts {
+    let entries = [0u16; 65537];
+    counted(
+        c,
+        try_lent(
+            n as usize,
+            starts,
+            first16(&entries, count),
+            meshes::least(n),
+        ),
+    )
+}
+
+// As many entries as are allowed, and one more.
+fn all_many(c: Counts) -> Counts {
+    let d = many(c, 1, &[0, 65536], 65536);
+    let e = many(d, 2, &[0, 0, 65536], 65536);
+    let f = many(e, 1, &[0, 65537], 65537);
+    let g = many(f, 2, &[0, 0, 65537], 65537);
+    many(g, 1, &[0, 65536], 65537)
+}
+
+fn main() {
+    let c = every(
+        every(every(every(every(none(), 1, 1), 2, 2), 3, 8), 4, 64),
+        5,
+        1024,
+    );
+    print(all_many(all_drawn(c)));
+}

@@ -1,0 +1,28 @@
+use Prim.Native.Nat.{_-_}
+use borrow.Author.Needs.{needs}
+use Rattle.naive.proofs.check.mesh.Statement.{statement}
+use Rattle.naive.proofs.check.mesh.Tie as tie
+
+abbrev Inv-loop : tie.InvT-loop
+Inv-loop n starts neighbours number₀ number = Unit {0}
+
+abbrev μ-loop : tie.MeasureT-loop
+μ-loop n starts neighbours number₀ number = 8 - number
+
+pub mesh-spec : {M : Type 1} → statement M
+mesh-spec =
+    tie.close
+    (tie.spec
+    Inv-loop
+    μ-loop
+    (λ c. search needs)
+    (λ c κs. search needs)
+    (λ c. search needs)
+    (λ c. search needs)
+    (λ c. search needs)
+    (λ c κs. search needs)
+    (λ c. search needs)
+    (λ c. search needs)
+    (λ c. search needs)
+    (λ c. search needs)
+    (λ c. search needs))

@@ -1,0 +1,24 @@
+use Prim.Native.Nat.{_-_}
+use borrow.Author.Needs.{needs}
+use Rattle.naive.proofs.check.mesh_fails.Statement.{statement}
+use Rattle.naive.proofs.check.mesh_fails.Tie as tie
+
+abbrev Inv-loop : tie.InvT-loop
+Inv-loop number n starts neighbours v₀ v = Unit {0}
+
+abbrev μ-loop : tie.MeasureT-loop
+μ-loop number n starts neighbours v₀ v = n - v
+
+pub mesh-fails-spec : {M : Type 1} → statement M
+mesh-fails-spec =
+    tie.close
+    (tie.spec
+    Inv-loop
+    μ-loop
+    (λ c. search needs)
+    (λ c κs. search needs)
+    (λ c. search needs)
+    (λ c. search needs)
+    (λ c. search needs)
+    (λ c. search needs)
+    (λ c. search needs))

@@ -1,0 +1,138 @@
+// Checks 1 to 7, each over the whole mesh before the next, and the matrix of a mesh that passes them.
+use crate::sets::only;
+use crate::sets::wide16;
+use crate::sets::wide32;
+
+// Where v's list begins.
+fn start(starts: &[u32], v: usize) -> usize {
+    if v < starts.len() {
+        return wide32(starts[v]);
+    }
+    0
+}
+
+// Where v's list ends.
+fn end(starts: &[u32], v: usize) -> usize {
+    if v < starts.len() {
+        return start(starts, v + 1);
+    }
+    0
+}
+
+fn entry(neighbours: &[u16], e: usize) -> usize {
+    if e < neighbours.len() {
+        return wide16(neighbours[e]);
+    }
+    0
+}
+
+fn falling(n: usize, starts: &[u32]) -> bool {
+    for v in 0..n {
+        if end(starts, v) < start(starts, v) {
+            return true;
+        }
+    }
+    false
+}
+
+fn bad_starts(n: usize, starts: &[u32], neighbours: &[u16]) -> bool {
+    if starts.len() == 0 {
+        return true;
+    }
+    if starts.len() - 1 != n {
+        return true;
+    }
+    if start(starts, 0) != 0 {
+        return true;
+    }
+    falling(n, starts) || start(starts, n) != neighbours.len()
+}
+
+// Whether w stands in v's list.
+fn lists(starts: &[u32], neighbours: &[u16], v: usize, w: usize) -> bool {
+    for e in start(starts, v)..end(starts, v) {
+        if entry(neighbours, e) == w {
+            return true;
+        }
+    }
+    false
+}
+
+// Whether entry e of v's list fails the check: 4, 5, 6 or 7.
+fn entry_fails(
+    number: u32,
+    n: usize,
+    starts: &[u32],
+    neighbours: &[u16],
+    v: usize,
+    e: usize,
+) -> bool {
+    let w = entry(neighbours, e);
+    if number == 4 {
+        return n <= w;
+    }
+    if number == 5 {
+        return w == v;
+    }
+    if number == 6 {
+        if start(starts, v) < e {
+            return w <= entry(neighbours, e - 1);
+        }
+        return false;
+    }
+    !lists(starts, neighbours, w, v)
+}
+
+fn list_fails(number: u32, n: usize, starts: &[u32], neighbours: &[u16], v: usize) -> bool {
+    for e in start(starts, v)..end(starts, v) {
+        if entry_fails(number, n, starts, neighbours, v, e) {
+            return true;
+        }
+    }
+    false
+}
+
+fn mesh_fails(number: u32, n: usize, starts: &[u32], neighbours: &[u16]) -> bool {
+    for v in 0..n {
+        if list_fails(number, n, starts, neighbours, v) {
+            return true;
+        }
+    }
+    false
+}
+
+// The first check that fails, or 0.
+pub fn mesh(n: usize, starts: &[u32], neighbours: &[u16]) -> u32 {
+    if n == 0 || 4096 < n {
+        return 1;
+    }
+    if bad_starts(n, starts, neighbours) {
+        return 2;
+    }
+    if 65536 < neighbours.len() {
+        return 3;
+    }
+    for number in 4..8u32 {
+        if mesh_fails(number, n, starts, neighbours) {
+            return number;
+        }
+    }
+    0
+}
+
+// The nodes of v's list.
+fn list(starts: &[u32], neighbours: &[u16], v: usize) -> u64 {
+    let mut s = 0u64;
+    for e in start(starts, v)..end(starts, v) {
+        s = s | only(entry(neighbours, e));
+    }
+    s
+}
+
+pub fn matrix(starts: &[u32], neighbours: &[u16]) -> [u64; 64] {
+    let mut m = [0u64; 64];
+    for v in 0..64usize {
+        m[v] = list(starts, neighbours, v);
+    }
+    m
+}

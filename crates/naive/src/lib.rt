@@ -1,0 +1,91 @@
+// A second planner, written from document 01 alone: dense, literal and small, for meshes of at most 64 nodes. Test
+// programs compare the proved planner with it. Proved safe; what it answers is tested, and not proved.
+mod check;
+mod dissection;
+mod elimination;
+mod sets;
+
+use crate::elimination::eliminate;
+
+// What planning hands out. `refusal` is 0 where the mesh is planned; otherwise everything else is 0.
+pub struct NaivePlan {
+    pub refusal: u32,
+    pub nodes: u32,
+    pub parts: u32,
+    pub slots: u32,
+    pub multiplications: u64,
+    pub order: [u16; 64],
+    pub positions: [u16; 64],
+    pub sizes: [u16; 64],
+    pub parents: [u16; 64],
+    pub column_starts: [u32; 65],
+    pub rows: [u16; 2016],
+}
+
+fn refused(number: u32) -> NaivePlan {
+    NaivePlan {
+        refusal: number,
+        nodes: 0,
+        parts: 0,
+        slots: 0,
+        multiplications: 0,
+        order: [0; 64],
+        positions: [0; 64],
+        sizes: [0; 64],
+        parents: [0; 64],
+        column_starts: [0; 65],
+        rows: [0; 2016],
+    }
+}
+
+fn planned(n: usize, starts: &[u32], neighbours: &[u16]) -> NaivePlan {
+    let m = check::matrix(starts, neighbours);
+    let d = dissection::dissect(&m, n);
+    let order = d.order;
+    let positions = d.positions;
+    let sizes = d.sizes;
+    let parents = d.parents;
+    let e = eliminate(m, &order, n);
+    let column_starts = e.column_starts;
+    let rows = e.rows;
+    NaivePlan {
+        refusal: 0,
+        nodes: (n % 65536) as u32,
+        parts: (d.parts % 65536) as u32,
+        slots: (e.slots % 65536) as u32,
+        multiplications: e.multiplications,
+        order: order,
+        positions: positions,
+        sizes: sizes,
+        parents: parents,
+        column_starts: column_starts,
+        rows: rows,
+    }
+}
+
+// The plan of a lent mesh. The last six numbers are the lengths of the lent results. Refusals 1 to 8 are right for every
+// n; a plan, and refusal 9, for n of at most 64.
+pub fn plan(
+    n: usize,
+    starts: &[u32],
+    neighbours: &[u16],
+    order: usize,
+    positions: usize,
+    sizes: usize,
+    parents: usize,
+    column_starts: usize,
+    rows: usize,
+) -> NaivePlan {
+    let refusal = check::mesh(n, starts, neighbours);
+    if refusal != 0 {
+        return refused(refusal);
+    }
+    if order < n || positions < n || sizes < n || parents < n || column_starts <= n {
+        return refused(8);
+    }
+    let p = planned(n, starts, neighbours);
+    if rows < sets::wide32(p.slots) {
+        return refused(9);
+    }
+    p
+}
