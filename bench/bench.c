@@ -116,8 +116,7 @@ static double now(void) {
 #define LENT(b) (b).order, NODES, (b).positions, NODES, (b).sizes, NODES, (b).parents, NODES, (b).column_starts, NODES + 1, (b).rows, SLOTS
 
 static int measure(const char *name) {
-    NdpPlan a = {0, 0, 0, 0, 0};
-    PlainPlan b = {0, 0, 0, 0, 0};
+    NdpPlan a = {0, 0, 0, 0, 0}, b = a;
     double best_proved = 1e9, best_plain = 1e9, began = now();
     for (int run = 0; run < 200 && (run < 5 || now() - began < 2000); run++) {
         double t0 = now();
