@@ -1,16 +1,15 @@
 // Plans some thousand meshes with the planner and with `naive`, which is written apart from it, and counts the meshes on
 // which they differ in an answer or in any entry of a lent result.
-mod buffers;
 mod counts;
 mod trial;
 
-use crate::buffers::first16;
 use crate::counts::Counts;
 use crate::counts::counted;
 use crate::counts::none;
 use crate::counts::print;
 use crate::trial::try_case;
 use crate::trial::try_lent;
+use meshes::first16;
 
 // Every mesh of n nodes, of which there are `count`.
 fn every(c: Counts, n: u8, count: u64) -> Counts {

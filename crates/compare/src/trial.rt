@@ -1,12 +1,12 @@
 // One mesh planned by both planners.
-use crate::buffers::first16;
-use crate::buffers::first32;
-use crate::buffers::front16;
-use crate::buffers::front32;
-use crate::buffers::holds16;
-use crate::buffers::holds32;
 use meshes::Case;
 use meshes::Lengths;
+use meshes::first16;
+use meshes::first32;
+use meshes::front16;
+use meshes::front32;
+use meshes::holds16;
+use meshes::holds32;
 use naive::NaivePlan;
 use plan::PlanAnswer;
 

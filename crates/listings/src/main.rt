@@ -11,20 +11,20 @@ fn wide(b: u8) -> usize
     b as usize
 }
 
-// Where the case that begins at `at` ends; the input's end where no whole case stands there. O(1).
+// Where the case that begins at `at` ends; 0 where no whole case stands there. O(1).
 fn end_of(input: &[u8], at: usize) -> usize
     ensures { λ r. ⌜ r ≤ length (now (input .entry)) ⌝ }
 {
     if input.len() < at {
-        return input.len();
+        return 0;
     }
     if input.len() - at < 2 {
-        return input.len();
+        return 0;
     }
     let size = wide(input[at]) + 256 * wide(input[at + 1]);
     let from = at + 2;
     if input.len() - from < size {
-        return input.len();
+        return 0;
     }
     from + size
 }
@@ -37,7 +37,7 @@ fn list_one(input: &[u8]) {
     io::write_all(STDOUT_FILENO, &bytes[..length]);
 }
 
-// The listings of all cases. O(cases).
+// The listings of all cases, up to the first that is not whole. O(the listings of all cases).
 fn list_all(input: &[u8]) {
     let mut at: usize = 0;
     while at < input.len() {

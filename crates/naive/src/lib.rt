@@ -1,4 +1,4 @@
-// A second planner, written from document 01 alone: dense, literal and small, for meshes of at most 64 nodes. Test
+// A second planner, written from document 01 and READINGS, without the book or the planner: dense, literal and small, for meshes of at most 64 nodes. Test
 // programs compare the proved planner with it. Proved safe; what it answers is tested, and not proved.
 mod check;
 mod dissection;

@@ -1,16 +1,17 @@
+-- `cases::show::print_columns` is safe and ends.
 use Prim.Native.Nat.{_-_}
 use borrow.Author.Needs.{needs}
-use Rattle.compare.proofs.buffers.holds32.Statement.{statement}
-use Rattle.compare.proofs.buffers.holds32.Tie as tie
+use Rattle.cases.proofs.show.print_columns.Statement.{statement}
+use Rattle.cases.proofs.show.print_columns.Tie as tie
 
 abbrev Inv-loop : tie.InvT-loop
-Inv-loop buffer want used rest i₀ i-end i = Unit {0}
+Inv-loop entries i₀ i-end i = Unit {0}
 
 abbrev μ-loop : tie.MeasureT-loop
-μ-loop buffer want used rest i₀ i-end i = i-end - i
+μ-loop entries i₀ i-end i = i-end - i
 
-pub holds32-spec : {M : Type 1} → statement M
-holds32-spec =
+pub print-columns-spec : {M : Type 1} → statement M
+print-columns-spec =
     tie.close
     (tie.spec
     Inv-loop
@@ -22,5 +23,5 @@ holds32-spec =
     (λ c. search needs)
     (λ c. search needs)
     (λ c. search needs)
-    (λ c. search needs)
+    (λ c κs. search needs)
     (λ c. search needs))

@@ -1,7 +1,7 @@
 use Prim.Native.Nat.{_-_}
 use borrow.Author.Needs.{needs}
-use Rattle.compare.proofs.buffers.holds16.Statement.{statement}
-use Rattle.compare.proofs.buffers.holds16.Tie as tie
+use Rattle.meshes.proofs.buffers.holds16.Statement.{statement}
+use Rattle.meshes.proofs.buffers.holds16.Tie as tie
 
 abbrev Inv-loop : tie.InvT-loop
 Inv-loop buffer want used rest i₀ i-end i = Unit {0}

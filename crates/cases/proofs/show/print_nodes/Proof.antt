@@ -1,0 +1,27 @@
+-- `cases::show::print_nodes` is safe and ends.
+use Prim.Native.Nat.{_-_}
+use borrow.Author.Needs.{needs}
+use Rattle.cases.proofs.show.print_nodes.Statement.{statement}
+use Rattle.cases.proofs.show.print_nodes.Tie as tie
+
+abbrev Inv-loop : tie.InvT-loop
+Inv-loop entries i₀ i-end i = Unit {0}
+
+abbrev μ-loop : tie.MeasureT-loop
+μ-loop entries i₀ i-end i = i-end - i
+
+pub print-nodes-spec : {M : Type 1} → statement M
+print-nodes-spec =
+    tie.close
+    (tie.spec
+    Inv-loop
+    μ-loop
+    (λ c. search needs)
+    (λ c. search needs)
+    (λ c. search needs)
+    (λ c κs. search needs)
+    (λ c. search needs)
+    (λ c. search needs)
+    (λ c. search needs)
+    (λ c κs. search needs)
+    (λ c. search needs))

@@ -1,0 +1,26 @@
+use Prim.Native.Nat.{_-_}
+use borrow.Author.Needs.{needs}
+use Rattle.meshes.proofs.buffers.holds32.Statement.{statement}
+use Rattle.meshes.proofs.buffers.holds32.Tie as tie
+
+abbrev Inv-loop : tie.InvT-loop
+Inv-loop buffer want used rest i₀ i-end i = Unit {0}
+
+abbrev μ-loop : tie.MeasureT-loop
+μ-loop buffer want used rest i₀ i-end i = i-end - i
+
+pub holds32-spec : {M : Type 1} → statement M
+holds32-spec =
+    tie.close
+    (tie.spec
+    Inv-loop
+    μ-loop
+    (λ c. search needs)
+    (λ c. search needs)
+    (λ c. search needs)
+    (λ c κs. search needs)
+    (λ c. search needs)
+    (λ c. search needs)
+    (λ c. search needs)
+    (λ c. search needs)
+    (λ c. search needs))
