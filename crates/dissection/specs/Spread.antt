@@ -1,4 +1,4 @@
--- What one stretch of a walk does to the numbers and the queue.
+-- What touching nodes does to the numbers and the queue.
 use mathlib.Core.Path.{_≡_}
 use mathlib.Core.Bool.{Bool, cond, _&&_}
 use mathlib.Core.List.{List}

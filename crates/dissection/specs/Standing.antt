@@ -27,15 +27,15 @@ pub record Standing (m : Mesh) (nodes : List ℕ) (root : ℕ) (numbers : List �
   pub unreached : (v : ℕ) → isIn v nodes ≡ true → isIn v (flatten (levels (adjacent m) nodes root)) ≡ false → getD numbers v 0 ≡ fresh
   pub only : Only (m .nodes) nodes numbers
 
--- of the numbers of a last level that are kept: fresh where it is the level's, outside otherwise
+-- the number of a node once only level `last` stays: fresh in it, outside elsewhere
 abbrev pub onlyLevel : ℕ → ℕ → ℕ
 onlyLevel last x = cond (eqb x last) fresh outside
 
--- the number of a node that is not in the separator
+-- the number of a node once those that were not left out are fresh
 abbrev pub opened : ℕ → ℕ
 opened x = cond (eqb x outside) outside fresh
 
--- the number of a node of the separator is x
+-- the number of a node once those that were left out have number k
 abbrev pub closed : ℕ → ℕ → ℕ
 closed k x = cond (eqb x outside) k x
 

@@ -144,7 +144,7 @@ fn choose(
     open(nodes, numbers);
 }
 
-// A region divided: the nodes of the regions left get the numbers 0, 1, .. of their regions, by smallest node, and those of the part the number behind them, which is told.
+// A region divided: the nodes of the regions left get the numbers 0, 1, .. of their regions, by smallest node, and those of the part the number behind them, which is returned.
 // O(candidates tried · entries of the region).
 pub fn divide(
     n: usize,

@@ -122,7 +122,8 @@ pub struct Root {
     pub last: u16,
 }
 
-// The candidates of a root whose levels stand in the numbers: of each component of its last level a node of least degree. O(length + entries of the last level).
+// The candidates of a root whose levels stand in the numbers: of each component of its last level a node of least degree. `found` has the places where the components begin until the
+// candidates are written over them. O(length + entries of the last level).
 fn candidates(
     n: usize,
     starts: &[u32],
@@ -143,7 +144,7 @@ fn candidates(
     count
 }
 
-// The levels from node r: they stand in the numbers, and the number of the last one is told. O(length + entries of the region).
+// The levels from node r: they stand in the numbers, and the number of the last one is returned. O(length + entries of the region).
 fn levels_from(
     n: usize,
     starts: &[u32],
@@ -216,7 +217,7 @@ fn improve(
     )
 }
 
-// The number of the last level from the region's pseudo-peripheral root, whose levels then stand in the numbers. Each turn of the search has more levels than the one before.
+// The number of the last level from the region's pseudo-peripheral root, whose levels then stand in the numbers. Each turn of the search has more levels than the one before. O(candidates tried · entries of the region).
 pub fn search(
     n: usize,
     starts: &[u32],

@@ -154,14 +154,14 @@ fn add_column(
     write_column(n, j as u16, e - a, tree, marks, &mut rows[a..]);
 }
 
-// Room for a position each. O(4,096).
+// 4,096 times no position. O(4,096).
 fn no_positions() -> [u16; 4096]
     ensures { λ r. ⌜ (length r ≡ 4096) × ((k : ℕ) → k < 4096 → getD r k 0 ≡ none) ⌝ }
 {
     [NONE; 4096]
 }
 
-// The rows of all columns. O(slots + entries + the ways up the tree).
+// The rows of all columns. O(4,096 + slots + entries + the ways up the tree).
 pub fn write_columns(
     n: usize,
     starts: &[u32],

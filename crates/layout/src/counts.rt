@@ -77,7 +77,7 @@ fn reset(n: usize, x: u16, numbers: &mut [u16])
     }
 }
 
-// The elimination tree and the number of rows of each column. O(slots + entries) time, and no memory but the lent arrays.
+// The elimination tree and the number of rows of each column. O(n + slots + entries) time, and no memory but the lent arrays.
 pub fn count_rows(
     n: usize,
     starts: &[u32],

@@ -76,14 +76,14 @@ fn refusal(
     0
 }
 
-// Room for a position each. O(4,096).
+// 4,096 zeros. O(4,096).
 fn no_positions() -> [u16; 4096]
     ensures { λ r. ⌜ length r ≡ 4096 ⌝ }
 {
     [0; 4096]
 }
 
-// The positions, the elimination tree and the column counts of the order at the front of an array. O(slots + entries).
+// The positions, the elimination tree and the column counts of the order at the front of an array. O(n + slots + entries).
 fn count_columns(
     n: usize,
     starts: &[u32],
@@ -105,7 +105,7 @@ fn count_columns(
     count_rows(n, starts, neighbours, nodes, places, tree, marks, counts);
 }
 
-// The layout of the order at the front of an array: positions, column starts and rows. O(slots + entries + the ways up the elimination tree).
+// The layout of the order at the front of an array: positions, column starts and rows. `places` are the same positions as working memory. O(4,096 + slots + entries + the ways up the elimination tree).
 fn lay_out(
     n: usize,
     starts: &[u32],
@@ -141,7 +141,7 @@ fn lay_out(
     );
 }
 
-// The plan of a mesh that has passed checks 1 to 8, or refusal 9 once the slots are counted. Nothing is written before.
+// The plan of a mesh that has passed checks 1 to 8, or refusal 9 once the slots are counted. Nothing is written before. O(dissection + slots + entries + the ways up the elimination tree).
 fn plan_checked(
     n: usize,
     starts: &[u32],
@@ -197,7 +197,7 @@ fn plan_checked(
     PlanAnswer::Accepted(Plan::new(n as u32, count as u32, slots, totals.multiplications))
 }
 
-// Planning: checks 1 to 9 in their order, then the plan in the lent buffers.
+// Planning: checks 1 to 9 in their order, then the plan in the lent buffers. O(entries · log degree + dissection + slots + the ways up the elimination tree).
 pub fn plan(
     n: usize,
     starts: &[u32],
