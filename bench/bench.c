@@ -41,12 +41,15 @@ static void make_lists(void) {
     entries = 0;
     for (size_t v = 0; v < n; v++) {
         starts[v] = entries;
-        for (size_t w = 0; w < n; w++) if (joined[v][w] && entries < ENTRIES) neighbours[entries++] = w;
+        for (size_t w = 0; w < n; w++) if (joined[v][w]) {
+            if (entries == ENTRIES) { fprintf(stderr, "too many entries\n"); exit(2); }
+            neighbours[entries++] = w;
+        }
     }
     starts[n] = entries;
 }
 
-/* a triangulated plate; every `hole`-th inner square of 4 by 4 nodes is cut out, 0 for none */
+/* a plate, triangulated if `diagonals`; with `hole`, the nodes of each square of 4 by 4 whose column and row both leave 1 when divided by `hole` have no neighbour */
 static void plate(size_t width, size_t height, int diagonals, size_t hole) {
     clear(width * height);
     for (size_t y = 0; y < height; y++) for (size_t x = 0; x < width; x++) {
@@ -119,15 +122,18 @@ static int measure(const char *name) {
     NdpPlan a = {0, 0, 0, 0, 0}, b = a;
     double best_proved = 1e9, best_plain = 1e9, began = now();
     for (int run = 0; run < 200 && (run < 5 || now() - began < 2000); run++) {
-        double t0 = now();
-        b = plain_plan(n, starts, n + 1, neighbours, entries, LENT(plain));
-        double t1 = now();
-        a = ndp_plan(n, starts, n + 1, neighbours, entries, LENT(proved));
-        double t2 = now();
-        if (t1 - t0 < best_plain) best_plain = t1 - t0;
-        if (t2 - t1 < best_proved) best_proved = t2 - t1;
+        for (int turn = 0; turn < 2; turn++) {
+            double from = now();
+            if (turn == run % 2) {
+                b = plain_plan(n, starts, n + 1, neighbours, entries, LENT(plain));
+                if (now() - from < best_plain) best_plain = now() - from;
+            } else {
+                a = ndp_plan(n, starts, n + 1, neighbours, entries, LENT(proved));
+                if (now() - from < best_proved) best_proved = now() - from;
+            }
+        }
     }
-    int same = a.refusal == b.refusal && a.nodes == b.nodes && a.parts == b.parts && a.slots == b.slots && a.multiplications == b.multiplications &&
+    int same = a.refusal == 0 && b.refusal == 0 && a.nodes == b.nodes && a.parts == b.parts && a.slots == b.slots && a.multiplications == b.multiplications &&
                memcmp(&proved, &plain, sizeof proved) == 0;
     printf("%-22s %6zu %8zu %6u %9u %10.3f %10.3f %6.2f%s\n", name, n, entries, a.parts, a.slots, best_plain, best_proved, best_proved / best_plain, same ? "" : "  DIFFERENT");
     return same;

@@ -1,3 +1,5 @@
+// What a planner is lent: a mesh, and results of some lengths.
+
 // The lengths of the lent results. The rows have room for the slots and `rows_more`, less `rows_less`.
 pub struct Lengths {
     pub order: usize,

@@ -1,21 +1,21 @@
 -- Texts put one behind the other: nothing, one byte, and one text after another.
-use mathlib.Core.Path.{_≡_, sym, ap, subst, _∙_}
+use mathlib.Core.Path.{_≡_, refl, sym, ap, subst, _∙_}
 use mathlib.Core.List.{List, [], _∷_, _++_, append-assoc, append-nil}
 use Prim.Native.Nat.{ℕ, _+_, _<_}
 use native.Mathlib.Nat.{add-zero}
 use native.Mathlib.Numerals.{add-one}
 use native.Mathlib.Omega.{arith}
 use lib.ListN.{length, take, set, length-append}
-use lib.Seq.{take-suc-set}
+use lib.Seq.{take-suc-set, getD-set-other}
 use Rattle.text.specs.Put.{Put}
 
 -- nothing
 pub put-none : (buffer : List ℕ) (at : ℕ) → Put buffer at [] buffer at
-put-none buffer at = record { ends = sym (add-zero at); front = sym (append-nil (take at buffer)) }
+put-none buffer at = record { ends = sym (add-zero at); front = sym (append-nil (take at buffer)); rest = λ i h. refl }
 
 -- one byte
 pub put-one : (buffer : List ℕ) (at x : ℕ) → at < length buffer → Put buffer at (x ∷ []) (set buffer at x) (at + 1)
-put-one buffer at x h = record { ends = omega arith; front = rw (add-one, take-suc-set buffer at x h) }
+put-one buffer at x h = record { ends = omega arith; front = rw (add-one, take-suc-set buffer at x h); rest = λ i le. getD-set-other buffer at i x 0 (λ e. omega arith) }
 
 -- one text after another
 pub put-both : {before middle after : List ℕ} {at m e : ℕ} {s t : List ℕ} → Put before at s middle m → Put middle m t after e → Put before at (s ++ t) after e
@@ -23,6 +23,7 @@ put-both {before} {middle} {after} {at} {m} {e} {s} {t} p q =
     record {
       ends = omega (arith, length-append s t, p .ends, q .ends);
       front = q .front ∙ ap (λ (l : List ℕ). l ++ t) (p .front) ∙ append-assoc (take at before) s t;
+      rest = λ i h. q .rest i h ∙ p .rest i (omega (arith, q .ends));
     }
 
 -- the same text in other words

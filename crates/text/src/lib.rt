@@ -12,14 +12,14 @@ use crate::listed::put_answer;
 use crate::output::put_refusal;
 ghost use mathlib.Core.Path.{_≡_};
 ghost use mathlib.Core.Bool.{false};
-ghost use Prim.Native.Nat.{_≤_};
-ghost use lib.ListN.{length, take};
+ghost use Prim.Native.Nat.{ℕ, _≤_, _<_};
+ghost use lib.ListN.{length, take, getD};
 ghost use Rattle.plan.specs.Listing.{maxListedNodes, inputMesh, badInput, listing};
 ghost use Rattle.mesh.specs.Lent.{lent};
 ghost use Rattle.text.specs.Put.{Put};
 ghost use Rattle.text.specs.Lines.{meshText};
 
-// A text at the front of its bytes. The listing of 256 nodes is shorter than 135,168 bytes.
+// A text at the front of its bytes, and zeros behind it. The listing of 256 nodes is shorter than 135,168 bytes.
 pub struct Text {
     pub bytes: [u8; 135168],
     pub length: usize,
@@ -53,9 +53,9 @@ fn no_rows() -> [u16; 32640]
     [0; 32640]
 }
 
-// Room for the text. O(135,168).
+// 135,168 zeros. O(135,168).
 fn no_bytes() -> [u8; 135168]
-    ensures { λ r. ⌜ length r ≡ 135168 ⌝ }
+    ensures { λ r. ⌜ (length r ≡ 135168) × ((i : ℕ) → i < 135168 → getD r i 0 ≡ 0) ⌝ }
 {
     [0; 135168]
 }
@@ -116,6 +116,7 @@ fn put_listing(out: &mut [u8], input: &[u8]) -> usize
 pub fn list(input: &[u8]) -> Text
     ensures { λ r. ⌜ take (r .length) (r .bytes) ≡ listing (now (input .entry)) ⌝ }
     ensures { λ r. ⌜ r .length ≤ length (r .bytes) ⌝ }
+    ensures { λ r. ⌜ ((i : ℕ) → r .length ≤ i → i < length (r .bytes) → getD (r .bytes) i 0 ≡ 0) ⌝ }
 {
     let mut bytes = no_bytes();
     let length = put_listing(&mut bytes, input);

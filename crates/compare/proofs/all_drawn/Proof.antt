@@ -1,3 +1,4 @@
+-- `compare::all_drawn` is safe and ends.
 use Prim.Native.Nat.{_-_}
 use borrow.Author.Needs.{needs}
 use Rattle.compare.proofs.all_drawn.Statement.{statement}

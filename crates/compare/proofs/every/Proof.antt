@@ -1,3 +1,4 @@
+-- `compare::every` is safe and ends.
 use Prim.Native.Nat.{_-_}
 use borrow.Author.Needs.{needs}
 use Rattle.compare.proofs.every.Statement.{statement}

@@ -6,7 +6,7 @@ use Rattle.listing.proofs.main.Statement.{statement}
 use Rattle.listing.proofs.main.Tie as tie
 
 slice-aggregate-write-all : tie.Need-slice-aggregate-write-all
-slice-aggregate-write-all c = let t = c .before .before .list in sym (length-take-le (t .result .length) (t .result .bytes) (t .ensures .1))
+slice-aggregate-write-all c = let t = c .before .before .list in sym (length-take-le (t .result .length) (t .result .bytes) (t .ensures .1 .0))
 
 pub main-spec : {M : Type 1} → statement M
 main-spec =

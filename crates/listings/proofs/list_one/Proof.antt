@@ -6,7 +6,7 @@ use Rattle.listings.proofs.list_one.Statement.{statement}
 use Rattle.listings.proofs.list_one.Tie as tie
 
 slice-aggregate-write-all : tie.Need-slice-aggregate-write-all
-slice-aggregate-write-all c = let t = c .before .before .list in sym (length-take-le (t .result .length) (t .result .bytes) (t .ensures .1))
+slice-aggregate-write-all c = let t = c .before .before .list in sym (length-take-le (t .result .length) (t .result .bytes) (t .ensures .1 .0))
 
 pub list-one-spec : {M : Type 1} → statement M
 list-one-spec = tie.close (tie.spec (λ c κs. search needs) (λ c. search needs) slice-aggregate-write-all (λ c κs. search needs) (λ c. search needs))

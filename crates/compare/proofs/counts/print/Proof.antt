@@ -1,3 +1,4 @@
+-- `compare::counts::print` is safe and ends.
 use Prim.Native.Nat.{_-_}
 use borrow.Author.Needs.{needs}
 use Rattle.compare.proofs.counts.print.Statement.{statement}

@@ -1,3 +1,4 @@
+-- `meshes::buffers::holds32` is safe and ends.
 use Prim.Native.Nat.{_-_}
 use borrow.Author.Needs.{needs}
 use Rattle.meshes.proofs.buffers.holds32.Statement.{statement}

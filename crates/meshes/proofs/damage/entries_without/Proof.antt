@@ -1,3 +1,4 @@
+-- `meshes::damage::entries_without` is safe and ends.
 use Prim.Native.Nat.{_-_}
 use borrow.Author.Needs.{needs}
 use Rattle.meshes.proofs.damage.entries_without.Statement.{statement}

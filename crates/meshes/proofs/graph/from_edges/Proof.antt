@@ -1,3 +1,4 @@
+-- `meshes::graph::from_edges` is safe and ends.
 use Prim.Native.Nat.{_-_}
 use borrow.Author.Needs.{needs}
 use Rattle.meshes.proofs.graph.from_edges.Statement.{statement}

@@ -1,3 +1,4 @@
+-- `meshes::graph::lists` is safe and ends.
 use Prim.Native.Nat.{_-_}
 use borrow.Author.Needs.{needs}
 use Rattle.meshes.proofs.graph.lists.Statement.{statement}

@@ -1,3 +1,4 @@
+-- `meshes::graph::put_list` is safe and ends.
 use Prim.Native.Nat.{_-_}
 use borrow.Author.Needs.{needs}
 use Rattle.meshes.proofs.graph.put_list.Statement.{statement}

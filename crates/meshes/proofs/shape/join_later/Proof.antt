@@ -1,3 +1,4 @@
+-- `meshes::shape::join_later` is safe and ends.
 use Prim.Native.Nat.{_-_}
 use borrow.Author.Needs.{needs}
 use Rattle.meshes.proofs.shape.join_later.Statement.{statement}

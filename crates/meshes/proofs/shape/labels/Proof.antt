@@ -1,3 +1,4 @@
+-- `meshes::shape::labels` is safe and ends.
 use Prim.Native.Nat.{_-_}
 use borrow.Author.Needs.{needs}
 use Rattle.meshes.proofs.shape.labels.Statement.{statement}

@@ -1,3 +1,4 @@
+-- `naive::check::falling` is safe and ends.
 use Prim.Native.Nat.{_-_}
 use borrow.Author.Needs.{needs}
 use Rattle.naive.proofs.check.falling.Statement.{statement}

@@ -1,3 +1,4 @@
+-- `naive::dissection::+number` is safe and ends.
 use Prim.Native.Nat.{ℕ, _<_}
 use native.Mathlib.Omega.{arith}
 use borrow.Author.Needs.{needs}

@@ -1,3 +1,4 @@
+-- `naive::dissection::component` is safe and ends.
 use Prim.Native.Nat.{_-_}
 use borrow.Author.Needs.{needs}
 use Rattle.naive.proofs.dissection.component.Statement.{statement}

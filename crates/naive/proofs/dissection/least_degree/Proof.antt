@@ -1,3 +1,4 @@
+-- `naive::dissection::least_degree` is safe and ends.
 use Prim.Native.Nat.{_-_}
 use borrow.Author.Needs.{needs}
 use Rattle.naive.proofs.dissection.least_degree.Statement.{statement}

@@ -1,3 +1,4 @@
+-- `naive::dissection::levels_from` is safe and ends.
 use Prim.Native.Nat.{_-_}
 use borrow.Author.Needs.{needs}
 use Rattle.naive.proofs.dissection.levels_from.Statement.{statement}

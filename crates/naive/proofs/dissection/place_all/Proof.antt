@@ -1,3 +1,4 @@
+-- `naive::dissection::place_all` is safe and ends.
 use Prim.Native.Nat.{_-_}
 use borrow.Author.Needs.{needs}
 use Rattle.naive.proofs.dissection.place_all.Statement.{statement}

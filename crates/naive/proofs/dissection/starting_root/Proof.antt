@@ -1,3 +1,4 @@
+-- `naive::dissection::starting_root` is safe and ends.
 use Prim.Native.Nat.{_-_}
 use borrow.Author.Needs.{needs}
 use Rattle.naive.proofs.dissection.starting_root.Statement.{statement}

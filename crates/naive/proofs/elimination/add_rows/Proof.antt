@@ -1,3 +1,4 @@
+-- `naive::elimination::add_rows` is safe and ends.
 use Prim.Native.Nat.{_-_}
 use borrow.Author.Needs.{needs}
 use Rattle.naive.proofs.elimination.add_rows.Statement.{statement}

@@ -1,3 +1,4 @@
+-- `naive::elimination::join` is safe and ends.
 use Prim.Native.Nat.{_-_}
 use borrow.Author.Needs.{needs}
 use Rattle.naive.proofs.elimination.join.Statement.{statement}

@@ -1,3 +1,4 @@
+-- `naive::elimination::multiplications` is safe and ends.
 use Prim.Native.Nat.{ℕ, _*_, _+_, _≤_, _<_}
 use native.Mathlib.Omega.{arith}
 use native.Mathlib.Nat.{mul-le-mul-right, le-of-lt}

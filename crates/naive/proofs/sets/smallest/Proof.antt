@@ -1,3 +1,4 @@
+-- `naive::sets::smallest` is safe and ends.
 use Prim.Native.Nat.{_-_}
 use borrow.Author.Needs.{needs}
 use Rattle.naive.proofs.sets.smallest.Statement.{statement}

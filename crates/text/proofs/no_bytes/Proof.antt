@@ -1,0 +1,11 @@
+-- `text::no_bytes` meets its contract.
+use Prim.Native.Nat.{ℕ}
+use lib.ListN.{length-replicate, getD-replicate}
+use Rattle.text.proofs.no_bytes.Statement.{statement}
+use Rattle.text.proofs.no_bytes.Tie as tie
+
+returns : tie.Need-returns
+returns c = (length-replicate {A = ℕ} 135168 0, λ i h. getD-replicate 135168 i 0 0 h)
+
+pub no-bytes-spec : {M : Type 1} → statement M
+no-bytes-spec = tie.close (tie.spec returns)
