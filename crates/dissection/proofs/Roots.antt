@@ -305,9 +305,9 @@ module _ (m : Mesh) (nodes : List ℕ) where
       ∙ sym (turn-goes m nodes (length nodes) root other)
 
   -- a turn that does not go to a farther root ends the search
-  pub found-last : {root next a b : ℕ} → next ≡ nextRoot m nodes root → Rooted m nodes root a → Rooted m nodes next b → b ≤ a → foundFrom root ≡ root
+  pub found-last : {root next a b : ℕ} → next ≡ nextRoot m nodes root → Rooted m nodes root a → Rooted m nodes next b → b ≤ a → next ≡ foundFrom root
   found-last {root} {next} e h k le = elim (next-cases m nodes root) [
-    | inl s ↦ turn-ends m nodes (length nodes) root (eq-eqb _ _ s)
+    | inl s ↦ e ∙ s ∙ sym (turn-ends m nodes (length nodes) root (eq-eqb _ _ s))
     | inr lt ↦ absurd (omega (arith, h .far, k .far, ap (eccentricity (adjacent m) nodes) e, lt))
   ]
 

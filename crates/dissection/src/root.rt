@@ -232,11 +232,11 @@ pub fn search(
 {
     let mut root = levels_from(n, starts, neighbours, nodes, nodes[0], numbers, queue);
     loop {
-        let next = improve(n, starts, neighbours, nodes, root, numbers, queue, found);
-        if next.last <= root.last {
+        let before = root.last;
+        root = improve(n, starts, neighbours, nodes, root, numbers, queue, found);
+        if root.last <= before {
             break;
         }
-        root = next;
     }
     let w = levels_from(n, starts, neighbours, nodes, root.node, numbers, queue);
     w.last

@@ -1,5 +1,5 @@
 -- `root::search` meets its contract: what is found from the root at hand is the region's root, and the search ends at it.
-use mathlib.Core.Path.{_≡_, refl, sym, ap, _∙_}
+use mathlib.Core.Path.{_≡_, refl, ap, _∙_}
 use mathlib.Core.List.{List}
 use Prim.Native.Nat.{ℕ, _-_}
 use native.Mathlib.Omega.{arith}
@@ -73,13 +73,13 @@ improve-requires c κs =
 
 loop-less : tie.Need-loop-less Inv-loop μ-loop
 loop-less c =
-    let i = c .before .before .before .before .before .before .before .before .before in
+    let i = c .before .before .before .before .before .before .before .before in
     let s = entry (turn i) in
     omega (arith, i .improve .ensures .1 .rooted .far, eccentricity-le (adjacent (mesh s)) (s .args .nodes .now) (i .improve .result .node), c .if1 .left)
 
 loop-again : tie.Need-loop-again Inv-loop μ-loop
 loop-again c =
-    let f = c .before .before .before .before in
+    let f = c .before .before .before in
     let q = f .before .before in
     let n = q .before .before in
     let i = n .before in
@@ -99,26 +99,28 @@ loop-again c =
       },
     )
 
+-- the turn before the end
+abbrev last : tie.Then1 Inv-loop μ-loop → tie.After-improve Inv-loop μ-loop
+last c = c .before .before .before .before .before .before .before .before
+
 -- the root at the end is the region's
-ended : (c : tie.Then1 Inv-loop μ-loop) →
-    let t = turn (c .before .before .before .before .before .before .before .before .before) in
-    t .loop .root .node ≡ rootOf (mesh (entry t)) (entry t .args .nodes .now)
+ended : (c : tie.Then1 Inv-loop μ-loop) → let s = entry (turn (last c)) in last c .improve .result .node ≡ rootOf (mesh s) (s .args .nodes .now)
 ended c =
-    let i = c .before .before .before .before .before .before .before .before .before in
+    let i = last c in
     let t = turn i in
     let s = entry t in
     let e = i .improve .ensures in
-    sym (found-last (mesh s) (s .args .nodes .now) (e .0) (t .loop .inv .3 .rooted) (e .1 .rooted) (c .if1 .taken)) ∙ t .loop .inv .3 .found
+    found-last (mesh s) (s .args .nodes .now) (e .0) (t .loop .inv .3 .rooted) (e .1 .rooted) (c .if1 .taken) ∙ t .loop .inv .3 .found
 
 levels-from-requires-2 : tie.Need-levels-from-requires-2 Inv-loop μ-loop
 levels-from-requires-2 c κs =
-    let q = c .before .before .before .before .before .before .before .before in
+    let q = c .before .before .before .before .before .before .before in
     let n = q .before .before in
     let i = n .before in
     let t = turn i in
     let s = entry t in
     let v = t .loop .inv .3 in
-    (regional-again (mesh s) (s .args .nodes .now) (v .regional) (i .improve .ensures .1 .only) (n .numbers2 .given) (q .queue2 .given), v .rooted .inside)
+    (regional-again (mesh s) (s .args .nodes .now) (v .regional) (i .improve .ensures .1 .only) (n .numbers2 .given) (q .queue2 .given), i .improve .ensures .1 .rooted .inside)
 
 returns : tie.Need-returns Inv-loop μ-loop
 returns c =
