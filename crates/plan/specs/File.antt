@@ -108,14 +108,12 @@ badParts c =
     isIn 0 (c .sizes) || not (eqb (total (c .sizes)) (c .nodes))
     || exists (λ q. not (mayBeParent (c .parts) q (getD (c .parents) q 0))) (below (c .parts))
 
--- column j by 17's rule: "a column's rows are not strictly ascending, above the column and below n"
-unfoldable pub badColumn : ℕ → List ℕ → List ℕ → ℕ → Bool
-badColumn n columnStarts rows j =
-    let r : List ℕ = listAt columnStarts rows j in
-    not (ascending r && every (λ i. ltb j i && ltb i n) r)
+-- rows r of column j by 17's rule: "a column's rows are not strictly ascending, above the column and below n"
+unfoldable pub badColumn : ℕ → ℕ → List ℕ → Bool
+badColumn n j r = not (ascending r && every (λ i. ltb j i && ltb i n) r)
 
 unfoldable pub badColumns : ℕ → List ℕ → List ℕ → Bool
-badColumns n columnStarts rows = exists (badColumn n columnStarts rows) (below n)
+badColumns n columnStarts rows = exists (λ j. badColumn n j (listAt columnStarts rows j)) (below n)
 
 -- 17: counts do not sum to s, or a column's rows are not strictly ascending, above the column and below n; "17 also for column starts that do not begin at 0, fall, or do not end at s".
 -- The column starts of a file are the running sums of its counts: they begin at 0, do not fall, and end at the counts' sum.
@@ -124,16 +122,15 @@ badRows c =
     badStarts (c .nodes) (c .columnStarts) || not (eqb (getD (c .columnStarts) (c .nodes) 0) (c .slots))
     || badColumns (c .nodes) (c .columnStarts) (c .rows)
 
--- column j by 18's rule
-unfoldable pub outsideAncestors : Contents → ℕ → Bool
-outsideAncestors c j =
-    exists (λ i. not (atOrAbove (c .parents) (partOf (c .sizes) j) (partOf (c .sizes) i))) (listAt (c .columnStarts) (c .rows) j)
+-- rows r of column j by 18's rule
+unfoldable pub outsideAncestors : List ℕ → List ℕ → ℕ → List ℕ → Bool
+outsideAncestors sizes parents j r = exists (λ i. not (atOrAbove parents (partOf sizes j) (partOf sizes i))) r
 
 -- 18: a row lies outside its column's part and that part's forefathers
 unfoldable pub notNested : Contents → Bool
-notNested c = exists (outsideAncestors c) (below (c .nodes))
+notNested c = exists (λ j. outsideAncestors (c .sizes) (c .parents) j (listAt (c .columnStarts) (c .rows) j)) (below (c .nodes))
 
--- whether the rows after a column's first are all in the first row's column
+-- rows of a column by 19's rule: whether those after the first are all in the first row's column
 unfoldable pub covered : List ℕ → List ℕ → List ℕ → Bool
 covered columnStarts rows [] = true
 covered columnStarts rows (first ∷ others) = every (λ i. isIn i (listAt columnStarts rows first)) others

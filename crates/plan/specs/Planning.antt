@@ -68,6 +68,15 @@ pub record Capacity : Type 0 where
   pub columnStarts : ℕ
   pub rows : ℕ
 
+-- both from their six parts
+abbrev pub buffers : List ℕ → List ℕ → List ℕ → List ℕ → List ℕ → List ℕ → Buffers
+buffers order positions sizes parents columnStarts rows =
+    record { order = order; positions = positions; sizes = sizes; parents = parents; columnStarts = columnStarts; rows = rows }
+
+abbrev pub lengths : ℕ → ℕ → ℕ → ℕ → ℕ → ℕ → Capacity
+lengths order positions sizes parents columnStarts rows =
+    record { order = order; positions = positions; sizes = sizes; parents = parents; columnStarts = columnStarts; rows = rows }
+
 unfoldable pub capacity : Buffers → Capacity
 capacity b = record {
   order = length (b .order);

@@ -1,15 +1,16 @@
--- The user's demand 2 (docs/GUIDE.md), the round trips, as statements: "A written plan, once read, is the same plan; a plan that was read is written back byte for byte."
+-- The user's demand 2 (docs/GUIDE.md), the round trips, as statements: "A written plan, once read, is the same plan; a plan that was read is written back byte for byte." And what a workshop may rely on: of demand 1, "a plan of an unknown version is refused as such", and the checks that every plan has passed that is read.
 use mathlib.Core.Bool.{true, false}
 use mathlib.Core.Path.{_≡_}
+use mathlib.Core.Logic.{_≢_}
 use mathlib.Core.List.{List, [], _∷_}
 use Prim.Native.Nat.{ℕ, _≤_}
 use lib.Dec.{ltb}
-use lib.ListN.{length, getD}
+use lib.ListN.{length, getD, take}
 use Rattle.plan.specs.Lists.{every}
 use Rattle.plan.specs.Answers.{accepted}
 use Rattle.plan.specs.Mesh.{Mesh}
 use Rattle.plan.specs.Planning.{Contents, Capacity, buffersTooShort, rowsTooShort, Outcome, handOut, planning}
-use Rattle.plan.specs.File.{fileLength, encode}
+use Rattle.plan.specs.File.{decode16, magic, version, fileLength, encode, parse, badHeader, badOrder, badParts, badRows, notNested, notCovered}
 use Rattle.plan.specs.Reading.{reading}
 use Rattle.plan.specs.Writing.{used, WriteOutcome, writing}
 
@@ -51,3 +52,30 @@ PlannedIsWritable =
     (m : Mesh) (room : Capacity) (c : Contents) (output : ℕ)
     → planning m room .reply .number ≡ 0 → used c ≡ handed (planning m room) → fileLength c ≤ output
     → writing c output ≡ acceptedWriting (encode (used c))
+
+-- Planned, written, then read: into buffers as long as planning's, it is the same outcome.
+abbrev pub PlannedThenRead : Type 0
+PlannedThenRead =
+    (m : Mesh) (room : Capacity) (c : Contents) (output : ℕ)
+    → planning m room .reply .number ≡ 0 → used c ≡ handed (planning m room) → fileLength c ≤ output
+    → reading (writing c output .bytes) room ≡ planning m room
+
+-- Every other version is refused as such, with 12, whatever the bytes hold after the mark.
+abbrev pub OtherVersions : Type 0
+OtherVersions =
+    (bytes : List ℕ) (room : Capacity)
+    → 17 ≤ length bytes → take 3 bytes ≡ magic → decode16 bytes 3 ≢ version
+    → reading bytes room ≡ handOut 12 (parse bytes)
+
+-- a plan without a fault of 13 or 15 to 19
+pub record Sound (c : Contents) : Type 0 where
+  pub header : badHeader c ≡ false
+  pub order : badOrder c ≡ false
+  pub parts : badParts c ≡ false
+  pub rows : badRows c ≡ false
+  pub nested : notNested c ≡ false
+  pub covered : notCovered c ≡ false
+
+-- What reading hands out is such a plan.
+abbrev pub ReadIsSound : Type 0
+ReadIsSound = (bytes : List ℕ) (room : Capacity) → reading bytes room .reply .number ≡ 0 → Sound (handed (reading bytes room))

@@ -3,7 +3,7 @@ use mathlib.Core.Path.{_≡_, refl, sym, ap, ap₂, _∙_}
 use mathlib.Core.Logic.{inl, inr}
 use mathlib.Core.Bool.{Bool, true, false, cond, false≢true}
 use mathlib.Core.List.{List, [], _∷_, headD}
-use Prim.Native.Nat.{ℕ, zero, suc, _≤_, _<_}
+use Prim.Native.Nat.{ℕ, zero, suc, _-_, _≤_, _<_}
 use native.Mathlib.Omega.{arith}
 use lib.Dec.{eqb, ltb}
 use lib.ListN.{length, getD, take, drop}
@@ -70,6 +70,12 @@ first-least (y ∷ l) x h m f = elim (isIn-cons x y l m) [
   | inl e ↦ ap (λ (z : ℕ). z ∷ l) (sym e)
   | inr t ↦ absurd (omega (arith, ascending-lt y l h x t, f y (isIn-head y l)))
 ]
+
+-- an ascending list of numbers from a on and below n has no more of them than there are
+pub ascending-few : (l : List ℕ) (a n : ℕ) → ascending l ≡ true → ((x : ℕ) → isIn x l ≡ true → (a ≤ x) × (x < n)) → length l ≤ n - a
+ascending-few [] a n h f = omega arith
+ascending-few (x ∷ l) a n h f =
+    omega (arith, f x (isIn-head x l), ascending-few l (suc x) n (ascending-tail x l h) (λ y m. (ascending-lt x l h y m, f y (isIn-tail y x l m) .1)))
 
 -- in an ascending list the elements in front of a place are less than the one at it
 pub front-less : (l : List ℕ) → ascending l ≡ true → (i x : ℕ) → i < length l → isIn x (take i l) ≡ true → x < getD l i 0

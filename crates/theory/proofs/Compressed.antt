@@ -1,15 +1,21 @@
 -- Lists that stand one after the other, found again by their starts.
 use mathlib.Core.Path.{_≡_, refl, sym, ap, _∙_}
-use mathlib.Core.Bool.{false}
-use mathlib.Core.List.{List, [], _∷_, _++_, map, flatten, append-assoc}
+use mathlib.Core.Logic.{inl, inr}
+use mathlib.Core.Bool.{true, false, false≢true}
+use mathlib.Core.List.{List, [], _∷_, _++_, map, flatten, append-nil, append-assoc}
 use Prim.Native.Nat.{ℕ, zero, suc, _+_, _-_, _≤_, _<_}
 use native.Mathlib.Numerals.{add-one}
 use native.Mathlib.Omega.{arith}
-use lib.ListN.{length, take, getD, length-append}
-use lib.Seq.{take-at, drop-at}
+use lib.ListN.{length, take, drop, getD, length-append, length-drop}
+use lib.Seq.{length-take-le, take-at, drop-at, ext-getD}
 use borrow.Author.Tests.{le-ltb}
-use Rattle.plan.specs.Lists.{listAt, total, runningSums, falls}
+use Rattle.plan.specs.Lists.{segment, below, isIn, listAt, total, runningSums, falls}
+use Rattle.theory.specs.Checked.{Starts}
+use Rattle.theory.proofs.Lists.{isIn-append-cases}
+use Rattle.theory.proofs.Segments.{segment-append}
+use Rattle.theory.proofs.Ranges.{getD-map-below, length-map-upFrom, map-ext-upFrom, map-getD}
 use Rattle.theory.proofs.Flatten.{flatten-nil, flatten-cons}
+use Rattle.theory.proofs.Ascending.{falls-getD}
 
 -- ---- running sums; `more` is whatever stands behind them
 
@@ -35,6 +41,14 @@ pub sums-rise : (a : ℕ) (cs : List ℕ) → falls (runningSums a cs) ≡ false
 sums-rise a [] = refl
 sums-rise a (c ∷ []) = rw (le-ltb (a + c) a (omega arith))
 sums-rise a (c ∷ (d ∷ cs)) = rw (le-ltb (a + c) a (omega arith)) (sums-rise (a + c) (d ∷ cs))
+
+-- the counts again, from their running sums
+pub sums-counts : (cs : List ℕ) → map (λ j. getD (runningSums 0 cs) (j + 1) 0 - getD (runningSums 0 cs) j 0) (below (length cs)) ≡ cs
+sums-counts cs =
+    let sums : List ℕ = runningSums 0 cs in
+    map-ext-upFrom (λ j. getD sums (j + 1) 0 - getD sums j 0) (λ j. getD cs j 0) (length cs) 0
+    (λ j l m. let next : getD sums (j + 1) 0 ≡ getD sums j 0 + getD cs j 0 = simp append-nil at (sums-next 0 cs [] j (omega arith)) in omega arith)
+    ∙ map-getD cs
 
 -- ---- lists one after the other
 
@@ -85,3 +99,57 @@ list-from (l ∷ ls) a front more rest e (suc j) h =
 pub list-of-starts : (ls : List (List ℕ)) (more rest : List ℕ) (j : ℕ) → j < length ls
     → listAt (runningSums 0 (map length ls) ++ more) (flatten ls ++ rest) j ≡ getD ls j []
 list-of-starts ls more rest j h = list-from ls 0 [] more rest refl j h
+
+-- ---- compressed lists by their starts
+
+-- no start is less than the one before it
+pub start-next : (n : ℕ) (starts : List ℕ) → Starts n starts → (j : ℕ) → j < n → getD starts j 0 ≤ getD starts (j + 1) 0
+start-next n starts h j l = falls-getD starts (h .rising) j (j + 1) (omega arith) (omega (arith, h .many))
+
+-- starts that begin at 0 and rise are the running sums of their differences
+pub counts-sums : (n : ℕ) (starts : List ℕ) → Starts n starts → runningSums 0 (map (λ j. getD starts (j + 1) 0 - getD starts j 0) (below n)) ≡ starts
+counts-sums n starts h = ext-getD 0 sums starts (sums-length 0 cs ∙ ap (λ (k : ℕ). k + 1) many ∙ sym (h .many)) (λ j l. each j (omega (arith, sums-length 0 cs, many)))
+  where
+    cs : List ℕ
+    cs = map (λ j. getD starts (j + 1) 0 - getD starts j 0) (below n)
+
+    sums : List ℕ
+    sums = runningSums 0 cs
+
+    many : length cs ≡ n
+    many = length-map-upFrom (λ j. getD starts (j + 1) 0 - getD starts j 0) n 0
+
+    each : (j : ℕ) → j ≤ n → getD sums j 0 ≡ getD starts j 0
+    each zero l = sym (ap (λ (t : List ℕ). getD t 0 0) (append-nil sums)) ∙ sums-first 0 cs [] ∙ sym (h .zeroFirst)
+    each (suc j) l =
+        let next : getD sums (j + 1) 0 ≡ getD sums j 0 + getD cs j 0 = simp append-nil at (sums-next 0 cs [] j (omega (arith, many))) in
+        let one : j + 1 ≡ suc j = add-one j in
+        rw (← one)
+        (omega (
+          arith,
+          next,
+          each j (omega arith),
+          getD-map-below (λ j. getD starts (j + 1) 0 - getD starts j 0) 0 n j (omega arith),
+          start-next n starts h j (omega arith),
+        ))
+
+module _ (n : ℕ) (starts entries : List ℕ) (h : Starts n starts) where
+  -- list j has as many entries as its starts say
+  pub list-length : getD starts n 0 ≤ length entries → (j : ℕ) → j < n → length (listAt starts entries j) ≡ getD starts (j + 1) 0 - getD starts j 0
+  unfolding listAt
+  list-length fits j l =
+      length-take-le (getD starts (j + 1) 0 - getD starts j 0) (drop (getD starts j 0) entries)
+      (omega (arith, length-drop (getD starts j 0) entries, falls-getD starts (h .rising) (j + 1) n (omega arith) (omega (arith, h .many))))
+
+  -- an entry in front of start k stands in one of the lists before k
+  pub entry-listed : (k : ℕ) → k ≤ n → (x : ℕ) → isIn x (segment entries 0 (getD starts k 0)) ≡ true → (j : ℕ) × (j < k) × (isIn x (listAt starts entries j) ≡ true)
+  unfolding listAt
+  entry-listed zero l x m = absurd (false≢true (sym (ap (λ (k : ℕ). isIn x (segment entries 0 k)) (h .zeroFirst)) ∙ m))
+  entry-listed (suc k) l x m =
+      let one : suc k ≡ k + 1 = omega arith in
+      let both : segment entries 0 (getD starts (suc k) 0) ≡ segment entries 0 (getD starts k 0) ++ listAt starts entries k =
+      rw one (segment-append entries 0 (getD starts k 0) (getD starts (k + 1) 0) (omega arith) (start-next n starts h k (omega arith))) in
+      elim (isIn-append-cases x (segment entries 0 (getD starts k 0)) (listAt starts entries k) (sym (ap (isIn x) both) ∙ m)) [
+        | inl t ↦ (let r = entry-listed k (omega arith) x t in (r .0, omega (arith, r .1), r .2))
+        | inr t ↦ (k, omega arith, t)
+      ]

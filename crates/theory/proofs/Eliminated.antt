@@ -38,7 +38,7 @@ module _ (m : Mesh) (order : List ℕ) where
       (or-neither (not (eqb (length (runningSums 0 counts)) (m .nodes + 1))) _ (ap not (eq-eqb _ _ long)) (ap not (eq-eqb _ _ first)))
       (sums-rise 0 counts)
 
-  good-column : (j : ℕ) → j < m .nodes → badColumn (m .nodes) starts rows j ≡ false
+  good-column : (j : ℕ) → j < m .nodes → badColumn (m .nodes) j (listAt starts rows j) ≡ false
   unfolding badColumn isRow
   good-column j l =
       rw (column-at m order j l)
@@ -49,7 +49,7 @@ module _ (m : Mesh) (order : List ℕ) where
   -- 17: each column's rows are strictly ascending, above the column and below n
   pub columns-good : badColumns (m .nodes) starts rows ≡ false
   unfolding badColumns
-  columns-good = none-exists (badColumn (m .nodes) starts rows) (below (m .nodes)) (λ j h. good-column j (isIn-below (m .nodes) j h))
+  columns-good = none-exists (λ j. badColumn (m .nodes) j (listAt starts rows j)) (below (m .nodes)) (λ j h. good-column j (isIn-below (m .nodes) j h))
 
   -- 19: a column's rows after its first are all in the first row's column
   pub column-covered : (j : ℕ) → j < m .nodes → covered starts rows (listAt starts rows j) ≡ true

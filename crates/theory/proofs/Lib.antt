@@ -12,6 +12,8 @@ pub mod Refusals
 pub mod Checked
 pub mod Orders
 pub mod Compressed
+pub mod Coding
+pub mod FileFields
 pub mod Joined
 pub mod Via
 pub mod Least
@@ -24,6 +26,7 @@ pub mod Components
 pub mod PartOf
 pub mod PartAncestors
 pub mod PartChecks
+pub mod Fitting
 pub mod Forest
 pub mod Nested
 pub mod Dissection
@@ -40,6 +43,7 @@ pub mod RootSearch
 pub mod RootInside
 pub mod Planned
 pub mod Readable
+pub mod RoundTrips
 pub mod Steps
 pub mod StepStates
 pub mod Decimal

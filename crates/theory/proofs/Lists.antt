@@ -1,5 +1,5 @@
 -- Laws of the book's lists: membership, tests over lists, what passes a test, places; and any list by its places, and the other way round.
-use mathlib.Core.Path.{_≡_, refl, sym, ap, _∙_}
+use mathlib.Core.Path.{_≡_, refl, sym, ap, ap₂, _∙_}
 use mathlib.Core.Logic.{_⊎_, inl, inr}
 use mathlib.Core.Bool.{Bool, true, false, not, _&&_, _||_, cond, false≢true, or-false, or-assoc}
 use mathlib.Core.List.{List, [], _∷_, _++_, map, headD, getLastD, append-nil, reverse, reverse-cons, reverse-append}
@@ -10,7 +10,7 @@ use lib.Dec.{eqb}
 use lib.ListN.{length, getD, take, drop, take-append-drop, length-drop, length-reverse, drop-of-length-le}
 use lib.Seq.{take-suc, drop-cons, getD-take, take-at, getD-at}
 use borrow.Author.Tests.{eqb-true, eq-eqb}
-use Rattle.plan.specs.Lists.{exists, every, keep, isIn, without, indexOf}
+use Rattle.plan.specs.Lists.{exists, every, keep, isIn, without, indexOf, same}
 use Rattle.theory.proofs.Bools.{or-cases, or-left, or-right, and-left, and-right, and-both, clash, refuted, iff-eq, cond-true, cond-false, eqb-same}
 
 -- ---- membership
@@ -270,6 +270,15 @@ scan-hit p l i d h e t =
 pub scan-none : (p : ℕ → Bool) (l : List ℕ) (i d : ℕ) → length l ≤ i → keep p l ≡ keep p (drop i l) → headD (keep p l) d ≡ d
 unfolding headD
 scan-none p l i d h e = ap (λ (k : List ℕ). headD k d) (e ∙ ap (keep p) (drop-of-length-le l h))
+
+-- ---- equal lists
+
+-- lists that the test finds equal are equal
+pub same-equal : (l r : List ℕ) → same l r ≡ true → l ≡ r
+same-equal [] [] h = refl
+same-equal [] (y ∷ r) h = absurd (false≢true h)
+same-equal (x ∷ l) [] h = absurd (false≢true h)
+same-equal (x ∷ l) (y ∷ r) h = ap₂ (λ (z : ℕ) (t : List ℕ). z ∷ t) (eqb-true x y (and-left (eqb x y) _ h)) (same-equal l r (and-right (eqb x y) _ h))
 
 -- ---- any list: a place in it, and the list the other way round
 

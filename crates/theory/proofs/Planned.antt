@@ -103,22 +103,25 @@ planned-demand3 m passes more rest = plan-demand3 m (georgeLiu m) (georgeLiu-tak
 
 -- ---- what is handed out
 
-planned-nodes : (m : Mesh) → planOf m .nodes ≡ m .nodes
+pub planned-nodes : (m : Mesh) → planOf m .nodes ≡ m .nodes
 unfolding planOf planBy
 planned-nodes m = refl
 
-refused-number : (k : ℕ) (c : Contents) → handOut (suc k) c .reply .number ≡ suc k
+-- the number that an outcome shows is that of the first fault
+pub hand-number : (k : ℕ) (c : Contents) → handOut k c .reply .number ≡ k
 unfolding handOut
-refused-number k c = refl
+hand-number zero c = refl
+hand-number (suc k) c = refl
+
+-- an accepted outcome hands out the plan
+pub handed-accepted : (k : ℕ) (c : Contents) → handOut k c .reply .number ≡ 0 → handed (handOut k c) ≡ c
+unfolding handed handOut
+handed-accepted k c h = let e : k ≡ 0 = sym (hand-number k c) ∙ h in rw e
 
 -- where planning is accepted, the plan that it hands out is the plan of the mesh
 pub handed-planned : (m : Mesh) (room : Capacity) → planning m room .reply .number ≡ 0 → handed (planning m room) ≡ planOf m
-unfolding planning handed
-handed-planned m room h = go (firstFault (planChecks m room)) h
-  where
-    go : (k : ℕ) → handOut k (planOf m) .reply .number ≡ 0 → handed (handOut k (planOf m)) ≡ planOf m
-    go zero h = unfold handOut in refl
-    go (suc k) h = absurd (omega (arith, refused-number k (planOf m)))
+unfolding planning
+handed-planned m room h = handed-accepted (firstFault (planChecks m room)) (planOf m) h
 
 accepted-demand3 : (m : Mesh) (p : Plan) (found left : Buffers) → firstFault (meshChecks m) ≡ 0 → Filled (handOut 0 (planOf m)) (Accepted p) found left
     → Demand3 m (take (p .nodes) (left .order)) (take (p .parts) (left .sizes)) (take (p .parts) (left .parents)) (left .columnStarts) (left .rows)
@@ -145,4 +148,4 @@ handed-demand3 m room (Accepted p) found left h = go (firstFault (planChecks m r
     go : (k : ℕ) → firstFault (planChecks m room) ≡ k → Filled (handOut k (planOf m)) (Accepted p) found left
         → Demand3 m (take (p .nodes) (left .order)) (take (p .parts) (left .sizes)) (take (p .parts) (left .parents)) (left .columnStarts) (left .rows)
     go zero e h = accepted-demand3 m p found left (no-fault-first (meshChecks m) _ e) h
-    go (suc k) e h = absurd (omega (arith, refused-number k (planOf m), ap (λ (r : Reply). r .number) (h .reply)))
+    go (suc k) e h = absurd (omega (arith, hand-number (suc k) (planOf m), ap (λ (r : Reply). r .number) (h .reply)))

@@ -64,6 +64,11 @@ module _ {A : Type 0} where
   map-ext-upFrom f g zero a h = refl
   map-ext-upFrom f g (suc k) a h = ap₂ (λ (x : A) (l : List A). x ∷ l) (h a (omega arith) (omega arith)) (map-ext-upFrom f g k (suc a) (λ i l m. h i (omega arith) (omega arith)))
 
+  -- what is mapped from a range one further on
+  pub map-upFrom-suc : (f : ℕ → A) (k a : ℕ) → map f (upFrom (suc a) k) ≡ map (λ i. f (suc i)) (upFrom a k)
+  map-upFrom-suc f zero a = refl
+  map-upFrom-suc f (suc k) a = ap (λ (l : List A). f (suc a) ∷ l) (map-upFrom-suc f k (suc a))
+
 -- a list is its elements place by place
 pub map-getD : (l : List ℕ) → map (λ i. getD l i 0) (below (length l)) ≡ l
 map-getD l = ext-getD 0 (map (λ i. getD l i 0) (below (length l))) l (length-map-upFrom (λ i. getD l i 0) (length l) 0)

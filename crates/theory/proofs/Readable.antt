@@ -80,7 +80,7 @@ module _ (m : Mesh) (choose : List ℕ → List ℕ) (takes : Takes (adjacent m)
   -- 18: each row lies in its column's part or a forefather of that part
   pub plan-nested-good : notNested plan ≡ false
   unfolding notNested outsideAncestors planBy isRow
-  plan-nested-good = none-exists (outsideAncestors plan) (below (m .nodes)) (λ j h.
+  plan-nested-good = none-exists (λ j. outsideAncestors (plan .sizes) (plan .parents) j (listAt (plan .columnStarts) (plan .rows) j)) (below (m .nodes)) (λ j h.
       let at : listAt (plan .columnStarts) (plan .rows) j ≡ column m (plan .order) j = column-at m (plan .order) j (isIn-below (m .nodes) j h) in
       none-exists (λ i. not (atOrAbove (plan .parents) (partOf (plan .sizes) j) (partOf (plan .sizes) i))) (listAt (plan .columnStarts) (plan .rows) j) (λ i t.
       ap not (row-nested m (plan .order) (plan .sizes) (plan .parents) (good .symmetric) (plan-once m choose takes) tree (plan-nested m choose takes good) i j

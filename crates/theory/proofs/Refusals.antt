@@ -4,7 +4,16 @@ use mathlib.Core.Bool.{Bool, true, false, cond}
 use mathlib.Core.List.{[], _∷_, _++_}
 use Prim.Native.Nat.{ℕ, _<_}
 use native.Mathlib.Omega.{arith}
+use lib.Dec.{ltb}
+use borrow.Author.Tests.{ltb-true}
+use Rattle.plan.specs.Lists.{every}
 use Rattle.plan.specs.Refusals.{Checks, firstFault}
+use Rattle.theory.proofs.Bools.{and-left, and-right}
+
+-- of no checks there is none
+pub first-nil : firstFault [] ≡ 0
+unfolding firstFault
+first-nil = refl
 
 -- where there is none, a check found nothing, and neither did those after it
 pub no-fault : (k : ℕ) (b : Bool) (cs : Checks) → 0 < k → firstFault ((k, b) ∷ cs) ≡ 0 → (b ≡ false) × (firstFault cs ≡ 0)
@@ -30,3 +39,25 @@ no-fault-first (c ∷ xs) ys h = go (c .1) h (no-fault-first xs ys)
     go : (b : Bool) → cond b (c .0) (firstFault (xs ++ ys)) ≡ 0 → (firstFault (xs ++ ys) ≡ 0 → firstFault xs ≡ 0) → cond b (c .0) (firstFault xs) ≡ 0
     go true h ih = h
     go false h ih = ih h
+
+-- the first fault of checks is that of any longer list of them
+pub first-some : (xs ys : Checks) → (firstFault xs ≡ 0 → ⊥) → firstFault (xs ++ ys) ≡ firstFault xs
+unfolding firstFault
+first-some [] ys h = absurd (h refl)
+first-some (c ∷ xs) ys h = go (c .1) h (first-some xs ys)
+  where
+    go : (b : Bool) → (cond b (c .0) (firstFault xs) ≡ 0 → ⊥) → ((firstFault xs ≡ 0 → ⊥) → firstFault (xs ++ ys) ≡ firstFault xs) → cond b (c .0) (firstFault (xs ++ ys)) ≡ cond b (c .0) (firstFault xs)
+    go true h ih = refl
+    go false h ih = ih h
+
+-- whether the checks have numbers above 0
+abbrev pub numbered : Checks → Bool
+numbered cs = every (λ (c : ℕ × Bool). ltb 0 (c .0)) cs
+
+-- where checks find no fault, the first fault is that of the checks behind them
+pub first-none : (xs ys : Checks) → numbered xs ≡ true → firstFault xs ≡ 0 → firstFault (xs ++ ys) ≡ firstFault ys
+unfolding firstFault
+first-none [] ys above h = refl
+first-none (c ∷ xs) ys above h =
+    let r = no-fault (c .0) (c .1) xs (ltb-true 0 (c .0) (and-left (ltb 0 (c .0)) _ above)) h in
+    rw (r .0) (first-none xs ys (and-right (ltb 0 (c .0)) _ above) (r .1))

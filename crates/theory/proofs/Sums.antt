@@ -1,7 +1,7 @@
 -- Sums of lists of numbers, and the triangle.
 use mathlib.Core.Path.{_≡_, refl, sym, _∙_, ap}
 use mathlib.Core.Logic.{inl, inr}
-use mathlib.Core.Bool.{false}
+use mathlib.Core.Bool.{true, false, false≢true}
 use mathlib.Core.List.{List, [], _∷_, _++_, map}
 use Prim.Native.Nat.{ℕ, _+_, _<_, _≤_, zero, suc, _-_, _*_, _/_}
 use native.Mathlib.Nat.{add-zero, suc-add, add-suc}
@@ -9,7 +9,7 @@ use native.Mathlib.Omega.{arith}
 use lib.ListN.{length, getD}
 use Rattle.plan.specs.Lists.{upFrom, total, isIn}
 use Rattle.theory.proofs.Bools.{clash, refuted, eq-or-ne}
-use Rattle.theory.proofs.Lists.{isIn-getD, getD-indexOf, indexOf-lt}
+use Rattle.theory.proofs.Lists.{isIn-cons, isIn-getD, getD-indexOf, indexOf-lt}
 
 pub total-append : (xs ys : List ℕ) → total (xs ++ ys) ≡ total xs + total ys
 total-append [] ys = omega arith
@@ -30,6 +30,11 @@ zero-none l h q lt = elim (eq-or-ne (getD l q 0) 0) [
 pub total-some : (l : List ℕ) → 0 < total l → 0 < length l
 total-some [] h = absurd (omega arith)
 total-some (x ∷ l) h = omega arith
+
+-- no element is above the sum
+pub isIn-total : (l : List ℕ) (x : ℕ) → isIn x l ≡ true → x ≤ total l
+isIn-total [] x h = absurd (false≢true h)
+isIn-total (y ∷ l) x h = elim (isIn-cons x y l h) [ inl e ↦ omega arith | inr m ↦ omega (arith, isIn-total l x m) ]
 
 -- positive numbers, place by place
 pub positive-append : (xs ys : List ℕ) → ((p : ℕ) → p < length xs → 0 < getD xs p 0) → ((p : ℕ) → p < length ys → 0 < getD ys p 0)

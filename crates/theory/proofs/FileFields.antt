@@ -1,0 +1,253 @@
+-- The fields of a plan file: where each stands, what is read of a plan that was encoded, and what is encoded of a plan that was read.
+use mathlib.Core.Path.{_≡_, refl, sym, ap, _∙_}
+use mathlib.Core.Bool.{true}
+use mathlib.Core.List.{List, [], _++_, map, flatten, map-id, append-nil, append-assoc}
+use Prim.Native.Nat.{ℕ, _+_, _-_, _*_, _≤_, _<_}
+use native.Mathlib.Omega.{arith}
+use lib.Dec.{ltb}
+use lib.ListN.{length, getD, take, drop, length-append}
+use lib.Seq.{drop-drop, drop-at, take-all}
+use Rattle.plan.specs.Lists.{every, segment, below, isIn, runningSums}
+use Rattle.plan.specs.Planning.{Contents, rowCounts}
+use Rattle.plan.specs.File.{encode16, encode32, encode16s, decode16, decode32, decode16s, magic, version, lengthAt, fileLength, encodeParts, encodeContents, encode, parseAt, parse}
+use Rattle.theory.proofs.Lists.{isIn-getD}
+use Rattle.theory.proofs.Segments.{segment-append}
+use Rattle.theory.proofs.Ranges.{isIn-below, length-upFrom, length-map-upFrom, map-getD}
+use Rattle.theory.proofs.Compressed.{sums-counts}
+use Rattle.theory.proofs.Coding.{decode16s-length, decode16s-getD, blocks-length, encode16-length, encode16s-length, decode16-drop, decode32-drop, encoded16, encoded32, decode-blocks, decoded16, decoded-pair, decoded32, segment-blocks, decoded16s}
+
+-- the fields, one behind the other
+pub encode-fields : (c : Contents)
+    → encode c ≡ magic ++ (encode16 version ++ (encode32 (c .nodes) ++ (encode32 (c .parts) ++ (encode32 (c .slots)
+    ++ (encode16s (c .order) ++ (encodeParts c ++ (encode16s (rowCounts c) ++ encode16s (c .rows))))))))
+unfolding encode encodeContents flatten
+encode-fields c = simp append-nil
+
+-- lists as long as their counts
+pub record Whole (c : Contents) : Type 0 where
+  pub order : length (c .order) ≡ c .nodes
+  pub sizes : length (c .sizes) ≡ c .parts
+  pub parents : length (c .parents) ≡ c .parts
+  pub rows : length (c .rows) ≡ c .slots
+
+-- numbers of 16 bits
+abbrev pub Narrow : List ℕ → Type 0
+Narrow l = (x : ℕ) → isIn x l ≡ true → x < 65536
+
+-- What has a place in a file: such lists, of numbers of 16 bits, with counts of 32, and column starts that are the running sums of the row counts.
+pub record Fits (c : Contents) : Type 0 where
+  pub whole : Whole c
+  pub nodes : c .nodes < 4294967296
+  pub parts : c .parts < 4294967296
+  pub slots : c .slots < 4294967296
+  pub order : Narrow (c .order)
+  pub sizes : Narrow (c .sizes)
+  pub parents : Narrow (c .parents)
+  pub counts : Narrow (rowCounts c)
+  pub rows : Narrow (c .rows)
+  pub starts : runningSums 0 (rowCounts c) ≡ c .columnStarts
+
+-- ---- how long the fields are
+
+-- a part's size and father
+abbrev pair : Contents → ℕ → List ℕ
+pair c q = encode16 (getD (c .sizes) q 0) ++ encode16 (getD (c .parents) q 0)
+
+-- 4 bytes
+pair-length : (c : Contents) (q : ℕ) → length (pair c q) ≡ 4
+unfolding encode16
+pair-length c q = refl
+
+-- 4 bytes to a part
+pub parts-length : (c : Contents) → length (encodeParts c) ≡ 4 * c .parts
+unfolding encodeParts
+parts-length c = blocks-length (pair c) 4 (pair-length c) (below (c .parts)) ∙ ap (λ (k : ℕ). 4 * k) (length-upFrom (c .parts) 0)
+
+-- a count to a column
+pub counts-length : (c : Contents) → length (rowCounts c) ≡ c .nodes
+unfolding rowCounts
+counts-length c = length-map-upFrom (λ j. getD (c .columnStarts) (j + 1) 0 - getD (c .columnStarts) j 0) (c .nodes) 0
+
+-- 4 bytes to a number of 32 bits
+pub word-length : (x : ℕ) → length (encode32 x) ≡ 4
+unfolding encode32 encode16
+word-length x = refl
+
+-- "Length 17 + 4n + 4p + 2s."
+pub encode-length : (c : Contents) → Whole c → length (encode c) ≡ fileLength c
+unfolding fileLength lengthAt
+encode-length c w = rw (encode-fields c)
+    (simp length-append (omega (arith, encode16-length version, word-length (c .nodes), word-length (c .parts), word-length (c .slots), encode16s-length (c .order), w .order, parts-length c, encode16s-length (rowCounts c), counts-length c, encode16s-length (c .rows), w .rows)))
+
+-- ---- what is read of a plan that was encoded
+
+-- the field behind a field
+behind : (bytes field rest : List ℕ) (at next : ℕ) → drop at bytes ≡ field ++ rest → at + length field ≡ next → drop next bytes ≡ rest
+behind bytes field rest at next e long =
+    ap (λ (k : ℕ). drop k bytes) (sym long) ∙ sym (drop-drop (length field) at bytes) ∙ ap (drop (length field)) e ∙ drop-at field rest (length field) refl
+
+-- a number of 32 bits at a place
+word-at : (bytes rest : List ℕ) (at x : ℕ) → x < 4294967296 → drop at bytes ≡ encode32 x ++ rest → decode32 bytes at ≡ x
+word-at bytes rest at x h e = decode32-drop bytes at ∙ ap (λ (t : List ℕ). decode32 t 0) e ∙ encoded32 x rest h
+
+-- numbers of 16 bits at a place
+words-at : (bytes l rest : List ℕ) (at count : ℕ) → Narrow l → length l ≡ count → drop at bytes ≡ encode16s l ++ rest → decode16s bytes at 2 count ≡ l
+unfolding encode16s
+words-at bytes l rest at count h long e =
+    let here : at + 0 ≡ at = omega arith in
+    (rw (← long, ← here) (decode-blocks encode16 (λ x. x) 2 0 bytes encode16-length l rest at (λ x m t. encoded16 x t (h x m)) e)) ∙ map-id l
+
+-- what a part's pair says: its size, and its father
+pair-size : (a b : ℕ) (t : List ℕ) → a < 65536 → decode16 ((encode16 a ++ encode16 b) ++ t) 0 ≡ a
+pair-size a b t h = ap (λ (l : List ℕ). decode16 l 0) (append-assoc (encode16 a) (encode16 b) t) ∙ encoded16 a (encode16 b ++ t) h
+
+pair-parent : (a b : ℕ) (t : List ℕ) → b < 65536 → decode16 ((encode16 a ++ encode16 b) ++ t) 2 ≡ b
+unfolding encode16
+pair-parent a b t h = decode16-drop ((encode16 a ++ encode16 b) ++ t) 2 0 ∙ encoded16 b t h
+
+module _ (c : Contents) (fits : Fits c) where
+  abbrev n : ℕ
+  n = c .nodes
+
+  abbrev p : ℕ
+  p = c .parts
+
+  abbrev bytes : List ℕ
+  bytes = encode c
+
+  -- what stands from each field on
+  abbrev fromRows : List ℕ
+  fromRows = encode16s (c .rows)
+
+  abbrev fromCounts : List ℕ
+  fromCounts = encode16s (rowCounts c) ++ fromRows
+
+  abbrev fromParts : List ℕ
+  fromParts = encodeParts c ++ fromCounts
+
+  abbrev fromOrder : List ℕ
+  fromOrder = encode16s (c .order) ++ fromParts
+
+  abbrev fromSlots : List ℕ
+  fromSlots = encode32 (c .slots) ++ fromOrder
+
+  -- where each field stands
+  atNodes : drop 5 bytes ≡ encode32 n ++ (encode32 p ++ fromSlots)
+  atNodes = unfold encode16 in ap (drop 5) (encode-fields c)
+
+  atParts : drop 9 bytes ≡ encode32 p ++ fromSlots
+  atParts = behind bytes (encode32 n) (encode32 p ++ fromSlots) 5 9 atNodes (omega (arith, word-length n))
+
+  atSlots : drop 13 bytes ≡ fromSlots
+  atSlots = behind bytes (encode32 p) fromSlots 9 13 atParts (omega (arith, word-length p))
+
+  atOrder : drop 17 bytes ≡ fromOrder
+  atOrder = behind bytes (encode32 (c .slots)) fromOrder 13 17 atSlots (omega (arith, word-length (c .slots)))
+
+  atPairs : drop (17 + 2 * n) bytes ≡ fromParts
+  atPairs = behind bytes (encode16s (c .order)) fromParts 17 (17 + 2 * n) atOrder (omega (arith, encode16s-length (c .order), fits .whole .order))
+
+  atCounts : drop (17 + 2 * n + 4 * p) bytes ≡ fromCounts
+  atCounts = behind bytes (encodeParts c) fromCounts (17 + 2 * n) (17 + 2 * n + 4 * p) atPairs (omega (arith, parts-length c))
+
+  atRows : drop (17 + 4 * n + 4 * p) bytes ≡ fromRows
+  atRows = behind bytes (encode16s (rowCounts c)) fromRows (17 + 2 * n + 4 * p) (17 + 4 * n + 4 * p) atCounts (omega (arith, encode16s-length (rowCounts c), counts-length c))
+
+  -- what is read there
+  nodes-back : decode32 bytes 5 ≡ n
+  nodes-back = word-at bytes (encode32 p ++ fromSlots) 5 n (fits .nodes) atNodes
+
+  parts-back : decode32 bytes 9 ≡ p
+  parts-back = word-at bytes fromSlots 9 p (fits .parts) atParts
+
+  slots-back : decode32 bytes 13 ≡ c .slots
+  slots-back = word-at bytes fromOrder 13 (c .slots) (fits .slots) atSlots
+
+  order-back : decode16s bytes 17 2 n ≡ c .order
+  order-back = words-at bytes (c .order) fromParts 17 n (fits .order) (fits .whole .order) atOrder
+
+  counts-back : decode16s bytes (17 + 2 * n + 4 * p) 2 n ≡ rowCounts c
+  counts-back = words-at bytes (rowCounts c) fromRows (17 + 2 * n + 4 * p) n (fits .counts) (counts-length c) atCounts
+
+  rows-back : decode16s bytes (17 + 4 * n + 4 * p) 2 (c .slots) ≡ c .rows
+  rows-back = words-at bytes (c .rows) [] (17 + 4 * n + 4 * p) (c .slots) (fits .rows) (fits .whole .rows) (atRows ∙ sym (append-nil fromRows))
+
+  -- what the parts' pairs say at their byte k
+  pairs-back : (k at : ℕ) (l : List ℕ) → length l ≡ p → ((q : ℕ) → q < p → (t : List ℕ) → decode16 (pair c q ++ t) k ≡ getD l q 0) → 17 + 2 * n + k ≡ at
+      → decode16s bytes at 4 p ≡ l
+  unfolding encodeParts
+  pairs-back k at l many each place =
+      let same : length (below p) ≡ p = length-upFrom p 0 in
+      ap (λ (i : ℕ). decode16s bytes i 4 p) (sym place) ∙ ap (decode16s bytes (17 + 2 * n + k) 4) (sym same)
+      ∙ decode-blocks (pair c) (λ q. getD l q 0) 4 k bytes (pair-length c) (below p) fromCounts (17 + 2 * n) (λ q m t. each q (isIn-below p q m) t) atPairs
+      ∙ ap (λ (i : ℕ). map (λ q. getD l q 0) (below i)) (sym many) ∙ map-getD l
+
+  sizes-back : decode16s bytes (17 + 2 * n) 4 p ≡ c .sizes
+  sizes-back =
+      pairs-back 0 (17 + 2 * n) (c .sizes) (fits .whole .sizes)
+      (λ q l t. pair-size _ _ t (fits .sizes (getD (c .sizes) q 0) (isIn-getD (c .sizes) q 0 (omega (arith, fits .whole .sizes))))) (omega arith)
+
+  parents-back : decode16s bytes (19 + 2 * n) 4 p ≡ c .parents
+  parents-back =
+      pairs-back 2 (19 + 2 * n) (c .parents) (fits .whole .parents)
+      (λ q l t. pair-parent _ _ t (fits .parents (getD (c .parents) q 0) (isIn-getD (c .parents) q 0 (omega (arith, fits .whole .parents))))) (omega arith)
+
+  -- An encoded plan, read, is the plan.
+  pub parse-encode : parse (encode c) ≡ c
+  unfolding parse parseAt
+  parse-encode = rw (nodes-back, parts-back, slots-back, order-back, sizes-back, parents-back, counts-back, rows-back, fits .starts)
+
+-- ---- what is encoded of a plan that was read
+
+-- the counts in the file are those of the plan
+pub counts-read : (bytes : List ℕ) → rowCounts (parse bytes) ≡ decode16s bytes (17 + 2 * parse bytes .nodes + 4 * parse bytes .parts) 2 (parse bytes .nodes)
+unfolding rowCounts parse parseAt
+counts-read bytes =
+    let c : Contents = parse bytes in
+    let counts : List ℕ = decode16s bytes (17 + 2 * c .nodes + 4 * c .parts) 2 (c .nodes) in
+    let many : length counts ≡ c .nodes = decode16s-length bytes (17 + 2 * c .nodes + 4 * c .parts) 2 (c .nodes) in
+    ap (λ (k : ℕ). map (λ j. getD (runningSums 0 counts) (j + 1) 0 - getD (runningSums 0 counts) j 0) (below k)) (sym many) ∙ sums-counts counts
+
+module _ (bytes : List ℕ) (small : every (λ b. ltb b 256) bytes ≡ true) (marked : take 3 bytes ≡ magic) (known : decode16 bytes 3 ≡ version)
+    (long : length bytes ≡ fileLength (parse bytes)) where
+  abbrev c : Contents
+  c = parse bytes
+
+  -- a field of w bytes, and those behind it
+  join : (field rest : List ℕ) (a w : ℕ) → field ≡ segment bytes a (a + w) → a + w ≤ length bytes → rest ≡ segment bytes (a + w) (length bytes)
+      → field ++ rest ≡ segment bytes a (length bytes)
+  join field rest a w e fits f = rw (e, f) (sym (segment-append bytes a (a + w) (length bytes) (omega arith) fits))
+
+  -- the parts' pairs are the bytes that say them
+  parts-read : 17 + 2 * c .nodes + 4 * c .parts ≤ length bytes → encodeParts c ≡ segment bytes (17 + 2 * c .nodes) (17 + 2 * c .nodes + 4 * c .parts)
+  unfolding encodeParts parse parseAt
+  parts-read fits =
+      segment-blocks (pair c) 4 bytes (17 + 2 * c .nodes) (c .parts) (λ q l.
+      let at : ℕ = 17 + 2 * c .nodes + 4 * q in
+      let place : 19 + 2 * c .nodes + 4 * q ≡ at + 2 = omega arith in
+      rw (decode16s-getD bytes (17 + 2 * c .nodes) 4 (c .parts) q l, decode16s-getD bytes (19 + 2 * c .nodes) 4 (c .parts) q l, place)
+      (decoded-pair bytes small at (omega arith)))
+
+  -- A plan that was read, encoded, is the bytes again.
+  pub encode-parse : encode (parse bytes) ≡ bytes
+  unfolding parse parseAt fileLength lengthAt
+  encode-parse =
+      let n : ℕ = c .nodes in
+      let p : ℕ = c .parts in
+      let s : ℕ = c .slots in
+      let whole : 17 + 2 * n + 4 * p + 2 * n + 2 * s ≡ length bytes = omega arith in
+      let place : 17 + 4 * n + 4 * p ≡ 17 + 2 * n + 4 * p + 2 * n = omega arith in
+      let rows : encode16s (c .rows) ≡ segment bytes (17 + 2 * n + 4 * p + 2 * n) (length bytes) =
+      rw (place, ← whole) (decoded16s bytes small (17 + 2 * n + 4 * p + 2 * n) s (omega arith)) in
+      let counts : encode16s (rowCounts c) ≡ segment bytes (17 + 2 * n + 4 * p) (17 + 2 * n + 4 * p + 2 * n) =
+      ap encode16s (counts-read bytes) ∙ decoded16s bytes small (17 + 2 * n + 4 * p) n (omega arith) in
+      encode-fields c
+      ∙ join magic _ 0 3 (sym marked) (omega arith)
+      (join (encode16 version) _ 3 2 (ap encode16 (sym known) ∙ decoded16 bytes small 3 (omega arith)) (omega arith)
+      (join (encode32 n) _ 5 4 (decoded32 bytes small 5 (omega arith)) (omega arith)
+      (join (encode32 p) _ 9 4 (decoded32 bytes small 9 (omega arith)) (omega arith)
+      (join (encode32 s) _ 13 4 (decoded32 bytes small 13 (omega arith)) (omega arith)
+      (join (encode16s (c .order)) _ 17 (2 * n) (decoded16s bytes small 17 n (omega arith)) (omega arith)
+      (join (encodeParts c) _ (17 + 2 * n) (4 * p) (parts-read (omega arith)) (omega arith)
+      (join (encode16s (rowCounts c)) _ (17 + 2 * n + 4 * p) (2 * n) counts (omega arith) rows)))))))
+      ∙ take-all (length bytes - 0) bytes (omega arith)
