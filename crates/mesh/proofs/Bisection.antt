@@ -8,11 +8,12 @@ use native.Mathlib.Omega.{arith}
 use lib.Dec.{eqb}
 use lib.ListN.{length, getD}
 use borrow.Author.Tests.{eq-eqb, ne-eqb}
-use Rattle.plan.specs.Lists.{isIn, below, ascending}
+use Rattle.plan.specs.Lists.{isIn, indexOf, below, ascending}
 use Rattle.theory.proofs.Bools.{eq-or-ne, lt-or-le}
-use Rattle.theory.proofs.Lists.{none-exists}
+use Rattle.theory.proofs.Lists.{none-exists, getD-indexOf, indexOf-le}
 use Rattle.theory.proofs.Ranges.{isIn-below}
 use Rattle.theory.proofs.Ascending.{ascending-getD}
+use Rattle.mesh.specs.Lent.{LowerBound}
 use Rattle.mesh.proofs.Scans.{elementAt, found-in, none-in}
 
 -- each element before `low` is less than x, and none from `high` on is
@@ -52,22 +53,36 @@ module _ (l : List ℕ) (x low high middle : ℕ) (h : ascending l ≡ true) (b 
     notLess = λ i s t. omega (arith, no-greater l h middle i s t);
   }
 
--- where the two have met and x is not there, it is nowhere
-pub bracket-none : (l : List ℕ) (x low high : ℕ) → ascending l ≡ true → Bracket l x low high → high ≤ low → (low < length l → getD l low 0 ≢ x) → isIn x l ≡ false
-bracket-none l x low high h b met other = none-in (eqb x) l (length l) (omega arith) (none-exists (elementAt (eqb x) l) (below (length l)) (λ i m. ne-eqb x (getD l i 0) (each i (isIn-below (length l) i m))))
-  where
-    each : (i : ℕ) → i < length l → x ≢ getD l i 0
-    each i lt e = elim (lt-or-le i low) [
-      | inl s ↦ omega (arith, b .less i s)
-      | inr s ↦ elim (eq-or-ne low i) [
-        | inl t ↦ other (omega arith) (rw t (omega arith))
-        | inr t ↦ omega (arith, b .notLess low met (omega arith), ascending-getD l h low i (omega arith) lt)
-      ]
-    ]
+-- where the two have met: the place
+pub bracket-met : (l : List ℕ) (x low high : ℕ) → Bracket l x low high → high ≤ low → LowerBound l x low
+bracket-met l x low high b met = record { within = omega (arith, b .ordered, b .within); before = b .less; from = b .notLess low met }
 
--- so x is in the list exactly when it is there
-pub bracket-end : (l : List ℕ) (x low high : ℕ) → ascending l ≡ true → Bracket l x low high → high ≤ low → low < length l → eqb (getD l low 0) x ≡ isIn x l
-bracket-end l x low high h b met lt = elim (eq-or-ne (getD l low 0) x) [
-  | inl e ↦ eq-eqb (getD l low 0) x e ∙ sym (found-in (eqb x) l low lt (eq-eqb x (getD l low 0) (sym e)))
-  | inr e ↦ ne-eqb (getD l low 0) x e ∙ sym (bracket-none l x low high h b met (λ s. e))
-]
+module _ (l : List ℕ) (x k : ℕ) (h : ascending l ≡ true) (b : LowerBound l x k) where
+  -- where x is not at its place, it is nowhere
+  pub place-none : (k < length l → getD l k 0 ≢ x) → isIn x l ≡ false
+  place-none other = none-in (eqb x) l (length l) (omega arith) (none-exists (elementAt (eqb x) l) (below (length l)) (λ i m. ne-eqb x (getD l i 0) (each i (isIn-below (length l) i m))))
+    where
+      each : (i : ℕ) → i < length l → x ≢ getD l i 0
+      each i lt e = elim (lt-or-le i k) [
+        | inl s ↦ omega (arith, b .before i s)
+        | inr s ↦ elim (eq-or-ne k i) [
+          | inl t ↦ other (omega arith) (rw t (omega arith))
+          | inr t ↦ omega (arith, b .from (omega arith), ascending-getD l h k i (omega arith) lt)
+        ]
+      ]
+
+  -- so x is in the list exactly when it is there
+  pub place-in : k < length l → eqb (getD l k 0) x ≡ isIn x l
+  place-in lt = elim (eq-or-ne (getD l k 0) x) [
+    | inl e ↦ eq-eqb (getD l k 0) x e ∙ sym (found-in (eqb x) l k lt (eq-eqb x (getD l k 0) (sym e)))
+    | inr e ↦ ne-eqb (getD l k 0) x e ∙ sym (place-none (λ s. e))
+  ]
+
+-- where x is at its place, that place is its first
+pub place-first : (l : List ℕ) (x k : ℕ) → LowerBound l x k → k < length l → getD l k 0 ≡ x → indexOf x l ≡ k
+place-first l x k b lt e =
+    let le : indexOf x l ≤ k = rw e at (indexOf-le l k 0 lt) in
+    elim (lt-or-le (indexOf x l) k) [
+      | inl s ↦ absurd (omega (arith, b .before (indexOf x l) s, getD-indexOf l x 0 (omega arith)))
+      | inr s ↦ omega arith
+    ]

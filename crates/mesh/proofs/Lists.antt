@@ -1,9 +1,12 @@
--- The lists of a mesh whose starts passed check 2.
+-- Lists by their starts, and those of a mesh whose starts passed check 2.
 use mathlib.Core.Path.{_≡_}
 use mathlib.Core.Bool.{false}
-use Prim.Native.Nat.{ℕ, _+_, _<_}
+use mathlib.Core.List.{List}
+use Prim.Native.Nat.{ℕ, _+_, _-_, _≤_, _<_}
 use native.Mathlib.Omega.{arith}
-use lib.ListN.{length, getD}
+use lib.ListN.{length, drop, getD, length-drop}
+use lib.Seq.{length-take-le}
+use Rattle.plan.specs.Lists.{listAt}
 use Rattle.plan.specs.Mesh.{Mesh, neighboursOf, adjacent, badMeshStarts}
 use Rattle.theory.specs.Checked.{Starts, Checked}
 use Rattle.theory.proofs.Ascending.{falls-getD}
@@ -11,24 +14,31 @@ use Rattle.theory.proofs.Checked.{mesh-starts}
 use Rattle.theory.proofs.Lists.{isIn-getD}
 use Rattle.mesh.specs.Lent.{ListWithin}
 
--- each list lies within the entries, by the starts
-starts-within : (m : Mesh) → Starts (m .nodes) (m .starts) → getD (m .starts) (m .nodes) 0 ≡ length (m .neighbours) → (v : ℕ) → v < m .nodes → ListWithin (m .starts) (m .neighbours) v
-starts-within m s last v lt =
+-- each of n lists lies within the entries, by their starts
+pub starts-within : (n : ℕ) (starts entries : List ℕ) → Starts n starts → getD starts n 0 ≤ length entries → (v : ℕ) → v < n → ListWithin starts entries v
+starts-within n starts entries s last v lt =
     record {
       started = omega (arith, s .many);
-      ordered = falls-getD (m .starts) (s .rising) v (v + 1) (omega arith) (omega (arith, s .many));
-      ended = omega (arith, last, falls-getD (m .starts) (s .rising) (v + 1) (m .nodes) (omega arith) (omega (arith, s .many)));
+      ordered = falls-getD starts (s .rising) v (v + 1) (omega arith) (omega (arith, s .many));
+      ended = omega (arith, last, falls-getD starts (s .rising) (v + 1) n (omega arith) (omega (arith, s .many)));
     }
+
+-- a list that lies within them is as long as its two starts say
+pub list-long : (starts entries : List ℕ) (v : ℕ) → ListWithin starts entries v → length (listAt starts entries v) ≡ getD starts (v + 1) 0 - getD starts v 0
+unfolding listAt
+list-long starts entries v w =
+    let a : ℕ = getD starts v 0 in
+    length-take-le (getD starts (v + 1) 0 - a) (drop a entries) (omega (arith, w .ended, length-drop a entries))
 
 -- after check 2
 pub list-within : (m : Mesh) → badMeshStarts m ≡ false → (v : ℕ) → v < m .nodes → ListWithin (m .starts) (m .neighbours) v
 list-within m h v lt =
     let s = mesh-starts m h in
-    starts-within m (s .0) (s .1) v lt
+    starts-within (m .nodes) (m .starts) (m .neighbours) (s .0) (omega (arith, s .1)) v lt
 
 -- after all checks
 pub checked-within : (m : Mesh) → Checked m → (v : ℕ) → v < m .nodes → ListWithin (m .starts) (m .neighbours) v
-checked-within m h v lt = starts-within m (h .starts) (h .last) v lt
+checked-within m h v lt = starts-within (m .nodes) (m .starts) (m .neighbours) (h .starts) (omega (arith, h .last)) v lt
 
 -- each entry of a node's list is a node
 pub entry-node : (m : Mesh) → Checked m → (v k : ℕ) → k < length (neighboursOf m v) → getD (neighboursOf m v) k 0 < m .nodes

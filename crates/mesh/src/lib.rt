@@ -7,7 +7,7 @@ ghost use Prim.Native.Nat.{ℕ};
 ghost use Rattle.plan.specs.Lists.{isIn, listAt, ascending, falls};
 ghost use Rattle.plan.specs.Refusals.{firstFault};
 ghost use Rattle.plan.specs.Mesh.{badNodeCount, badStarts, badMeshStarts, tooManyEntries, neighbourOutside, listsItself, notAscending, oneSided, meshChecks};
-ghost use Rattle.mesh.specs.Lent.{lent, ListWithin};
+ghost use Rattle.mesh.specs.Lent.{lent, ListWithin, LowerBound};
 
 // A start as an index. O(1).
 pub fn index(x: u32) -> usize
@@ -24,7 +24,7 @@ pub fn node(x: u16) -> usize
 }
 
 // Check 1: no node, or too many. O(1).
-fn bad_node_count(n: usize) -> bool
+pub fn bad_node_count(n: usize) -> bool
     ensures { λ r. ⌜ r ≡ badNodeCount n ⌝ }
 {
     n == 0 || n > Plan::NODES
@@ -43,7 +43,7 @@ fn falling(numbers: &[u32]) -> bool
 }
 
 // The first part of check 2: there are not n + 1 starts, the first is not 0, or they fall. O(n).
-fn bad_starts(n: usize, starts: &[u32]) -> bool
+pub fn bad_starts(n: usize, starts: &[u32]) -> bool
     requires { ⌜ badNodeCount n ≡ false ⌝ }
     ensures { λ r. ⌜ r ≡ badStarts n (now (starts .entry)) ⌝ }
 {
@@ -97,7 +97,7 @@ pub fn list<'a>(starts: &[u32], entries: &'a [u16], v: usize) -> &'a [u16]
 }
 
 // Whether x stands in a list of any order: each entry is tried. O(length).
-fn contains(entries: &[u16], x: usize) -> bool
+pub fn contains(entries: &[u16], x: usize) -> bool
     ensures { λ r. ⌜ r ≡ isIn x (now (entries .entry)) ⌝ }
 {
     for k in 0..entries.len() {
@@ -146,10 +146,10 @@ fn not_ascending(n: usize, starts: &[u32], neighbours: &[u16]) -> bool
     false
 }
 
-// Whether x stands in an ascending list, by bisection: each entry before `low` is less than x, and none from `high` on is. O(log length).
-fn bisect(entries: &[u16], x: usize) -> bool
+// The first place of an ascending list whose entry is not less than x, the length where every entry is: by bisection, each entry before `low` is less than x, and none from `high` on is. O(log length).
+pub fn lower_bound(entries: &[u16], x: usize) -> usize
     requires { ⌜ ascending (now entries) ≡ true ⌝ }
-    ensures { λ r. ⌜ r ≡ isIn x (now (entries .entry)) ⌝ }
+    ensures { λ r. ⌜ LowerBound (now (entries .entry)) x r ⌝ }
 {
     let mut low: usize = 0;
     let mut high = entries.len();
@@ -161,10 +161,19 @@ fn bisect(entries: &[u16], x: usize) -> bool
             high = middle;
         }
     }
-    if low == entries.len() {
+    low
+}
+
+// Whether x stands in an ascending list. O(log length).
+fn bisect(entries: &[u16], x: usize) -> bool
+    requires { ⌜ ascending (now entries) ≡ true ⌝ }
+    ensures { λ r. ⌜ r ≡ isIn x (now (entries .entry)) ⌝ }
+{
+    let k = lower_bound(entries, x);
+    if k == entries.len() {
         return false;
     }
-    node(entries[low]) == x
+    node(entries[k]) == x
 }
 
 // Check 7: an entry is one-sided, w in v's list and v not in w's. "The first one-sided entry ends the whole comparison of lists."
