@@ -1,11 +1,21 @@
-// The layout of the triangular factor of a mesh in a given order: its elimination tree, its column counts, and the rows of its columns.
+// The layout of the triangular factor of a mesh in a given order: its elimination tree, its column counts, and the rows of its columns; and the questions over a layout.
+mod checks;
 mod columns;
 mod counts;
 mod positions;
+mod questions;
 
+pub use checks::bad_column;
+pub use checks::bad_columns;
+pub use checks::too_short;
 pub use columns::write_columns;
 pub use counts::Totals;
 pub use counts::count_rows;
 pub use counts::sum;
 pub use counts::write_starts;
 pub use positions::invert;
+pub use questions::Span;
+pub use questions::column_refusal;
+pub use questions::column_rows;
+pub use questions::column_span;
+pub use questions::pair;

@@ -2,9 +2,8 @@
 use plan::PlanAnswer;
 use planner::plan;
 ghost use mathlib.Core.Path.{_≡_};
-ghost use Rattle.plan.specs.Planning.{Planned};
+ghost use Rattle.plan.specs.Planning.{buffers, Planned};
 ghost use Rattle.mesh.specs.Lent.{lent};
-ghost use Rattle.planner.specs.Lengths.{buffers};
 ghost use Rattle.ndplan.specs.Replies.{planAnswerOf, planReplyOf};
 
 // What planning answers: the refusal's number, 0 for none; where it refuses, all else is 0.

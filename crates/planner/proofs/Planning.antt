@@ -18,7 +18,7 @@ use Rattle.plan.specs.Choice.{georgeLiu}
 use Rattle.plan.specs.Dissection.{positions}
 use Rattle.plan.specs.Steps.{byNumber}
 use Rattle.plan.specs.Elimination.{column, columns, startsOf, multiplications}
-use Rattle.plan.specs.Planning.{Contents, Buffers, Capacity, Filled, Planned, rowCounts, planBy, planOf, buffersTooShort, rowsTooShort, planChecks, planning, handOut, fill, capacity}
+use Rattle.plan.specs.Planning.{Contents, Buffers, Capacity, Filled, Planned, rowCounts, planBy, planOf, buffersTooShort, rowsTooShort, planChecks, planning, handOut, fill, lengths, capacity}
 use Rattle.theory.specs.Counting.{Order}
 use Rattle.theory.specs.Checked.{Checked}
 use Rattle.theory.proofs.Bools.{or-false-left, or-false-right, and-left, and-right}
@@ -34,7 +34,7 @@ use Rattle.theory.proofs.Choice.{georgeLiu-takes}
 use Rattle.theory.proofs.Dissection.{order-count, parts-few}
 use Rattle.layout.specs.Arrays.{Ordered}
 use Rattle.dissection.specs.Blocks.{planned, Dissected, blockSizes, blockParents}
-use Rattle.planner.specs.Lengths.{lengths, planningChecked, earlyChecks, FilledChecked}
+use Rattle.planner.specs.Checked.{planningChecked, earlyChecks, FilledChecked}
 use Rattle.dissection.proofs.Heads.{dissected-parts}
 
 -- ---- checks

@@ -5,6 +5,7 @@ use dissection::write_parts;
 use layout::count_rows;
 use layout::invert;
 use layout::sum;
+use layout::too_short;
 use layout::write_columns;
 use layout::write_starts;
 use mesh::check;
@@ -17,7 +18,7 @@ ghost use mathlib.Core.List.{map, flatten};
 ghost use Prim.Native.Nat.{_≤_, _<_};
 ghost use lib.ListN.{length, take};
 ghost use Rattle.plan.specs.Refusals.{firstFault};
-ghost use Rattle.plan.specs.Planning.{buffersTooShort, Planned};
+ghost use Rattle.plan.specs.Planning.{buffersTooShort, lengths, buffers, Planned};
 ghost use Rattle.mesh.specs.Lent.{lent};
 ghost use Rattle.plan.specs.Lists.{written};
 ghost use Rattle.plan.specs.Dissection.{positions as positionsOf};
@@ -25,33 +26,7 @@ ghost use Rattle.plan.specs.Elimination.{columns, startsOf};
 ghost use Rattle.theory.specs.Counting.{Order};
 ghost use Rattle.theory.specs.Checked.{Checked};
 ghost use Rattle.layout.specs.Arrays.{Ordered, Tree};
-ghost use Rattle.planner.specs.Lengths.{lengths, buffers, earlyChecks, FilledChecked};
-
-// Check 8: a lent result other than the rows is too short. O(1).
-fn too_short(
-    n: usize,
-    order: usize,
-    positions: usize,
-    sizes: usize,
-    parents: usize,
-    columnStarts: usize,
-) -> bool
-    ensures { λ r. ⌜ r ≡ buffersTooShort n (lengths order positions sizes parents columnStarts 0) ⌝ }
-{
-    if order < n {
-        return true;
-    }
-    if positions < n {
-        return true;
-    }
-    if sizes < n {
-        return true;
-    }
-    if parents < n {
-        return true;
-    }
-    columnStarts <= n
-}
+ghost use Rattle.planner.specs.Checked.{earlyChecks, FilledChecked};
 
 // The first refusal of checks 1 to 8, 0 for none. O(n + entries · log degree).
 fn refusal(

@@ -3,9 +3,9 @@ use mathlib.Core.Path.{_≡_, sym, _∙_}
 use borrow.Author.Needs.{needs}
 use Rattle.plan.specs.Refusals.{firstFault}
 use Rattle.plan.specs.Mesh.{Mesh}
-use Rattle.plan.specs.Planning.{Buffers}
+use Rattle.plan.specs.Planning.{Buffers, buffers}
 use Rattle.mesh.specs.Lent.{lent}
-use Rattle.planner.specs.Lengths.{buffers, earlyChecks}
+use Rattle.planner.specs.Checked.{earlyChecks}
 use Rattle.planner.proofs.Planning.{lengthsOf, early-passed, planned-refused, planned-checked}
 use Rattle.planner.proofs.plan.Statement.{statement}
 use Rattle.planner.proofs.plan.Tie as tie

@@ -3,11 +3,10 @@ use mathlib.Core.Path.{_≡_, sym, _∙_}
 use mathlib.Core.List.{[], _∷_, _++_}
 use borrow.Author.Needs.{needs}
 use Rattle.plan.specs.Refusals.{firstFault, Checks}
-use Rattle.plan.specs.Planning.{buffersTooShort}
+use Rattle.plan.specs.Planning.{buffersTooShort, lengths}
 use Rattle.plan.specs.Mesh.{Mesh, meshChecks}
 use Rattle.theory.proofs.Refusals.{fault-here, fault-later}
 use Rattle.mesh.specs.Lent.{lent}
-use Rattle.planner.specs.Lengths.{lengths}
 use Rattle.planner.proofs.Planning.{first-some, mesh-passed}
 use Rattle.planner.proofs.refusal.Statement.{statement}
 use Rattle.planner.proofs.refusal.Tie as tie

@@ -1,20 +1,9 @@
--- The buffers lent to planning, and what planning owes once checks 1 to 8 are passed.
-use mathlib.Core.List.{List, [], _∷_, _++_}
-use Prim.Native.Nat.{ℕ}
+-- What planning owes once checks 1 to 8 are passed.
+use mathlib.Core.List.{[], _∷_, _++_}
 use Rattle.plan.specs.declared.PlanAnswer.{PlanAnswer}
 use Rattle.plan.specs.Refusals.{Checks, firstFault}
 use Rattle.plan.specs.Mesh.{Mesh, meshChecks}
 use Rattle.plan.specs.Planning.{Buffers, Capacity, Outcome, Filled, planOf, buffersTooShort, rowsTooShort, capacity, handOut}
-
--- how long the lent buffers are
-abbrev pub lengths : ℕ → ℕ → ℕ → ℕ → ℕ → ℕ → Capacity
-lengths order positions sizes parents columnStarts rows =
-    record { order = order; positions = positions; sizes = sizes; parents = parents; columnStarts = columnStarts; rows = rows }
-
--- what they hold
-abbrev pub buffers : List ℕ → List ℕ → List ℕ → List ℕ → List ℕ → List ℕ → Buffers
-buffers order positions sizes parents columnStarts rows =
-    record { order = order; positions = positions; sizes = sizes; parents = parents; columnStarts = columnStarts; rows = rows }
 
 -- checks 1 to 8
 abbrev pub earlyChecks : Mesh → Capacity → Checks

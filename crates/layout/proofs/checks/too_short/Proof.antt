@@ -1,10 +1,10 @@
--- `planner::too_short` meets its contract: it is the test of check 8, one length after the other.
+-- `layout::checks::too_short` meets its contract: it is the test of check 8, one length after the other.
 use native.Mathlib.Numerals.{add-one}
 use lib.Dec.{leb·suc-suc}
 use borrow.Author.Tests.{lt-ltb, le-ltb}
 use Rattle.plan.specs.Planning.{buffersTooShort}
-use Rattle.planner.proofs.too_short.Statement.{statement}
-use Rattle.planner.proofs.too_short.Tie as tie
+use Rattle.layout.proofs.checks.too_short.Statement.{statement}
+use Rattle.layout.proofs.checks.too_short.Tie as tie
 
 returns : tie.Need-returns
 unfolding buffersTooShort
