@@ -8,11 +8,12 @@ use lib.Dec.{ltb, eqb}
 use lib.ListN.{length, getD, take, drop, length-append}
 use borrow.Author.Tests.{lt-ltb, le-ltb, ltb-false}
 use Rattle.plan.specs.Lists.{written}
-use Rattle.plan.specs.File.{decode16, decode32, decode16s}
+use Rattle.plan.specs.File.{decode16, decode32}
 use Rattle.plan.specs.Listing.{maxListedNodes, maxListedEntries, neighboursAt, entryCount, inputMesh, badInput}
 use Rattle.theory.proofs.Bools.{or-left, or-right, or-false-left, or-false-right, or-neither}
 use Rattle.theory.proofs.Written.{front-written}
 use Rattle.theory.proofs.Ranges.{getD-map-below, length-map-upFrom}
+use Rattle.theory.proofs.Coding.{decode16s-length}
 use Rattle.mesh.specs.Lent.{lent}
 
 -- behind tests that fail, the last one tells
@@ -118,14 +119,10 @@ module _ (bytes : List ℕ) where
   unfolding inputMesh
   start-at k h = getD-map-below (λ k. decode32 bytes (2 + 4 * k)) 0 (decode16 bytes 0 + 1) k h
 
-  -- how many entries, and each of them
-  pub entries-many : length (inputMesh bytes .neighbours) ≡ entryCount bytes
-  unfolding inputMesh decode16s
-  entries-many = length-map-upFrom (λ k. decode16 bytes (neighboursAt bytes + 2 * k)) (entryCount bytes) 0
-
-  pub entry-at : (k : ℕ) → k < entryCount bytes → getD (inputMesh bytes .neighbours) k 0 ≡ decode16 bytes (neighboursAt bytes + 2 * k)
-  unfolding inputMesh decode16s
-  entry-at k h = getD-map-below (λ k. decode16 bytes (neighboursAt bytes + 2 * k)) 0 (entryCount bytes) k h
+  -- how many entries
+  entries-many : length (inputMesh bytes .neighbours) ≡ entryCount bytes
+  unfolding inputMesh
+  entries-many = decode16s-length bytes (neighboursAt bytes) 2 (entryCount bytes)
 
   -- the mesh from the fronts of the buffers into which it was read
   pub mesh-read : (startsFound starts entriesFound entries : List ℕ) (n e : ℕ) → n ≡ decode16 bytes 0 → e ≡ entryCount bytes

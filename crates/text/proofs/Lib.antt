@@ -3,7 +3,6 @@ pub mod Sequences
 pub mod Decimals
 pub mod Lines
 pub mod Parts
-pub mod Fills
 pub mod Inputs
 pub mod Bound
 pub mod Answers

@@ -1,46 +1,19 @@
 // The listing program's input: "n (16 bits), starts (32 bits each), neighbours (16 bits each) to the end, little-endian".
+use coding::read16;
+use coding::read16s;
+use coding::read32;
 use mesh::node;
 ghost use mathlib.Core.Path.{_≡_};
 ghost use Prim.Native.Nat.{_+_, _≤_, _<_};
 ghost use lib.ListN.{length};
 ghost use Rattle.plan.specs.Lists.{written};
-ghost use Rattle.plan.specs.File.{decode16, decode32};
+ghost use Rattle.plan.specs.File.{decode16};
 ghost use Rattle.plan.specs.Listing.{neighboursAt, entryCount, inputMesh, badInput};
 
 // the most nodes that are listed
 const NODES: usize = 256;
 // the most neighbour entries
 const ENTRIES: usize = 2048;
-
-// A byte as a number of 16 bits. O(1).
-fn wide_byte(x: u8) -> u16
-    ensures { λ r. ⌜ (r ≡ x) × (r < 256) ⌝ }
-{
-    x as u16
-}
-
-// A number of 16 bits as one of 32. O(1).
-fn wide(x: u16) -> u32
-    ensures { λ r. ⌜ (r ≡ x) × (r < 65536) ⌝ }
-{
-    x as u32
-}
-
-// The number of 16 bits at a place. O(1).
-fn read16(bytes: &[u8], at: usize) -> u16
-    requires { ⌜ at + 2 ≤ length (now bytes) ⌝ }
-    ensures { λ r. ⌜ r ≡ decode16 (now (bytes .entry)) at ⌝ }
-{
-    wide_byte(bytes[at]) + 256 * wide_byte(bytes[at + 1])
-}
-
-// The number of 32 bits at a place. O(1).
-fn read32(bytes: &[u8], at: usize) -> u32
-    requires { ⌜ at + 4 ≤ length (now bytes) ⌝ }
-    ensures { λ r. ⌜ r ≡ decode32 (now (bytes .entry)) at ⌝ }
-{
-    wide(read16(bytes, at)) + 65536 * wide(read16(bytes, at + 2))
-}
 
 // How many nodes the mesh has. O(1).
 pub(crate) fn node_count(input: &[u8]) -> usize
@@ -105,7 +78,5 @@ pub(crate) fn read_neighbours(input: &[u8], neighbours: &mut [u16])
 {
     let first = neighbours_at(input);
     let count = entry_count(input);
-    for k in 0..count {
-        neighbours[k] = read16(input, first + 2 * k);
-    }
+    read16s(input, first, 2, count, neighbours);
 }
