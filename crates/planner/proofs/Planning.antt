@@ -1,13 +1,13 @@
 -- Laws of planning: the checks of the lent buffers, and the plan from the order and the columns.
 use mathlib.Core.Path.{_≡_, refl, sym, ap, _∙_}
-use mathlib.Core.Bool.{Bool, true, false, cond, _||_}
+use mathlib.Core.Bool.{true, false}
 use mathlib.Core.List.{List, [], _∷_, _++_, map, flatten, map-map}
-use Prim.Native.Nat.{ℕ, zero, suc, _+_, _-_, _≤_, _<_}
+use Prim.Native.Nat.{ℕ, _+_, _-_, _≤_, _<_}
 use native.Mathlib.Omega.{arith}
 use lib.Dec.{ltb}
 use lib.ListN.{length, getD, take, drop, length-append, List·getD-append}
-use borrow.Author.Tests.{ltb-true, ltb-false, lt-ltb, le-ltb}
-use Rattle.plan.specs.Lists.{every, below, indexOf, written, runningSums, total}
+use borrow.Author.Tests.{lt-ltb, le-ltb}
+use Rattle.plan.specs.Lists.{below, indexOf, written, runningSums, total}
 use Rattle.plan.specs.declared.PlanAnswer.{PlanAnswer}
 use Rattle.plan.specs.declared.PlanAnswer.the-variants.{Accepted, Refused}
 use Rattle.plan.specs.declared.Plan.{Plan}
@@ -18,12 +18,12 @@ use Rattle.plan.specs.Choice.{georgeLiu}
 use Rattle.plan.specs.Dissection.{positions}
 use Rattle.plan.specs.Steps.{byNumber}
 use Rattle.plan.specs.Elimination.{column, columns, startsOf, multiplications}
-use Rattle.plan.specs.Planning.{Contents, Buffers, Capacity, Filled, Planned, rowCounts, planBy, planOf, buffersTooShort, rowsTooShort, planChecks, planning, handOut, fill, lengths, capacity}
+use Rattle.plan.specs.Planning.{Contents, Buffers, Capacity, Filled, Planned, rowCounts, planBy, planOf, buffersTooShort, rowsTooShort, planChecks, planning, handOut, capacity}
 use Rattle.theory.specs.Counting.{Order}
 use Rattle.theory.specs.Checked.{Checked}
-use Rattle.theory.proofs.Bools.{or-false-left, or-false-right, and-left, and-right}
-use Rattle.theory.proofs.Refusals.{no-fault, fault-here, no-fault-first}
+use Rattle.theory.proofs.Refusals.{no-fault, fault-here, no-fault-first, first-some, numbered, first-none}
 use Rattle.theory.proofs.Checked.{checked}
+use Rattle.theory.proofs.Handed.{lengthsOf, filled-refused}
 use Rattle.theory.proofs.Planned.{handed-demand3}
 use Rattle.theory.proofs.Ranges.{map-ext-upFrom, length-map-upFrom, getD-map-below}
 use Rattle.theory.proofs.Written.{front-written}
@@ -39,59 +39,7 @@ use Rattle.dissection.proofs.Heads.{dissected-parts}
 
 -- ---- checks
 
--- every lent result but the rows is long enough
-pub record Room (n : ℕ) (room : Capacity) : Type 0 where
-  pub order : n ≤ room .order
-  pub positions : n ≤ room .positions
-  pub sizes : n ≤ room .sizes
-  pub parents : n ≤ room .parents
-  pub columnStarts : n < room .columnStarts
-
--- it is where check 8 finds no fault
-pub enough-room : (n : ℕ) (room : Capacity) → buffersTooShort n room ≡ false → Room n room
-unfolding buffersTooShort
-enough-room n room h =
-    let o : Bool = ltb (room .order) n in
-    let p : Bool = ltb (room .positions) n in
-    let s : Bool = ltb (room .sizes) n in
-    let f : Bool = ltb (room .parents) n in
-    let c : Bool = ltb (room .columnStarts) (n + 1) in
-    let four : (o || p || s || f) ≡ false = or-false-left (o || p || s || f) c h in
-    let three : (o || p || s) ≡ false = or-false-left (o || p || s) f four in
-    let two : (o || p) ≡ false = or-false-left (o || p) s three in
-    record {
-      order = ltb-false (room .order) n (or-false-left o p two);
-      positions = ltb-false (room .positions) n (or-false-right o p two);
-      sizes = ltb-false (room .sizes) n (or-false-right (o || p) s three);
-      parents = ltb-false (room .parents) n (or-false-right (o || p || s) f four);
-      columnStarts = let l : n + 1 ≤ room .columnStarts = ltb-false (room .columnStarts) (n + 1) (or-false-right (o || p || s || f) c h) in omega arith;
-    }
-
--- the first fault of checks is that of any longer list of them
-pub first-some : (xs ys : Checks) → (firstFault xs ≡ 0 → ⊥) → firstFault (xs ++ ys) ≡ firstFault xs
-unfolding firstFault
-first-some [] ys h = absurd (h refl)
-first-some (c ∷ xs) ys h = go (c .1) h (first-some xs ys)
-  where
-    go : (b : Bool) → (cond b (c .0) (firstFault xs) ≡ 0 → ⊥) → ((firstFault xs ≡ 0 → ⊥) → firstFault (xs ++ ys) ≡ firstFault xs) → cond b (c .0) (firstFault (xs ++ ys)) ≡ cond b (c .0) (firstFault xs)
-    go true h ih = refl
-    go false h ih = ih h
-
--- whether the checks have numbers above 0
-abbrev pub numbered : Checks → Bool
-numbered cs = every (λ (c : ℕ × Bool). ltb 0 (c .0)) cs
-
--- where checks find no fault, the first fault is that of the checks behind them
-pub first-none : (xs ys : Checks) → numbered xs ≡ true → firstFault xs ≡ 0 → firstFault (xs ++ ys) ≡ firstFault ys
-unfolding firstFault
-first-none [] ys above h = refl
-first-none (c ∷ xs) ys above h = go (c .1) h (first-none xs ys (and-right (ltb 0 (c .0)) (numbered xs) above))
-  where
-    go : (b : Bool) → cond b (c .0) (firstFault xs) ≡ 0 → (firstFault xs ≡ 0 → firstFault (xs ++ ys) ≡ firstFault ys) → cond b (c .0) (firstFault (xs ++ ys)) ≡ firstFault ys
-    go true h ih = absurd (omega (arith, ltb-true 0 (c .0) (and-left (ltb 0 (c .0)) (numbered xs) above)))
-    go false h ih = ih h
-
--- those of a mesh have
+-- the checks of a mesh have numbers above 0
 mesh-numbered : (m : Mesh) → numbered (meshChecks m) ≡ true
 unfolding meshChecks
 mesh-numbered m = refl
@@ -187,12 +135,6 @@ row-counts m held heads count =
 
 -- ---- what is handed out
 
--- a refusal leaves all as found
-pub filled-refused : (k : ℕ) (c : Contents) (found : Buffers) → (k ≡ 0 → ⊥) → Filled (handOut k c) (Refused k) found found
-unfolding handOut fill
-filled-refused zero c found h = absurd (h refl)
-filled-refused (suc k) c found h = record { reply = refl; order = refl; positions = refl; sizes = refl; parents = refl; columnStarts = refl; rows = refl }
-
 -- the slots of the order's columns are the plan's
 pub held-slots : (m : Mesh) → Checked m → (held heads : List ℕ) (count : ℕ) → Dissected m held heads count → length (flatten (columns m (take (m .nodes) held))) ≡ planOf m .slots
 unfolding heldPlan
@@ -225,10 +167,6 @@ checked-accepted m good held heads count d answer found left room h =
     rw (le-ltb (length (found .rows)) (planOf m .slots) room, ← held-planned m good held heads count d) h
 
 -- ---- planning
-
--- how long the buffers are, but for the rows
-abbrev pub lengthsOf : Buffers → Capacity
-lengthsOf b = lengths (length (b .order)) (length (b .positions)) (length (b .sizes)) (length (b .parents)) (length (b .columnStarts)) 0
 
 -- an outcome of planning fulfils its promise
 promised : (m : Mesh) (answer : PlanAnswer) (found left : Buffers) → Filled (planning m (capacity found)) answer found left → Planned m answer found left

@@ -113,6 +113,13 @@ decode32-drop bytes at =
     let here : at + 0 ≡ at = add-zero at in
     rw (← decode16-drop bytes at 0, ← decode16-drop bytes at 2, here)
 
+-- many of them
+pub decode16s-drop : (bytes : List ℕ) (at apart count : ℕ) → decode16s bytes at apart count ≡ decode16s (drop at bytes) 0 apart count
+unfolding decode16s
+decode16s-drop bytes at apart count =
+    map-ext-upFrom (λ k. decode16 bytes (at + apart * k)) (λ k. decode16 (drop at bytes) (0 + apart * k)) count 0
+    (λ k l m. decode16-drop bytes at (apart * k) ∙ ap (decode16 (drop at bytes)) (sym (zero-add (apart * k))))
+
 -- a number of 16 bits is its two bytes
 pub encoded16 : (x : ℕ) (rest : List ℕ) → x < 65536 → decode16 (encode16 x ++ rest) 0 ≡ x
 unfolding encode16 decode16

@@ -1,21 +1,20 @@
 -- Every layout made by elimination passes checks 17 and 19, whatever the order.
 use mathlib.Core.Path.{_≡_, refl, _∙_, ap}
-use mathlib.Core.Bool.{not, true, false, _&&_, _||_}
-use mathlib.Core.List.{List, [], _∷_, flatten, map, append-nil}
-use Prim.Native.Nat.{ℕ, _+_, _<_}
-use native.Mathlib.Omega.{arith}
-use lib.Dec.{eqb, ltb}
-use lib.ListN.{length, getD}
-use borrow.Author.Tests.{eq-eqb, lt-ltb}
-use Rattle.plan.specs.Lists.{isIn, ascending, listAt, runningSums, below}
+use mathlib.Core.Bool.{not, true, false, _&&_}
+use mathlib.Core.List.{List, [], _∷_, flatten, map}
+use Prim.Native.Nat.{ℕ, _<_}
+use lib.Dec.{ltb}
+use lib.ListN.{length}
+use borrow.Author.Tests.{lt-ltb}
+use Rattle.plan.specs.Lists.{isIn, ascending, listAt, below}
 use Rattle.plan.specs.Elimination.{column, startsOf, columns}
 use Rattle.plan.specs.File.{covered, badColumns, badColumn}
 use Rattle.plan.specs.Mesh.{badStarts, Mesh}
 use Rattle.theory.specs.Rows.{isRow}
-use Rattle.theory.proofs.Bools.{or-neither, and-both}
+use Rattle.theory.proofs.Bools.{and-both}
 use Rattle.theory.proofs.Lists.{isIn-head, isIn-every, none-exists}
 use Rattle.theory.proofs.Ranges.{isIn-below}
-use Rattle.theory.proofs.Compressed.{sums-first, sums-length, sums-rise}
+use Rattle.theory.proofs.Compressed.{sums-starts}
 use Rattle.theory.proofs.Columns.{row-fact, column-ascending}
 use Rattle.theory.proofs.EliminationTree.{rows-in-first-column}
 use Rattle.theory.proofs.Slots.{counts-length, column-at}
@@ -29,14 +28,8 @@ module _ (m : Mesh) (order : List ℕ) where
 
   -- the starts are those of n columns
   pub columns-starts : badStarts (m .nodes) starts ≡ false
-  unfolding badStarts startsOf
-  columns-starts =
-      let counts : List ℕ = map length (columns m order) in
-      let long : length (runningSums 0 counts) ≡ m .nodes + 1 = omega (arith, sums-length 0 counts, counts-length m order) in
-      let first : getD (runningSums 0 counts) 0 0 ≡ 0 = simp append-nil at (sums-first 0 counts []) in
-      or-neither (not (eqb (length (runningSums 0 counts)) (m .nodes + 1)) || not (eqb (getD (runningSums 0 counts) 0 0) 0)) _
-      (or-neither (not (eqb (length (runningSums 0 counts)) (m .nodes + 1))) _ (ap not (eq-eqb _ _ long)) (ap not (eq-eqb _ _ first)))
-      (sums-rise 0 counts)
+  unfolding startsOf
+  columns-starts = sums-starts (m .nodes) (map length (columns m order)) (counts-length m order)
 
   good-column : (j : ℕ) → j < m .nodes → badColumn (m .nodes) j (listAt starts rows j) ≡ false
   unfolding badColumn isRow

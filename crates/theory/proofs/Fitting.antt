@@ -74,6 +74,14 @@ header-limits c h =
       slotsFew = ltb-false (c .nodes * (c .nodes - 1) / 2) (c .slots) (or-false-right (bad || eqb (c .parts) 0 || ltb (c .nodes) (c .parts)) _ h);
     }
 
+-- the slots are a number of 32 bits
+pub few-slots : (c : Contents) → Limits c → c .slots < 4294967296
+few-slots c limits =
+    let n : ℕ = c .nodes in
+    let fewer : n - 1 ≤ 4095 = omega (arith, limits .nodesFew) in
+    let pairs : n * (n - 1) ≤ 4096 * 4095 = mul-le-mul (limits .nodesFew) fewer in
+    omega (arith, pairs, limits .slotsFew)
+
 -- 17: the column starts begin at 0, rise and end at s, and each column's rows are ascending, above the column and below n
 pub record Rows (c : Contents) : Type 0 where
   pub starts : Starts (c .nodes) (c .columnStarts)
@@ -114,14 +122,6 @@ module _ (c : Contents) (sound : Sound c) (sizesMany : length (c .sizes) ≡ c .
 
   columns : Rows c
   columns = good-rows c (sound .rows)
-
-  -- the slots are a number of 32 bits
-  few-slots : c .slots < 4294967296
-  few-slots =
-      let n : ℕ = c .nodes in
-      let fewer : n - 1 ≤ 4095 = omega (arith, limits .nodesFew) in
-      let pairs : n * (n - 1) ≤ 4096 * 4095 = mul-le-mul (limits .nodesFew) fewer in
-      omega (arith, pairs, limits .slotsFew)
 
   -- a father is 65,535 or a part
   narrow-parents : Narrow (c .parents)
@@ -166,7 +166,7 @@ module _ (c : Contents) (sound : Sound c) (sizesMany : length (c .sizes) ≡ c .
     whole = record { order = order-length (c .nodes) (c .order) (passes-order (c .nodes) (c .order) once); sizes = sizesMany; parents = parentsMany; rows = rowsMany };
     nodes = omega (arith, limits .nodesFew);
     parts = omega (arith, limits .nodesFew, limits .partsFew);
-    slots = few-slots;
+    slots = few-slots c limits;
     order = λ x m. omega (arith, isIn-below (c .nodes) x (same-members (c .order) (below (c .nodes)) (passes-order (c .nodes) (c .order) once) x m), limits .nodesFew);
     sizes = λ x m. omega (arith, isIn-total (c .sizes) x m, passes-tree c (sound .parts) parentsMany sizesMany .whole, limits .nodesFew);
     parents = narrow-parents;

@@ -41,6 +41,7 @@ pub mod LevelSets
 pub mod Choice
 pub mod RootSearch
 pub mod RootInside
+pub mod Handed
 pub mod Planned
 pub mod Readable
 pub mod RoundTrips

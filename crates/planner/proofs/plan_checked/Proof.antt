@@ -10,10 +10,11 @@ use Rattle.plan.specs.Mesh.{Mesh}
 use Rattle.plan.specs.Elimination.{columns}
 use Rattle.plan.specs.Planning.{Buffers, planOf, handOut, fill, buffers}
 use Rattle.theory.specs.Checked.{Checked}
+use Rattle.theory.proofs.Handed.{Room, enough-room, lengthsOf}
 use Rattle.mesh.specs.Lent.{lent}
 use Rattle.dissection.specs.Blocks.{Dissected}
 use Rattle.dissection.proofs.Heads.{dissected-parts}
-use Rattle.planner.proofs.Planning.{Room, lengthsOf, enough-room, dissected-order, parts-within, heldPlan, held-slots, counted-slots, held-reply, checked-refused, checked-accepted}
+use Rattle.planner.proofs.Planning.{dissected-order, parts-within, heldPlan, held-slots, counted-slots, held-reply, checked-refused, checked-accepted}
 use Rattle.planner.proofs.plan_checked.Statement.{statement}
 use Rattle.planner.proofs.plan_checked.Tie as tie
 

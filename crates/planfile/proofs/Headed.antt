@@ -1,0 +1,211 @@
+-- A file that passed checks 10 to 14: its counts and its length, its fields, and what checks 15 to 19 look at in it.
+use mathlib.Core.Path.{_≡_, refl, sym, ap, _∙_}
+use mathlib.Core.Bool.{true, false}
+use mathlib.Core.List.{List, []}
+use Prim.Native.Nat.{ℕ, _+_, _-_, _*_, _/_, _≤_, _<_}
+use native.Mathlib.Omega.{arith}
+use lib.Dec.{eqb}
+use lib.ListN.{length, getD, take, drop, length-drop}
+use lib.Seq.{take-all}
+use borrow.Author.Tests.{eqb-true, eq-eqb, ne-eqb, not-false}
+use Rattle.plan.specs.Lists.{eachOnce, written, runningSums}
+use Rattle.plan.specs.Refusals.{firstFault}
+use Rattle.plan.specs.Mesh.{badStarts}
+use Rattle.plan.specs.Dissection.{positions}
+use Rattle.plan.specs.Planning.{Contents}
+use Rattle.plan.specs.File.{decode16s, lengthAt, fileLength, parseAt, parse, badHeader, badOrder, badParts, badColumns, badRows, notNested, notCovered, contentsChecks}
+use Rattle.plan.specs.Reading.{tooFewBytes, badMagic, badVersion, badLength, headerChecks}
+use Rattle.theory.specs.Counting.{Order}
+use Rattle.theory.proofs.Refusals.{no-fault, first-some}
+use Rattle.theory.proofs.Orders.{passes-order}
+use Rattle.theory.proofs.Compressed.{sums-length, sums-starts}
+use Rattle.theory.proofs.Coding.{decode16s-length, decode16s-drop}
+use Rattle.theory.proofs.Fitting.{Limits, header-limits, few-slots}
+use Rattle.theory.proofs.RoundTrips.{read-whole}
+use Rattle.planfile.specs.Supplied.{orderAndParts, orderChecks, partsAndRows, Parted, Started, rowsIn, countsIn, Headed}
+
+-- ---- the counts and the length
+
+-- 13 and 14 by themselves
+header-says : (bytes : List ℕ) → firstFault (headerChecks bytes) ≡ 0 → (badHeader (parse bytes) ≡ false) × (length bytes ≡ fileLength (parse bytes))
+unfolding headerChecks badLength
+header-says bytes h =
+    let c10 = no-fault 10 (tooFewBytes bytes) _ (omega arith) h in
+    let c11 = no-fault 11 (badMagic bytes) _ (omega arith) (c10 .1) in
+    let c12 = no-fault 12 (badVersion bytes) _ (omega arith) (c11 .1) in
+    let c13 = no-fault 13 (badHeader (parse bytes)) _ (omega arith) (c12 .1) in
+    let c14 = no-fault 14 (badLength bytes) _ (omega arith) (c13 .1) in
+    (c13 .0, eqb-true (length bytes) (fileLength (parse bytes)) (not-false (eqb (length bytes) (fileLength (parse bytes))) (c14 .0)))
+
+-- such a file has a header
+pub header-long : (bytes : List ℕ) → firstFault (headerChecks bytes) ≡ 0 → 17 ≤ length bytes
+unfolding fileLength lengthAt
+header-long bytes h = omega (arith, header-says bytes h .1)
+
+-- what 13 and 14 say of n, p and s
+pub record Sizes (bytes : List ℕ) (n p s : ℕ) : Type 0 where
+  pub few : n ≤ 4096
+  pub parts : p ≤ n
+  pub slots : s < 4294967296
+  pub long : length bytes ≡ 17 + 4 * n + 4 * p + 2 * s
+
+-- the bytes behind the counts
+abbrev pub behind : List ℕ → ℕ → ℕ → List ℕ
+behind bytes n p = take (length bytes - (17 + 4 * n + 4 * p)) (drop (17 + 4 * n + 4 * p) bytes)
+
+module _ (bytes : List ℕ) (n p s : ℕ) (h : Headed bytes n p s) where
+  -- they say so
+  pub headed-sizes : Sizes bytes n p s
+  unfolding fileLength lengthAt
+  headed-sizes =
+      let says = header-says bytes (h .good) in
+      let limits : Limits (parse bytes) = header-limits (parse bytes) (says .0) in
+      record {
+        few = omega (arith, h .nodes, limits .nodesFew);
+        parts = omega (arith, h .nodes, h .parts, limits .partsFew);
+        slots = omega (arith, h .slots, few-slots (parse bytes) limits);
+        long = omega (arith, h .nodes, h .parts, h .slots, says .1);
+      }
+
+  -- ---- the fields
+
+  -- where each stands
+  pub order-field : parse bytes .order ≡ decode16s bytes 17 2 n
+  unfolding parse parseAt
+  order-field = rw (h .nodes)
+
+  pub sizes-field : parse bytes .sizes ≡ decode16s bytes (17 + 2 * n) 4 p
+  unfolding parse parseAt
+  sizes-field = rw (h .nodes, h .parts)
+
+  pub parents-field : parse bytes .parents ≡ decode16s bytes (17 + 2 * n + 2) 4 p
+  unfolding parse parseAt
+  parents-field =
+      let place : 17 + 2 * n + 2 ≡ 19 + 2 * n = omega arith in
+      rw (place, h .nodes, h .parts)
+
+  pub counts-field : countsIn bytes ≡ decode16s bytes (17 + 2 * n + 4 * p) 2 n
+  counts-field = rw (← h .nodes, ← h .parts)
+
+  pub rows-field : parse bytes .rows ≡ decode16s bytes (17 + 4 * n + 4 * p) 2 s
+  unfolding parse parseAt
+  rows-field = rw (h .nodes, h .parts, h .slots)
+
+  -- the column starts are the running sums of the counts
+  starts-field : parse bytes .columnStarts ≡ runningSums 0 (countsIn bytes)
+  unfolding parse parseAt
+  starts-field = refl
+
+  -- how long they are
+  pub order-many : length (parse bytes .order) ≡ n
+  order-many = read-whole bytes .order ∙ sym (h .nodes)
+
+  pub sizes-many : length (parse bytes .sizes) ≡ p
+  sizes-many = read-whole bytes .sizes ∙ sym (h .parts)
+
+  pub parents-many : length (parse bytes .parents) ≡ p
+  parents-many = read-whole bytes .parents ∙ sym (h .parts)
+
+  pub counts-many : length (countsIn bytes) ≡ n
+  counts-many = decode16s-length bytes _ 2 _ ∙ sym (h .nodes)
+
+  pub starts-many : length (parse bytes .columnStarts) ≡ n + 1
+  starts-many = rw starts-field (omega (arith, sums-length 0 (countsIn bytes), counts-many))
+
+  rows-many : length (parse bytes .rows) ≡ s
+  rows-many = read-whole bytes .rows ∙ sym (h .slots)
+
+  -- row counts that are the file's give its column starts
+  pub starts-written : (counts found left : List ℕ) → take n counts ≡ countsIn bytes → left ≡ written (runningSums 0 (take n counts)) found → left ≡ written (parse bytes .columnStarts) found
+  starts-written counts found left same e = rw starts-field (rw same at e)
+
+  -- the bytes behind the counts say the rows
+  rows-behind : rowsIn (behind bytes n p) ≡ parse bytes .rows
+  rows-behind =
+      let at : ℕ = 17 + 4 * n + 4 * p in
+      let many : length (drop at bytes) ≡ 2 * s = omega (arith, length-drop at bytes, headed-sizes .long) in
+      let half : length (drop at bytes) / 2 ≡ s = omega arith in
+      rw (take-all (length bytes - at) (drop at bytes) (omega (arith, headed-sizes .long)), half) (sym (rows-field ∙ decode16s-drop bytes at 2 s))
+
+  -- ---- checks 15 to 19
+
+  -- the plan that the bytes say
+  abbrev file : Contents
+  file = parse bytes
+
+  -- an order that passed 15 can be inverted
+  pub order-inverts : (nodes : List ℕ) → nodes ≡ file .order → firstFault (contentsChecks file) ≡ 0 → Order (length nodes) nodes × (length nodes ≡ n)
+  unfolding contentsChecks badOrder
+  order-inverts nodes e good =
+      let c15 = no-fault 15 (badOrder file) _ (omega arith) good in
+      rw (e, read-whole bytes .order) (passes-order (file .nodes) (file .order) (not-false (eachOnce (file .nodes) (file .order)) (c15 .0)), sym (h .nodes))
+
+  -- and gives the plan's positions
+  pub positions-written : (nodes found left : List ℕ) → nodes ≡ file .order → left ≡ written (positions (length nodes) nodes) found → left ≡ written (positions (file .nodes) (file .order)) found
+  positions-written nodes found left e f = rw (e, read-whole bytes .order) at f
+
+  -- the fields but the rows, in lists of their own
+  module _ (order sizes parents columnStarts : List ℕ)
+      (own : (order ≡ file .order) × (sizes ≡ file .sizes) × (parents ≡ file .parents) × (columnStarts ≡ file .columnStarts)) where
+    -- no list of the order and the parts is longer than 4,096
+    pub order-few : (length order ≤ 4096) × (length sizes ≤ 4096) × (length parents ≡ length sizes)
+    order-few = rw (own .0, own .1, own .2) (
+      omega (arith, order-many, headed-sizes .few),
+      omega (arith, sizes-many, headed-sizes .parts, headed-sizes .few),
+      parents-many ∙ sym sizes-many,
+    )
+
+    -- 15 and 16 look at the order and the parts
+    order-checked : firstFault (orderChecks (orderAndParts (length order) order sizes parents)) ≡ firstFault (orderChecks file)
+    unfolding badOrder badParts
+    order-checked = rw (own .0, own .1, own .2, read-whole bytes .order, read-whole bytes .sizes)
+
+    -- what they refuse is refused
+    pub order-refused : (k : ℕ) → k ≡ firstFault (orderChecks (orderAndParts (length order) order sizes parents)) → (k ≡ 0 → ⊥) → k ≡ firstFault (contentsChecks file)
+    unfolding contentsChecks
+    order-refused k e some =
+        let f : k ≡ firstFault (orderChecks file) = e ∙ order-checked in
+        f ∙ sym (first-some (orderChecks file) _ (λ z. some (f ∙ z)))
+
+    -- and else neither finds a fault
+    pub order-passed : firstFault (orderChecks (orderAndParts (length order) order sizes parents)) ≡ 0 → (badOrder file ≡ false) × (badParts file ≡ false)
+    order-passed e =
+        let c15 = no-fault 15 (badOrder file) _ (omega arith) (sym order-checked ∙ e) in
+        (c15 .0, no-fault 16 (badParts file) [] (omega arith) (c15 .1) .0)
+
+    -- the parts have passed 16
+    pub file-parted : badParts file ≡ false → Parted n sizes parents
+    unfolding badParts
+    file-parted good = record { few = headed-sizes .few; asMany = order-few .2; good = rw (own .1, own .2, read-whole bytes .sizes, h .nodes) good }
+
+    -- a start for each column, and one more
+    pub starts-long : length columnStarts ≡ n + 1
+    starts-long = rw (own .3) starts-many
+
+    -- running sums have no fault as starts
+    starts-good : badStarts n columnStarts ≡ false
+    starts-good = rw (own .3, starts-field) (sums-starts n (countsIn bytes) counts-many)
+
+    -- 17 finds a fault where the last start is not s
+    pub rows-apart : (getD columnStarts n 0 ≡ s → ⊥) → badRows file ≡ true
+    unfolding badRows
+    rows-apart ne = rw (← h .nodes, ← h .slots, ← own .3, starts-good, ne-eqb (getD columnStarts n 0) s ne)
+
+    module _ (ends : getD columnStarts n 0 ≡ s) where
+      -- where it is, the rows are as many as the starts say
+      pub rows-started : Started n columnStarts (rowsIn (behind bytes n p))
+      rows-started = record { few = headed-sizes .few; starts = starts-good; last = ends ∙ sym (ap length rows-behind ∙ rows-many) }
+
+      -- and 17 is the columns' rule
+      pub rows-columns : badRows file ≡ badColumns n columnStarts (rowsIn (behind bytes n p))
+      unfolding badRows
+      rows-columns = rw (← h .nodes, ← h .slots, ← own .3, starts-good, eq-eqb (getD columnStarts n 0) s ends, ← rows-behind)
+
+    -- 18 and 19 look at the parts and the layout
+    pub file-nested : notNested (partsAndRows n sizes parents columnStarts (rowsIn (behind bytes n p))) ≡ notNested file
+    unfolding notNested
+    file-nested = rw (own .1, own .2, own .3, rows-behind, h .nodes)
+
+    pub file-covered : notCovered (partsAndRows n [] [] columnStarts (rowsIn (behind bytes n p))) ≡ notCovered file
+    unfolding notCovered
+    file-covered = rw (own .3, rows-behind, h .nodes)

@@ -1,0 +1,12 @@
+pub mod Counts
+pub mod Once
+pub mod Every
+pub mod Numbering
+pub mod Climbs
+pub mod Nesting
+pub mod Passing
+pub mod Loaded
+pub mod WrittenFile
+pub mod WriteAnswers
+pub mod Headed
+pub mod Reading

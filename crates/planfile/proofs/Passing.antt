@@ -1,0 +1,114 @@
+-- Checks 15 to 19 of a plan: which is the first fault, what each check looks at, and what those passed tell the ones behind them.
+use mathlib.Core.Path.{_≡_, refl, sym, _∙_}
+use mathlib.Core.Bool.{Bool, true, false, not, _||_}
+use mathlib.Core.List.{[], _∷_}
+use Prim.Native.Nat.{_≤_}
+use native.Mathlib.Omega.{arith}
+use lib.Dec.{eqb, ltb}
+use lib.ListN.{length, getD}
+use borrow.Author.Tests.{eqb-true, not-false}
+use Rattle.plan.specs.Refusals.{Checks, firstFault}
+use Rattle.plan.specs.Mesh.{badNodeCount, badStarts}
+use Rattle.plan.specs.Planning.{Contents}
+use Rattle.plan.specs.File.{badHeader, badOrder, badParts, badColumns, badRows, notNested, notCovered, contentsChecks}
+use Rattle.theory.proofs.Bools.{or-false-left, or-false-right}
+use Rattle.theory.proofs.Refusals.{no-fault, first-some, first-none}
+use Rattle.theory.proofs.Fitting.{header-limits}
+use Rattle.planfile.specs.Supplied.{orderAndParts, orderChecks, partsAndRows, Exact, Parted, LaidOut}
+
+-- ---- the first fault
+
+-- checks 17 to 19
+abbrev rowChecks : Contents → Checks
+rowChecks c = (17, badRows c) ∷ (18, notNested c) ∷ (19, notCovered c) ∷ []
+
+-- a fault of checks 15 and 16 is the plan's
+pub order-fault : (c : Contents) → (firstFault (orderChecks c) ≡ 0 → ⊥) → firstFault (contentsChecks c) ≡ firstFault (orderChecks c)
+unfolding contentsChecks
+order-fault c some = first-some (orderChecks c) (rowChecks c) some
+
+-- where they found none, it is that of 17 to 19
+module _ (c : Contents) (ordered : firstFault (orderChecks c) ≡ 0) where
+  row-fault : firstFault (contentsChecks c) ≡ firstFault (rowChecks c)
+  unfolding contentsChecks
+  row-fault = first-none (orderChecks c) (rowChecks c) refl ordered
+
+  pub fault-17 : badRows c ≡ true → firstFault (contentsChecks c) ≡ 17
+  unfolding firstFault
+  fault-17 bad = row-fault ∙ rw bad
+
+  pub fault-18 : badRows c ≡ false → notNested c ≡ true → firstFault (contentsChecks c) ≡ 18
+  unfolding firstFault
+  fault-18 good bad = row-fault ∙ rw (good, bad)
+
+  pub fault-19 : badRows c ≡ false → notNested c ≡ false → notCovered c ≡ true → firstFault (contentsChecks c) ≡ 19
+  unfolding firstFault
+  fault-19 good nested bad = row-fault ∙ rw (good, nested, bad)
+
+  pub all-passed : badRows c ≡ false → notNested c ≡ false → notCovered c ≡ false → firstFault (contentsChecks c) ≡ 0
+  unfolding firstFault
+  all-passed good nested covered = row-fault ∙ rw (good, nested, covered)
+
+-- ---- what a check looks at
+
+-- 15 and 16 at the order and the parts
+pub order-checks : (c : Contents) → Exact c → firstFault (orderChecks (orderAndParts (length (c .order)) (c .order) (c .sizes) (c .parents))) ≡ firstFault (orderChecks c)
+unfolding badOrder badParts
+order-checks c h = rw (h .order, h .sizes)
+
+-- 17 at the rows
+pub rows-check : (c : Contents) → Exact c → badRows (partsAndRows (c .nodes) [] [] (c .columnStarts) (c .rows)) ≡ badRows c
+unfolding badRows
+rows-check c h = rw (h .rows)
+
+-- 18 at the parts and the rows
+pub nested-check : (c : Contents) → notNested (partsAndRows (c .nodes) (c .sizes) (c .parents) (c .columnStarts) (c .rows)) ≡ notNested c
+unfolding notNested
+nested-check c = refl
+
+-- 19 at the rows
+pub covered-check : (c : Contents) → notCovered (partsAndRows (c .nodes) [] [] (c .columnStarts) (c .rows)) ≡ notCovered c
+unfolding notCovered
+covered-check c = refl
+
+-- ---- what a plan tells that passed a check
+
+module _ (c : Contents) (h : Exact c) where
+  -- 13: n is 1 to 4,096
+  pub exact-count : badNodeCount (c .nodes) ≡ false
+  unfolding badHeader
+  exact-count =
+      let bad : Bool = badNodeCount (c .nodes) in
+      let none : Bool = eqb (c .parts) 0 in
+      let many : Bool = ltb (c .nodes) (c .parts) in
+      or-false-left bad none (or-false-left (bad || none) many (or-false-left (bad || none || many) _ (h .header)))
+
+  -- and so the order, the sizes and the parents are few
+  pub exact-few : (length (c .order) ≤ 4096) × (length (c .sizes) ≤ 4096) × (length (c .parents) ≡ length (c .sizes))
+  exact-few =
+      let l = header-limits c (h .header) in
+      (omega (arith, l .nodesFew, h .order), omega (arith, l .nodesFew, l .partsFew, h .sizes), h .parents ∙ sym (h .sizes))
+
+  -- 15 and 16: the sizes and the parents are those of parts
+  pub passed-parted : firstFault (orderChecks c) ≡ 0 → Parted (c .nodes) (c .sizes) (c .parents)
+  unfolding badParts
+  passed-parted ordered =
+      let parts : badParts c ≡ false = no-fault 16 (badParts c) [] (omega arith) (no-fault 15 (badOrder c) ((16, badParts c) ∷ []) (omega arith) ordered .1) .0 in
+      record { few = header-limits c (h .header) .nodesFew; asMany = h .parents ∙ sym (h .sizes); good = rw (h .sizes) parts }
+
+  -- 17: the rows are laid out
+  pub passed-laid : badRows c ≡ false → LaidOut (c .nodes) (c .columnStarts) (c .rows)
+  unfolding badRows
+  passed-laid good =
+      let starts : Bool = badStarts (c .nodes) (c .columnStarts) in
+      let ends : Bool = eqb (getD (c .columnStarts) (c .nodes) 0) (c .slots) in
+      let both : (starts || not ends) ≡ false = or-false-left (starts || not ends) _ good in
+      record {
+        started =
+            record {
+              few = header-limits c (h .header) .nodesFew;
+              starts = or-false-left starts (not ends) both;
+              last = eqb-true (getD (c .columnStarts) (c .nodes) 0) (c .slots) (not-false ends (or-false-right starts (not ends) both)) ∙ sym (h .rows);
+            };
+        good = or-false-right (starts || not ends) (badColumns (c .nodes) (c .columnStarts) (c .rows)) good;
+      }

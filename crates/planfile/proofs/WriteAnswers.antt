@@ -1,0 +1,175 @@
+-- What the writer's checks say of the slices as lent, and the answers that agree with them.
+use mathlib.Core.Path.{_≡_, refl, sym, ap, subst, _∙_}
+use mathlib.Core.Bool.{Bool, true, false, _||_}
+use mathlib.Core.List.{List, [], _∷_}
+use Prim.Native.Nat.{ℕ, zero, suc, _+_, _-_, _≤_, _<_}
+use native.Mathlib.Omega.{arith}
+use lib.Dec.{ltb}
+use lib.ListN.{length, getD, take}
+use lib.Seq.{length-take-le, take-all}
+use borrow.Author.Tests.{ltb-false, lt-ltb, le-ltb}
+use Rattle.plan.specs.declared.WriteAnswer.{WriteAnswer}
+use Rattle.plan.specs.declared.WriteAnswer.the-variants.{Written, Refused}
+use Rattle.plan.specs.Lists.{written}
+use Rattle.plan.specs.Refusals.{firstFault}
+use Rattle.plan.specs.Answers.{refused}
+use Rattle.plan.specs.Planning.{Contents, rowCounts}
+use Rattle.plan.specs.File.{fileLength, encode, badHeader, contentsChecks}
+use Rattle.plan.specs.Writing.{badSupply, used, suppliedChecks, outputTooShort, writeChecks, WriteOutcome, writeOut, writing, Wrote}
+use Rattle.plan.specs.RoundTrips.{Sound}
+use Rattle.theory.proofs.Bools.{or-false-left, or-false-right}
+use Rattle.theory.proofs.Lists.{isIn-getD}
+use Rattle.theory.proofs.Ranges.{getD-map-below}
+use Rattle.theory.proofs.Refusals.{fault-here, fault-later, first-nil, first-some}
+use Rattle.theory.proofs.Compressed.{start-next}
+use Rattle.theory.proofs.FileFields.{counts-length}
+use Rattle.theory.proofs.Fitting.{passes-sound, sound-passes, good-rows, sound-fits}
+use Rattle.planfile.specs.Supplied.{supplied, Exact, Narrow, lateChecks, WroteExact}
+
+-- ---- slices that are as long as their counts say
+
+-- all their entries are used
+used-exact : (c : Contents) → Exact c → used c ≡ c
+unfolding used
+used-exact c x = rw (
+  take-all (c .nodes) (c .order) (omega (arith, x .order)),
+  take-all (c .parts) (c .sizes) (omega (arith, x .sizes)),
+  take-all (c .parts) (c .parents) (omega (arith, x .parents)),
+  take-all (c .nodes + 1) (c .columnStarts) (omega (arith, x .columnStarts)),
+  take-all (c .slots) (c .rows) (omega (arith, x .rows)),
+)
+
+-- the counts are those of the used entries: 13 looks at them, and the file's length comes from them
+same-header : (c : Contents) → badHeader (used c) ≡ badHeader c
+unfolding used badHeader
+same-header c = refl
+
+same-long : (c : Contents) → fileLength (used c) ≡ fileLength c
+unfolding used fileLength
+same-long c = refl
+
+-- 13 of slices as lent: their used entries are as many as the counts say
+pub exact-used : (c : Contents) → badSupply c ≡ false → Exact (used c)
+unfolding badSupply used
+exact-used c h =
+    let bad : Bool = badHeader c in
+    let order : Bool = ltb (length (c .order)) (c .nodes) in
+    let sizes : Bool = ltb (length (c .sizes)) (c .parts) in
+    let parents : Bool = ltb (length (c .parents)) (c .parts) in
+    let starts : Bool = ltb (length (c .columnStarts)) (c .nodes + 1) in
+    let rows : Bool = ltb (length (c .rows)) (c .slots) in
+    let five : (bad || order || sizes || parents || starts) ≡ false = or-false-left (bad || order || sizes || parents || starts) rows h in
+    let four : (bad || order || sizes || parents) ≡ false = or-false-left (bad || order || sizes || parents) starts five in
+    let three : (bad || order || sizes) ≡ false = or-false-left (bad || order || sizes) parents four in
+    let two : (bad || order) ≡ false = or-false-left (bad || order) sizes three in
+    record {
+      header = same-header c ∙ or-false-left bad order two;
+      order = enough (c .nodes) (c .order) (or-false-right bad order two);
+      sizes = enough (c .parts) (c .sizes) (or-false-right (bad || order) sizes three);
+      parents = enough (c .parts) (c .parents) (or-false-right (bad || order || sizes) parents four);
+      columnStarts = enough (c .nodes + 1) (c .columnStarts) (or-false-right (bad || order || sizes || parents) starts five);
+      rows = enough (c .slots) (c .rows) (or-false-right (bad || order || sizes || parents || starts) rows h);
+    }
+  where
+    enough : (k : ℕ) (l : List ℕ) → ltb (length l) k ≡ false → length (take k l) ≡ k
+    enough k l e = length-take-le k l (ltb-false (length l) k e)
+
+-- the slices' fronts by themselves, with their lengths as the counts
+abbrev pub fronts : Contents → Contents
+fronts c =
+    let sizes : List ℕ = take (c .parts) (c .sizes) in
+    let rows : List ℕ = take (c .slots) (c .rows) in
+    supplied (c .nodes) (length sizes) (length rows) (take (c .nodes) (c .order)) sizes (take (c .parts) (c .parents)) (take (c .nodes + 1) (c .columnStarts)) rows
+
+-- are the used entries
+fronts-used : (c : Contents) → Exact (used c) → fronts c ≡ used c
+unfolding used
+fronts-used c x = rw (x .sizes, x .rows)
+
+-- so they are as long as their counts say
+pub exact-fronts : (c : Contents) → badSupply c ≡ false → Exact (fronts c)
+exact-fronts c h = subst Exact (sym (fronts-used c (exact-used c h))) (exact-used c h)
+
+-- where 13 and 15 to 19 find no fault, each column has a number of rows that fits 16 bits
+pub passes-narrow : (c : Contents) → Exact c → firstFault (contentsChecks c) ≡ 0 → Narrow (c .nodes) (c .columnStarts)
+unfolding rowCounts
+passes-narrow c x h =
+    let sound : Sound c = passes-sound c (x .header) h in
+    let starts : List ℕ = c .columnStarts in
+    let count : ℕ → ℕ = λ j. getD starts (j + 1) 0 - getD starts j 0 in
+    let fits = sound-fits c sound (x .sizes) (x .parents) (x .rows) in
+    record {
+      rising = start-next (c .nodes) starts (good-rows c (sound .rows) .starts);
+      narrow = λ j lt. omega (
+        arith,
+        getD-map-below count 0 (c .nodes) j lt,
+        fits .counts (getD (rowCounts c) j 0) (isIn-getD (rowCounts c) j 0 (omega (arith, counts-length c))),
+      );
+    }
+
+-- ---- the answers
+
+module _ (c : Contents) (found : List ℕ) where
+  -- a refusal: its number, and nothing written
+  refused-out : (k first : ℕ) → first ≡ k → (k ≡ 0 → ⊥) → (refused k ≡ writeOut first c .reply) × (found ≡ written (writeOut first c .bytes) found)
+  unfolding writeOut
+  refused-out zero first e some = absurd (some refl)
+  refused-out (suc k) first e some = rw e (refl, refl)
+
+  -- of slices as long as their counts say
+  late-refused : (k : ℕ) → firstFault (lateChecks c (length found)) ≡ k → (k ≡ 0 → ⊥) → WroteExact c (Refused k) found found
+  late-refused k first some =
+      let r = refused-out k (firstFault (lateChecks c (length found))) first some in
+      record { reply = r .0; output = r .1 }
+
+  -- a fault of 15 to 19
+  pub refused-contents : (k : ℕ) → k ≡ firstFault (contentsChecks c) → (k ≡ 0 → ⊥) → WroteExact c (Refused k) found found
+  refused-contents k e some = late-refused k (first-some (contentsChecks c) _ (λ z. some (e ∙ z)) ∙ sym e) some
+
+  -- none of them: 8 is left
+  late-eight : Exact c → firstFault (contentsChecks c) ≡ 0 → firstFault (lateChecks c (length found)) ≡ firstFault ((8, outputTooShort c (length found)) ∷ [])
+  late-eight x e = sound-passes c ((8, outputTooShort c (length found)) ∷ []) (passes-sound c (x .header) e)
+
+  -- too little room
+  pub refused-room : Exact c → firstFault (contentsChecks c) ≡ 0 → length found < fileLength c → WroteExact c (Refused 8) found found
+  unfolding outputTooShort
+  refused-room x e short = late-refused 8 (late-eight x e ∙ fault-here 8 (outputTooShort c (length found)) [] (lt-ltb (length found) (fileLength c) short)) (λ z. absurd (omega arith))
+
+  -- no fault
+  pub accepted-exact : (left : List ℕ) → Exact c → firstFault (contentsChecks c) ≡ 0 → fileLength c ≤ length found → left ≡ written (encode c) found
+      → WroteExact c (Written (fileLength c)) found left
+  unfolding outputTooShort writeOut
+  accepted-exact left x e room bytes =
+      let first : firstFault (lateChecks c (length found)) ≡ 0 = late-eight x e ∙ fault-later 8 (outputTooShort c (length found)) [] (le-ltb (length found) (fileLength c) room) ∙ first-nil in
+      record {
+        reply = sym (ap (λ (k : ℕ). writeOut k c .reply) first);
+        output = bytes ∙ sym (ap (λ (k : ℕ). written (writeOut k c .bytes) found) first ∙ ap (λ (d : Contents). written (encode d) found) (used-exact c x));
+      }
+
+  -- 13 of slices as lent
+  pub refused-supply : badSupply c ≡ true → Wrote c (Refused 13) found found
+  unfolding writing writeChecks suppliedChecks
+  refused-supply bad =
+      let r = refused-out 13 (firstFault (writeChecks c (length found))) (fault-here 13 (badSupply c) _ bad) (λ z. absurd (omega arith)) in
+      record { reply = r .0; output = r .1 }
+
+  -- where 13 finds no fault, the first fault is that of the used entries
+  used-late : badSupply c ≡ false → firstFault (writeChecks c (length found)) ≡ firstFault (lateChecks (used c) (length found))
+  unfolding writeChecks suppliedChecks outputTooShort fileLength used
+  used-late good = fault-later 13 (badSupply c) _ good
+
+  -- and so is what is written
+  used-out : (k : ℕ) → used (used c) ≡ used c → writeOut k (used c) ≡ writeOut k c
+  unfolding writeOut
+  used-out zero e = rw (e, same-long c)
+  used-out (suc k) e = refl
+
+  -- so the answer and the output are those of the slices' fronts
+  pub wrote-fronts : (answer : WriteAnswer) (left : List ℕ) → badSupply c ≡ false → WroteExact (fronts c) answer found left → Wrote c answer found left
+  unfolding writing
+  wrote-fronts answer left good wrote =
+      let x : Exact (used c) = exact-used c good in
+      let k : ℕ = firstFault (lateChecks (used c) (length found)) in
+      let same : writeOut k (used c) ≡ writing c (length found) = used-out k (used-exact (used c) x) ∙ sym (ap (λ (i : ℕ). writeOut i c) (used-late good)) in
+      let w : WroteExact (used c) answer found left = subst (λ (d : Contents). WroteExact d answer found left) (fronts-used c x) wrote in
+      record { reply = w .reply ∙ ap (λ (o : WriteOutcome). o .reply) same; output = w .output ∙ ap (λ (o : WriteOutcome). written (o .bytes) found) same }

@@ -1,0 +1,53 @@
+-- `planfile::reader::read_order` meets its contract: the order stands behind the header and the parts behind it, each size two bytes before its parent.
+use native.Mathlib.Omega.{arith}
+use borrow.Author.Needs.{needs}
+use Rattle.planfile.proofs.Headed.{Sizes, headed-sizes, order-field, sizes-field, parents-field}
+use Rattle.planfile.proofs.reader.read_order.Statement.{statement}
+use Rattle.planfile.proofs.reader.read_order.Tie as tie
+
+-- the counts and the length of the file
+known : (s : tie.Start) → Sizes (s .args .bytes .now) (s .args .n) (s .args .p) (s .args .s)
+known s = headed-sizes _ _ _ _ (s .pre .0)
+
+read16s-requires : tie.Need-read16s-requires
+read16s-requires c κs =
+    let s = c .before .before .before .before .before in
+    (omega arith, omega (arith, known s .long), s .pre .1)
+
+read16s-requires-2 : tie.Need-read16s-requires-2
+read16s-requires-2 c κs =
+    let s = c .before .before .before .before .before .before .before .before .before in
+    (omega arith, omega (arith, known s .long), omega (arith, known s .parts, s .pre .2))
+
+read16s-requires-3 : tie.Need-read16s-requires-3
+read16s-requires-3 c κs =
+    let s = c .before .before .before .before .before .before .before .before .before .before .before .before .before in
+    (omega arith, omega (arith, known s .long), omega (arith, known s .parts, s .pre .3))
+
+returns : tie.Need-returns
+returns c =
+    let third = c .before .before in
+    let second = third .before .before .before .before in
+    let first = second .before .before .before .before in
+    let h = first .before .before .before .before .before .before .pre .0 in (
+      rw (order-field _ _ _ _ h) (first .read16s .ensures),
+      rw (sizes-field _ _ _ _ h) (second .read16s2 .ensures),
+      rw (parents-field _ _ _ _ h) (third .read16s3 .ensures),
+    )
+
+pub read-order-spec : {M : Type 1} → statement M
+read-order-spec =
+    tie.close
+    (tie.spec
+    read16s-requires
+    (λ c. search needs)
+    (λ c. search needs)
+    read16s-requires-2
+    (λ c. search needs)
+    (λ c. search needs)
+    (λ c. search needs)
+    read16s-requires-3
+    (λ c. search needs)
+    (λ c. search needs)
+    (λ c. search needs)
+    returns)

@@ -1,0 +1,104 @@
+// Checks 15 to 19 of a plan in lent slices, each as long as its count says: the writer's.
+use crate::order::order_refusal;
+use crate::rules::contains_all;
+use crate::rules::no_numbers;
+use crate::rules::number_parts;
+use crate::rules::outside;
+use layout::bad_columns;
+use mesh::bad_starts;
+use mesh::index;
+use mesh::list;
+use mesh::node;
+ghost use mathlib.Core.Path.{_≡_};
+ghost use mathlib.Core.Bool.{not, false};
+ghost use mathlib.Core.List.{[]};
+ghost use Prim.Native.Nat.{_+_, _<_};
+ghost use lib.ListN.{length};
+ghost use Rattle.plan.specs.Lists.{listAt};
+ghost use Rattle.plan.specs.Refusals.{firstFault};
+ghost use Rattle.plan.specs.Mesh.{badNodeCount};
+ghost use Rattle.plan.specs.File.{badRows, notNested, covered, notCovered, contentsChecks};
+ghost use Rattle.planfile.specs.Supplied.{supplied, partsAndRows, Exact, Parted, LaidOut};
+
+// Check 17: the column starts do not begin at 0, fall, or do not end at s, or a column breaks the rule. O(n + slots).
+fn bad_rows(n: usize, columnStarts: &[u32], rows: &[u16]) -> bool
+    requires { ⌜ badNodeCount n ≡ false ⌝ }
+    ensures { λ r. ⌜ r ≡ badRows (partsAndRows n [] [] (now (columnStarts .entry)) (now (rows .entry))) ⌝ }
+{
+    if bad_starts(n, columnStarts) {
+        return true;
+    }
+    if index(columnStarts[n]) != rows.len() {
+        return true;
+    }
+    bad_columns(n, columnStarts, rows)
+}
+
+// Check 18: a row lies outside its column's part and that part's ancestors. O(n + slots + the ancestors of each column's part).
+fn not_nested(n: usize, sizes: &[u16], parents: &[u16], columnStarts: &[u32], rows: &[u16]) -> bool
+    requires { ⌜ Parted n (now sizes) (now parents) × LaidOut n (now columnStarts) (now rows) ⌝ }
+    ensures { λ r. ⌜ r ≡ notNested (partsAndRows n (now (sizes .entry)) (now (parents .entry)) (now (columnStarts .entry)) (now (rows .entry))) ⌝ }
+{
+    let mut numbers = no_numbers();
+    number_parts(sizes, &mut numbers);
+    for j in 0..n {
+        if outside(n, &numbers, parents, j, list(columnStarts, rows, j)) {
+            return true;
+        }
+    }
+    false
+}
+
+// Column j by 19's rule: whether its rows after the first are all in the first row's column. O(both columns).
+fn column_covered(n: usize, columnStarts: &[u32], rows: &[u16], j: usize) -> bool
+    requires { ⌜ LaidOut n (now columnStarts) (now rows) × (j < n) ⌝ }
+    ensures { λ r. ⌜ r ≡ covered (now (columnStarts .entry)) (now (rows .entry)) (listAt (now (columnStarts .entry)) (now (rows .entry)) j) ⌝ }
+{
+    let column = list(columnStarts, rows, j);
+    if column.len() < 2 {
+        return true;
+    }
+    let first = node(column[0]);
+    contains_all(list(columnStarts, rows, first), &column[1..])
+}
+
+// Check 19: a column's rows after its first are not all in the first row's column. O(n + slots + the first rows' columns).
+fn not_covered(n: usize, columnStarts: &[u32], rows: &[u16]) -> bool
+    requires { ⌜ LaidOut n (now columnStarts) (now rows) ⌝ }
+    ensures { λ r. ⌜ r ≡ notCovered (partsAndRows n [] [] (now (columnStarts .entry)) (now (rows .entry))) ⌝ }
+{
+    for j in 0..n {
+        if !column_covered(n, columnStarts, rows, j) {
+            return true;
+        }
+    }
+    false
+}
+
+// The first refusal of checks 15 to 19, 0 for none. O(4,096 + slots + ancestors and first rows' columns).
+pub(crate) fn contents_refusal(
+    n: usize,
+    order: &[u16],
+    sizes: &[u16],
+    parents: &[u16],
+    columnStarts: &[u32],
+    rows: &[u16],
+) -> u32
+    requires { ⌜ Exact (supplied n (length (now sizes)) (length (now rows)) (now order) (now sizes) (now parents) (now columnStarts) (now rows)) ⌝ }
+    ensures { λ r. ⌜ r ≡ firstFault (contentsChecks (supplied n (length (now (sizes .entry))) (length (now (rows .entry))) (now (order .entry)) (now (sizes .entry)) (now (parents .entry)) (now (columnStarts .entry)) (now (rows .entry)))) ⌝ }
+{
+    let fault = order_refusal(order, sizes, parents);
+    if fault != 0 {
+        return fault;
+    }
+    if bad_rows(n, columnStarts, rows) {
+        return 17;
+    }
+    if not_nested(n, sizes, parents, columnStarts, rows) {
+        return 18;
+    }
+    if not_covered(n, columnStarts, rows) {
+        return 19;
+    }
+    0
+}

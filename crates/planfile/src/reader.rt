@@ -1,0 +1,226 @@
+// Reading a plan file: checks 10 to 19, then 8 and 9, then the plan in the lent buffers. Until all checks are passed only working memory is written.
+use crate::encoded::bad_columns;
+use crate::encoded::not_covered;
+use crate::encoded::not_nested;
+use crate::header::HEADER;
+use crate::header::header_refusal;
+use crate::header::read_counts;
+use crate::order::order_refusal;
+use crate::rules::no_numbers;
+use coding::read16s;
+use layout::invert;
+use layout::sum;
+use layout::too_short;
+use layout::write_starts;
+use mesh::index;
+use plan::Plan;
+use plan::PlanAnswer;
+ghost use mathlib.Core.Path.{_≡_};
+ghost use mathlib.Core.Bool.{false};
+ghost use Prim.Native.Nat.{_≤_};
+ghost use lib.ListN.{length, take};
+ghost use Rattle.plan.specs.Lists.{written};
+ghost use Rattle.plan.specs.Refusals.{firstFault};
+ghost use Rattle.plan.specs.Planning.{buffers, lengths, capacity, buffersTooShort, rowsTooShort, handOut, Filled};
+ghost use Rattle.plan.specs.File.{parse, contentsChecks};
+ghost use Rattle.plan.specs.Reading.{headerChecks, reading};
+ghost use Rattle.planfile.specs.Supplied.{Headed, countsIn};
+
+// 4,097 zeros. O(4,097).
+fn no_starts() -> [u32; 4097]
+    ensures { λ r. ⌜ length r ≡ 4097 ⌝ }
+{
+    [0; 4097]
+}
+
+// The first refusal of checks 15 to 19, 0 for none; order, sizes, parents and column starts are those of the file. O(4,096 + slots + ancestors and first rows' columns).
+fn contents_refusal(
+    bytes: &[u8],
+    n: usize,
+    p: usize,
+    s: usize,
+    order: &[u16],
+    sizes: &[u16],
+    parents: &[u16],
+    columnStarts: &[u32],
+) -> u32
+    requires { ⌜ Headed (now bytes) n p s ⌝ }
+    requires { ⌜ (now order ≡ parse (now bytes) .order) × (now sizes ≡ parse (now bytes) .sizes) × (now parents ≡ parse (now bytes) .parents) × (now columnStarts ≡ parse (now bytes) .columnStarts) ⌝ }
+    ensures { λ r. ⌜ r ≡ firstFault (contentsChecks (parse (now (bytes .entry)))) ⌝ }
+{
+    let fault = order_refusal(order, sizes, parents);
+    if fault != 0 {
+        return fault;
+    }
+    if index(columnStarts[n]) != s {
+        return 17;
+    }
+    let at = HEADER + 4 * n + 4 * p;
+    let rows = &bytes[at..];
+    if bad_columns(n, columnStarts, rows) {
+        return 17;
+    }
+    if not_nested(n, sizes, parents, columnStarts, rows) {
+        return 18;
+    }
+    if not_covered(n, columnStarts, rows) {
+        return 19;
+    }
+    0
+}
+
+// The order, the sizes and the parents to the front of three buffers. O(n).
+fn read_order(
+    bytes: &[u8],
+    n: usize,
+    p: usize,
+    s: usize,
+    order: &mut [u16],
+    sizes: &mut [u16],
+    parents: &mut [u16],
+)
+    requires { ⌜ Headed (now bytes) n p s × (n ≤ length (now order)) × (n ≤ length (now sizes)) × (n ≤ length (now parents)) ⌝ }
+    ensures { λ _. ⌜ (now (order .exit) ≡ written (parse (now (bytes .entry)) .order) (now (order .entry))) × (now (sizes .exit) ≡ written (parse (now (bytes .entry)) .sizes) (now (sizes .entry))) × (now (parents .exit) ≡ written (parse (now (bytes .entry)) .parents) (now (parents .entry))) ⌝ }
+{
+    read16s(bytes, HEADER, 2, n, order);
+    read16s(bytes, HEADER + 2 * n, 4, p, sizes);
+    read16s(bytes, HEADER + 2 * n + 2, 4, p, parents);
+}
+
+// The row counts to the front of a buffer. O(n).
+fn read_row_counts(bytes: &[u8], n: usize, p: usize, s: usize, counts: &mut [u16])
+    requires { ⌜ Headed (now bytes) n p s × (n ≤ length (now counts)) ⌝ }
+    ensures { λ _. ⌜ now (counts .exit) ≡ written (countsIn (now (bytes .entry))) (now (counts .entry)) ⌝ }
+{
+    read16s(bytes, HEADER + 2 * n + 4 * p, 2, n, counts);
+}
+
+// Checks 15 to 19 of a file: its fields but the rows are read into working memory. O(4,096 + slots + ancestors and first rows' columns).
+fn file_refusal(bytes: &[u8], n: usize, p: usize, s: usize, counts: &[u16]) -> u32
+    requires { ⌜ Headed (now bytes) n p s × (n ≤ length (now counts)) × (take n (now counts) ≡ countsIn (now bytes)) ⌝ }
+    ensures { λ r. ⌜ r ≡ firstFault (contentsChecks (parse (now (bytes .entry)))) ⌝ }
+{
+    let mut order = no_numbers();
+    let mut sizes = no_numbers();
+    let mut parents = no_numbers();
+    let mut columnStarts = no_starts();
+    read_order(bytes, n, p, s, &mut order, &mut sizes, &mut parents);
+    write_starts(n, counts, &mut columnStarts);
+    let orderAll = &order[..];
+    let sizesAll = &sizes[..];
+    let parentsAll = &parents[..];
+    let startsAll = &columnStarts[..];
+    let end = n + 1;
+    contents_refusal(
+        bytes,
+        n,
+        p,
+        s,
+        &orderAll[..n],
+        &sizesAll[..p],
+        &parentsAll[..p],
+        &startsAll[..end],
+    )
+}
+
+// The plan in the lent buffers, and its counts. O(n + slots).
+fn hand_out(
+    bytes: &[u8],
+    n: usize,
+    p: usize,
+    s: usize,
+    counts: &[u16],
+    order: &mut [u16],
+    positions: &mut [u16],
+    sizes: &mut [u16],
+    parents: &mut [u16],
+    columnStarts: &mut [u32],
+    rows: &mut [u16],
+) -> PlanAnswer
+    requires { ⌜ Headed (now bytes) n p s × (n ≤ length (now counts)) × (take n (now counts) ≡ countsIn (now bytes)) × (firstFault (contentsChecks (parse (now bytes))) ≡ 0) ⌝ }
+    requires { ⌜ (buffersTooShort n (lengths (length (now order)) (length (now positions)) (length (now sizes)) (length (now parents)) (length (now columnStarts)) 0) ≡ false) × (s ≤ length (now rows)) ⌝ }
+    ensures { λ r. ⌜ Filled (handOut 0 (parse (now (bytes .entry)))) r
+        (buffers (now (order .entry)) (now (positions .entry)) (now (sizes .entry)) (now (parents .entry)) (now (columnStarts .entry)) (now (rows .entry)))
+        (buffers (now (order .exit)) (now (positions .exit)) (now (sizes .exit)) (now (parents .exit)) (now (columnStarts .exit)) (now (rows .exit))) ⌝ }
+{
+    read_order(bytes, n, p, s, order, sizes, parents);
+    invert(&order[..n], positions);
+    write_starts(n, counts, columnStarts);
+    read16s(bytes, HEADER + 4 * n + 4 * p, 2, s, rows);
+    let totals = sum(n, counts);
+    PlanAnswer::Accepted(Plan::new(n as u32, p as u32, s as u32, totals.multiplications))
+}
+
+// Reading where checks 10 to 14 found no fault. O(4,096 + slots + ancestors and first rows' columns).
+fn read_headed(
+    bytes: &[u8],
+    order: &mut [u16],
+    positions: &mut [u16],
+    sizes: &mut [u16],
+    parents: &mut [u16],
+    columnStarts: &mut [u32],
+    rows: &mut [u16],
+) -> PlanAnswer
+    requires { ⌜ firstFault (headerChecks (now bytes)) ≡ 0 ⌝ }
+    ensures { λ r. ⌜ Filled (reading (now (bytes .entry)) (capacity (buffers (now (order .entry)) (now (positions .entry)) (now (sizes .entry)) (now (parents .entry)) (now (columnStarts .entry)) (now (rows .entry))))) r
+        (buffers (now (order .entry)) (now (positions .entry)) (now (sizes .entry)) (now (parents .entry)) (now (columnStarts .entry)) (now (rows .entry)))
+        (buffers (now (order .exit)) (now (positions .exit)) (now (sizes .exit)) (now (parents .exit)) (now (columnStarts .exit)) (now (rows .exit))) ⌝ }
+{
+    let c = read_counts(bytes);
+    let n = c.nodes;
+    let p = c.parts;
+    let s = c.slots;
+    let mut counts = no_numbers();
+    read_row_counts(bytes, n, p, s, &mut counts);
+    let fault = file_refusal(bytes, n, p, s, &counts);
+    if fault != 0 {
+        return PlanAnswer::Refused(fault);
+    }
+    if too_short(
+        n,
+        order.len(),
+        positions.len(),
+        sizes.len(),
+        parents.len(),
+        columnStarts.len(),
+    ) {
+        return PlanAnswer::Refused(8);
+    }
+    if rows.len() < s {
+        return PlanAnswer::Refused(9);
+    }
+    hand_out(
+        bytes,
+        n,
+        p,
+        s,
+        &counts,
+        order,
+        positions,
+        sizes,
+        parents,
+        columnStarts,
+        rows,
+    )
+}
+
+// Reading: checks 10 to 19, 8 and 9 in this order, then the plan in the lent buffers; the multiplications are counted anew. O(4,096 + slots + ancestors and first rows' columns).
+pub fn read(
+    bytes: &[u8],
+    order: &mut [u16],
+    positions: &mut [u16],
+    sizes: &mut [u16],
+    parents: &mut [u16],
+    columnStarts: &mut [u32],
+    rows: &mut [u16],
+) -> PlanAnswer
+    ensures { λ r. ⌜ Filled (reading (now (bytes .entry)) (capacity (buffers (now (order .entry)) (now (positions .entry)) (now (sizes .entry)) (now (parents .entry)) (now (columnStarts .entry)) (now (rows .entry))))) r
+        (buffers (now (order .entry)) (now (positions .entry)) (now (sizes .entry)) (now (parents .entry)) (now (columnStarts .entry)) (now (rows .entry)))
+        (buffers (now (order .exit)) (now (positions .exit)) (now (sizes .exit)) (now (parents .exit)) (now (columnStarts .exit)) (now (rows .exit))) ⌝ }
+{
+    let fault = header_refusal(bytes);
+    if fault != 0 {
+        return PlanAnswer::Refused(fault);
+    }
+    read_headed(bytes, order, positions, sizes, parents, columnStarts, rows)
+}

@@ -1,0 +1,104 @@
+// The rules of checks 18 and 19 for the rows of one column.
+use mesh::node;
+ghost use mathlib.Core.Path.{_≡_};
+ghost use mathlib.Core.Bool.{true, false};
+ghost use Prim.Native.Nat.{ℕ, _+_, _≤_, _<_};
+ghost use lib.Dec.{eqb};
+ghost use lib.ListN.{length, getD};
+ghost use Rattle.plan.specs.Lists.{every, isIn, ascending, total};
+ghost use Rattle.plan.specs.Parts.{partOf, atOrAbove};
+ghost use Rattle.plan.specs.File.{badColumn};
+ghost use Rattle.mesh.specs.Lent.{LowerBound};
+ghost use Rattle.planfile.specs.Supplied.{Parents, PartNumbers, outside as outsideOf};
+
+// 4,096 zeros. O(4,096).
+pub(crate) fn no_numbers() -> [u16; 4096]
+    ensures { λ r. ⌜ length r ≡ 4096 ⌝ }
+{
+    [0; 4096]
+}
+
+// The number q at `count` places from place `at` on. O(count).
+fn fill(at: usize, count: usize, q: u16, numbers: &mut [u16])
+    requires { ⌜ at + count ≤ length (now numbers) ⌝ }
+    ensures { λ _. ⌜ ((i : ℕ) → at ≤ i → i < at + count → getD (now (numbers .exit)) i 0 ≡ q) × ((i : ℕ) → i < at → getD (now (numbers .exit)) i 0 ≡ getD (now (numbers .entry)) i 0) ⌝ }
+{
+    for k in 0..count {
+        numbers[at + k] = q;
+    }
+}
+
+// The part of each position. O(n).
+pub(crate) fn number_parts(sizes: &[u16], numbers: &mut [u16])
+    requires { ⌜ (length (now sizes) ≤ 4096) × (total (now sizes) ≤ length (now numbers)) ⌝ }
+    ensures { λ _. ⌜ ((i : ℕ) → i < total (now (sizes .entry)) → getD (now (numbers .exit)) i 0 ≡ partOf (now (sizes .entry)) i) ⌝ }
+{
+    let mut at: usize = 0;
+    for q in 0..sizes.len() {
+        let size = node(sizes[q]);
+        fill(at, size, q as u16, numbers);
+        at += size;
+    }
+}
+
+// The first part at or above `part` that is not before part `to`; no parent where there is none. Parents are later, so it ends. O(parts passed).
+fn climb(parents: &[u16], part: u16, to: u16) -> u16
+    requires { ⌜ Parents (now parents) × (part < length (now parents)) × (to < length (now parents)) ⌝ }
+    ensures { λ r. ⌜ eqb r to ≡ atOrAbove (now (parents .entry)) part to ⌝ }
+{
+    let mut r = part;
+    while r < to {
+        r = parents[node(r)];
+    }
+    r
+}
+
+// Rows of column j by 18's rule: whether one lies outside the column's part and its ancestors (document 01: forefathers). The rows and the chain of ancestors are walked together. O(rows + ancestors).
+pub(crate) fn outside(n: usize, numbers: &[u16], parents: &[u16], j: usize, column: &[u16]) -> bool
+    requires { ⌜ Parents (now parents) × PartNumbers n (now parents) (now numbers) × (j < n) × (badColumn n j (now column) ≡ false) ⌝ }
+    ensures { λ r. ⌜ r ≡ outsideOf (now (numbers .entry)) (now (parents .entry)) j (now (column .entry)) ⌝ }
+{
+    let mut part = numbers[j];
+    for k in 0..column.len() {
+        let to = numbers[node(column[k])];
+        part = climb(parents, part, to);
+        if part != to {
+            return true;
+        }
+    }
+    false
+}
+
+// The first place of a list from k on whose entry is not less than x; its length where every entry is. Those before k are. O(places passed).
+fn advance(entries: &[u16], k: usize, x: usize) -> usize
+    requires { ⌜ (k ≤ length (now entries)) × ((i : ℕ) → i < k → getD (now entries) i 0 < x) ⌝ }
+    ensures { λ r. ⌜ LowerBound (now (entries .entry)) x r ⌝ }
+{
+    let mut at = k;
+    while at < entries.len() {
+        if node(entries[at]) >= x {
+            return at;
+        }
+        at += 1;
+    }
+    at
+}
+
+// Whether an ascending list has all of some ascending numbers: both are walked once. O(both lengths).
+pub(crate) fn contains_all(entries: &[u16], numbers: &[u16]) -> bool
+    requires { ⌜ (ascending (now entries) ≡ true) × (ascending (now numbers) ≡ true) ⌝ }
+    ensures { λ r. ⌜ r ≡ every (λ i. isIn i (now (entries .entry))) (now (numbers .entry)) ⌝ }
+{
+    let mut at: usize = 0;
+    for k in 0..numbers.len() {
+        let x = node(numbers[k]);
+        at = advance(entries, at, x);
+        if at == entries.len() {
+            return false;
+        }
+        if node(entries[at]) != x {
+            return false;
+        }
+    }
+    true
+}

@@ -1,0 +1,172 @@
+// Writing a plan file from lent slices: checks 13 and 15 to 19, then 8, then the bytes.
+use crate::header::D;
+use crate::header::HEADER;
+use crate::header::N;
+use crate::header::P;
+use crate::header::VERSION;
+use crate::header::bad_counts;
+use crate::header::file_length;
+use crate::lent::contents_refusal;
+use coding::write16;
+use coding::write16s;
+use coding::write32;
+use plan::WriteAnswer;
+ghost use mathlib.Core.Path.{_≡_};
+ghost use mathlib.Core.Bool.{false};
+ghost use mathlib.Core.List.{[]};
+ghost use Prim.Native.Nat.{_+_, _*_, _≤_, _<_};
+ghost use lib.ListN.{length};
+ghost use Rattle.plan.specs.Lists.{written};
+ghost use Rattle.plan.specs.Refusals.{firstFault};
+ghost use Rattle.plan.specs.Planning.{rowCounts};
+ghost use Rattle.plan.specs.File.{fileLength, encode, encodeParts, encode16s, badHeader, contentsChecks};
+ghost use Rattle.plan.specs.Writing.{badSupply, Wrote};
+ghost use Rattle.planfile.specs.Supplied.{supplied, countsOnly, orderAndParts, partsAndRows, Exact, Narrow, headerOf, WroteExact};
+
+// Check 13: the counts are out of their limits, or a slice is shorter than its count says. O(1).
+fn bad_supply(
+    n: usize,
+    p: usize,
+    s: usize,
+    order: &[u16],
+    sizes: &[u16],
+    parents: &[u16],
+    columnStarts: &[u32],
+    rows: &[u16],
+) -> bool
+    ensures { λ r. ⌜ r ≡ badSupply (supplied n p s (now (order .entry)) (now (sizes .entry)) (now (parents .entry)) (now (columnStarts .entry)) (now (rows .entry))) ⌝ }
+{
+    if bad_counts(n, p, s) {
+        return true;
+    }
+    if order.len() < n {
+        return true;
+    }
+    if sizes.len() < p {
+        return true;
+    }
+    if parents.len() < p {
+        return true;
+    }
+    if columnStarts.len() <= n {
+        return true;
+    }
+    rows.len() < s
+}
+
+// The mark, the version and the counts. O(1).
+fn write_header(n: usize, p: usize, s: usize, bytes: &mut [u8])
+    requires { ⌜ (badHeader (countsOnly n p s) ≡ false) × (17 ≤ length (now bytes)) ⌝ }
+    ensures { λ _. ⌜ now (bytes .exit) ≡ written (headerOf n p s) (now (bytes .entry)) ⌝ }
+{
+    bytes[0] = N;
+    bytes[1] = D;
+    bytes[2] = P;
+    write16(VERSION, &mut bytes[3..]);
+    write32(n as u32, &mut bytes[5..]);
+    write32(p as u32, &mut bytes[9..]);
+    write32(s as u32, &mut bytes[13..]);
+}
+
+// The size and the parent of each part. O(p).
+fn write_parts(sizes: &[u16], parents: &[u16], bytes: &mut [u8])
+    requires { ⌜ (length (now parents) ≡ length (now sizes)) × (4 * length (now sizes) ≤ length (now bytes)) ⌝ }
+    ensures { λ _. ⌜ now (bytes .exit) ≡ written (encodeParts (orderAndParts 0 [] (now (sizes .entry)) (now (parents .entry)))) (now (bytes .entry)) ⌝ }
+{
+    for q in 0..sizes.len() {
+        let at = 4 * q;
+        let behind = at + 2;
+        write16(sizes[q], &mut bytes[at..]);
+        write16(parents[q], &mut bytes[behind..]);
+    }
+}
+
+// The row count of each column. O(n).
+fn write_counts(n: usize, columnStarts: &[u32], bytes: &mut [u8])
+    requires { ⌜ (length (now columnStarts) ≡ n + 1) × Narrow n (now columnStarts) × (2 * n ≤ length (now bytes)) ⌝ }
+    ensures { λ _. ⌜ now (bytes .exit) ≡ written (encode16s (rowCounts (partsAndRows n [] [] (now (columnStarts .entry)) []))) (now (bytes .entry)) ⌝ }
+{
+    for j in 0..n {
+        let at = 2 * j;
+        let count = columnStarts[j + 1] - columnStarts[j];
+        write16(count as u16, &mut bytes[at..]);
+    }
+}
+
+// The bytes of a plan that passed its checks. O(n + slots).
+fn write_plan(
+    n: usize,
+    order: &[u16],
+    sizes: &[u16],
+    parents: &[u16],
+    columnStarts: &[u32],
+    rows: &[u16],
+    bytes: &mut [u8],
+)
+    requires { ⌜ Exact (supplied n (length (now sizes)) (length (now rows)) (now order) (now sizes) (now parents) (now columnStarts) (now rows)) × Narrow n (now columnStarts) ⌝ }
+    requires { ⌜ fileLength (supplied n (length (now sizes)) (length (now rows)) (now order) (now sizes) (now parents) (now columnStarts) (now rows)) ≤ length (now bytes) ⌝ }
+    ensures { λ _. ⌜ now (bytes .exit) ≡ written (encode (supplied n (length (now (sizes .entry))) (length (now (rows .entry))) (now (order .entry)) (now (sizes .entry)) (now (parents .entry)) (now (columnStarts .entry)) (now (rows .entry)))) (now (bytes .entry)) ⌝ }
+{
+    let partsAt = HEADER + 2 * n;
+    let countsAt = partsAt + 4 * sizes.len();
+    let rowsAt = countsAt + 2 * n;
+    write_header(n, sizes.len(), rows.len(), bytes);
+    write16s(order, &mut bytes[HEADER..]);
+    write_parts(sizes, parents, &mut bytes[partsAt..]);
+    write_counts(n, columnStarts, &mut bytes[countsAt..]);
+    write16s(rows, &mut bytes[rowsAt..]);
+}
+
+// Writing from slices as long as their counts say: checks 15 to 19, then 8. O(4,096 + slots + ancestors and first rows' columns).
+fn write_exact(
+    n: usize,
+    order: &[u16],
+    sizes: &[u16],
+    parents: &[u16],
+    columnStarts: &[u32],
+    rows: &[u16],
+    bytes: &mut [u8],
+) -> WriteAnswer
+    requires { ⌜ Exact (supplied n (length (now sizes)) (length (now rows)) (now order) (now sizes) (now parents) (now columnStarts) (now rows)) ⌝ }
+    ensures { λ r. ⌜ WroteExact (supplied n (length (now (sizes .entry))) (length (now (rows .entry))) (now (order .entry)) (now (sizes .entry)) (now (parents .entry)) (now (columnStarts .entry)) (now (rows .entry))) r (now (bytes .entry)) (now (bytes .exit)) ⌝ }
+{
+    let fault = contents_refusal(n, order, sizes, parents, columnStarts, rows);
+    if fault != 0 {
+        return WriteAnswer::Refused(fault);
+    }
+    let length = file_length(n, sizes.len(), rows.len());
+    if bytes.len() < length {
+        return WriteAnswer::Refused(8);
+    }
+    write_plan(n, order, sizes, parents, columnStarts, rows, bytes);
+    WriteAnswer::Written(length)
+}
+
+// Writing: checks 13, 15 to 19 and 8 in this order, then the bytes, and the file's length is returned; slices may be longer than their counts say. O(4,096 + slots + ancestors and first rows' columns).
+pub fn write(
+    n: usize,
+    p: usize,
+    s: usize,
+    order: &[u16],
+    sizes: &[u16],
+    parents: &[u16],
+    columnStarts: &[u32],
+    rows: &[u16],
+    bytes: &mut [u8],
+) -> WriteAnswer
+    ensures { λ r. ⌜ Wrote (supplied n p s (now (order .entry)) (now (sizes .entry)) (now (parents .entry)) (now (columnStarts .entry)) (now (rows .entry))) r (now (bytes .entry)) (now (bytes .exit)) ⌝ }
+{
+    if bad_supply(n, p, s, order, sizes, parents, columnStarts, rows) {
+        return WriteAnswer::Refused(13);
+    }
+    let end = n + 1;
+    write_exact(
+        n,
+        &order[..n],
+        &sizes[..p],
+        &parents[..p],
+        &columnStarts[..end],
+        &rows[..s],
+        bytes,
+    )
+}
