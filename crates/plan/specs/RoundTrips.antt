@@ -6,13 +6,18 @@ use mathlib.Core.List.{List, [], _∷_}
 use Prim.Native.Nat.{ℕ, _≤_}
 use lib.Dec.{ltb}
 use lib.ListN.{length, getD, take}
-use Rattle.plan.specs.Lists.{every}
+use Rattle.plan.specs.declared.Plan.{Plan}
+use Rattle.plan.specs.declared.PlanAnswer.{PlanAnswer}
+use Rattle.plan.specs.declared.PlanAnswer.the-variants.{Accepted}
+use Rattle.plan.specs.declared.WriteAnswer.{WriteAnswer}
+use Rattle.plan.specs.declared.WriteAnswer.the-variants.{Written}
+use Rattle.plan.specs.Lists.{every, written}
 use Rattle.plan.specs.Answers.{accepted}
 use Rattle.plan.specs.Mesh.{Mesh}
-use Rattle.plan.specs.Planning.{Contents, Capacity, buffersTooShort, rowsTooShort, Outcome, handOut, planning}
+use Rattle.plan.specs.Planning.{Contents, Buffers, Capacity, capacity, buffersTooShort, rowsTooShort, Outcome, handOut, Filled, planning}
 use Rattle.plan.specs.File.{decode16, magic, version, fileLength, encode, parse, badHeader, badOrder, badParts, badRows, notNested, notCovered}
 use Rattle.plan.specs.Reading.{reading}
-use Rattle.plan.specs.Writing.{used, WriteOutcome, writing}
+use Rattle.plan.specs.Writing.{used, WriteOutcome, writing, Wrote}
 
 -- the plan that an outcome hands out
 unfoldable pub handed : Outcome → Contents
@@ -59,6 +64,37 @@ PlannedThenRead =
     (m : Mesh) (room : Capacity) (c : Contents) (output : ℕ)
     → planning m room .reply .number ≡ 0 → used c ≡ handed (planning m room) → fileLength c ≤ output
     → reading (writing c output .bytes) room ≡ planning m room
+
+-- The round trips again, of the promises: so they hold of every writer and reader that keep them.
+
+-- What was written, read into buffers that are long enough, is what is handed out of the used entries.
+abbrev pub WroteThenFilled : Type 0
+WroteThenFilled =
+    (c : Contents) (size : ℕ) (found bytes : List ℕ) (answer : PlanAnswer) (lent left : Buffers)
+    → Wrote c (Written size) found bytes → buffersTooShort (c .nodes) (capacity lent) ≡ false → rowsTooShort c (capacity lent) ≡ false
+    → Filled (reading (take size bytes) (capacity lent)) answer lent left
+    → Filled (handOut 0 (used c)) answer lent left
+
+-- a plan as a caller lends it to the writer: its counts, and buffers that may be longer
+abbrev pub lentBack : Plan → Buffers → Contents
+lentBack p b = record {
+  nodes = p .nodes;
+  parts = p .parts;
+  slots = p .slots;
+  order = b .order;
+  sizes = b .sizes;
+  parents = b .parents;
+  columnStarts = b .columnStarts;
+  rows = b .rows;
+}
+
+-- What was read, written from the same buffers into an output that has room, is the bytes that were read.
+abbrev pub FilledThenWrote : Type 0
+FilledThenWrote =
+    (bytes found after : List ℕ) (p : Plan) (lent left : Buffers) (answer : WriteAnswer)
+    → every (λ b. ltb b 256) bytes ≡ true → Filled (reading bytes (capacity lent)) (Accepted p) lent left → length bytes ≤ length found
+    → Wrote (lentBack p left) answer found after
+    → (answer ≡ Written (length bytes)) × (after ≡ written bytes found)
 
 -- Every other version is refused as such, with 12, whatever the bytes hold after the mark.
 abbrev pub OtherVersions : Type 0

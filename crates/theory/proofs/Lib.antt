@@ -48,3 +48,4 @@ pub mod RoundTrips
 pub mod Steps
 pub mod StepStates
 pub mod Decimal
+pub mod Promises

@@ -1,0 +1,97 @@
+-- The round trips of the promises: of every writer that keeps Wrote, and every reader that keeps Filled.
+use mathlib.Core.Path.{_≡_, sym, ap, subst, _∙_}
+use mathlib.Core.List.{List, [], _∷_}
+use Prim.Native.Nat.{ℕ, zero, suc, _+_}
+use native.Mathlib.Omega.{arith}
+use lib.ListN.{length, getD, take}
+use Rattle.plan.specs.declared.Plan.{Plan}
+use Rattle.plan.specs.declared.PlanAnswer.the-variants.{Accepted}
+use Rattle.plan.specs.declared.WriteAnswer.{WriteAnswer}
+use Rattle.plan.specs.declared.WriteAnswer.the-variants.{Written, Refused}
+use Rattle.plan.specs.Lists.{written}
+use Rattle.plan.specs.Refusals.{firstFault}
+use Rattle.plan.specs.Answers.{Reply, accepted, planReply, writeReply}
+use Rattle.plan.specs.Planning.{Contents, Buffers, Capacity, capacity, Outcome, handOut, fill, Filled}
+use Rattle.plan.specs.File.{fileLength, parse}
+use Rattle.plan.specs.Reading.{readChecks, reading}
+use Rattle.plan.specs.Writing.{used, writeChecks, WriteOutcome, writeOut, writing}
+use Rattle.plan.specs.RoundTrips.{acceptedWriting, lentBack, WroteThenFilled, FilledThenWrote}
+use Rattle.theory.proofs.Written.{front-written}
+use Rattle.theory.proofs.FileFields.{Whole, encode-length}
+use Rattle.theory.proofs.Fitting.{good-rows}
+use Rattle.theory.proofs.Planned.{hand-number}
+use Rattle.theory.proofs.RoundTrips.{write-says, read-says, read-whole, handed-read, written-then-read, read-then-written}
+
+-- ---- what was written, then read
+
+-- the size that an accepted writing shows is the file's length
+shown-size : (k : ℕ) (c : Contents) (size : ℕ) → writeReply (Written size) ≡ writeOut k c .reply → size ≡ fileLength c
+unfolding writeOut
+shown-size zero c size e = ap (λ (r : Reply). getD (r .values) 0 0) e
+shown-size (suc k) c size e = absurd (omega (arith, ap (λ (r : Reply). r .number) e))
+
+-- and it writes so many bytes
+written-size : (c : Contents) (output size : ℕ) → writeReply (Written size) ≡ writing c output .reply → length (writing c output .bytes) ≡ size
+written-size c output size e =
+    let w = write-says c output (sym (ap (λ (r : Reply). r .number) e)) in
+    let shown : size ≡ fileLength (used c) = unfold writing used fileLength in shown-size (firstFault (writeChecks c output)) c size e in
+    ap length (w .2) ∙ encode-length (used c) (w .1) ∙ sym shown
+
+-- What was written, then read: the used entries are handed out.
+pub wrote-then-filled : WroteThenFilled
+wrote-then-filled c size found bytes answer lent left wrote eight nine filled =
+    let output : ℕ = length found in
+    let front : take size bytes ≡ writing c output .bytes =
+    front-written size (writing c output .bytes) found bytes (wrote .output) (written-size c output size (wrote .reply)) in
+    let back : reading (writing c output .bytes) (capacity lent) ≡ handOut 0 (used c) =
+    written-then-read c output (capacity lent) (sym (ap (λ (r : Reply). r .number) (wrote .reply))) eight nine in
+    subst (λ (o : Outcome). Filled o answer lent left) (ap (λ (l : List ℕ). reading l (capacity lent)) front ∙ back) filled
+
+-- ---- what was read, then written
+
+-- the used entries of buffers that a plan was handed out to, with the counts that were answered, are the plan
+filled-used : (c : Contents) (p : Plan) (lent left : Buffers) → Whole c → length (c .columnStarts) ≡ c .nodes + 1 → Filled (handOut 0 c) (Accepted p) lent left
+    → used (lentBack p left) ≡ c
+unfolding used handOut fill
+filled-used c p lent left whole starts h =
+    let value : (k : ℕ) → getD (planReply (Accepted p) .values) k 0 ≡ getD (handOut 0 c .reply .values) k 0 = λ k. ap (λ (r : Reply). getD (r .values) k 0) (h .reply) in
+    let nodes : p .nodes ≡ c .nodes = value 0 in
+    let parts : p .parts ≡ c .parts = value 1 in
+    let slots : p .slots ≡ c .slots = value 2 in
+    rw (
+      nodes,
+      parts,
+      slots,
+      front-written (c .nodes) (c .order) (lent .order) (left .order) (h .order) (whole .order),
+      front-written (c .parts) (c .sizes) (lent .sizes) (left .sizes) (h .sizes) (whole .sizes),
+      front-written (c .parts) (c .parents) (lent .parents) (left .parents) (h .parents) (whole .parents),
+      front-written (c .nodes + 1) (c .columnStarts) (lent .columnStarts) (left .columnStarts) (h .columnStarts) starts,
+      front-written (c .slots) (c .rows) (lent .rows) (left .rows) (h .rows) (whole .rows),
+    )
+
+-- an accepted reading, by the plan that is read
+reading-accepted : (bytes : List ℕ) (room : Capacity) → reading bytes room .reply .number ≡ 0 → reading bytes room ≡ handOut 0 (parse bytes)
+unfolding reading
+reading-accepted bytes room h =
+    ap (λ (k : ℕ). handOut k (parse bytes)) (sym (hand-number (firstFault (readChecks bytes room)) (parse bytes)) ∙ h)
+
+-- the answer of a writing that shows a size
+size-answer : (answer : WriteAnswer) (size : ℕ) → writeReply answer ≡ accepted (size ∷ []) → answer ≡ Written size
+size-answer (Written n) size e = ap (λ (r : Reply). Written (getD (r .values) 0 0)) e
+size-answer (Refused k) size e = absurd (omega (arith, ap (λ (r : Reply). length (r .values)) e))
+
+-- What was read, then written: the bytes.
+pub filled-then-wrote : FilledThenWrote
+filled-then-wrote bytes found after p lent left answer small filled fits wrote =
+    let room : Capacity = capacity lent in
+    let c : Contents = lentBack p left in
+    let h : reading bytes room .reply .number ≡ 0 = sym (ap (λ (r : Reply). r .number) (filled .reply)) in
+    let handed-out : Filled (handOut 0 (parse bytes)) (Accepted p) lent left =
+    subst (λ (o : Outcome). Filled o (Accepted p) lent left) (reading-accepted bytes room h) filled in
+    let e : used c ≡ parse bytes =
+    filled-used (parse bytes) p lent left (read-whole bytes) (good-rows (parse bytes) (read-says bytes room h .sound .rows) .starts .many) handed-out in
+    let w : writing c (length found) ≡ acceptedWriting bytes =
+    read-then-written bytes room c (length found) small h (e ∙ sym (handed-read bytes room h)) fits in (
+      size-answer answer (length bytes) (wrote .reply ∙ ap (λ (o : WriteOutcome). o .reply) w),
+      wrote .output ∙ ap (λ (o : WriteOutcome). written (o .bytes) found) w,
+    )
