@@ -35,7 +35,7 @@ pub fn read32(bytes: &[u8], at: usize) -> u32
     wide(read16(bytes, at)) + 65536 * wide(read16(bytes, at + 2))
 }
 
-// Some numbers of 16 bits to the front of a buffer: the first stands at byte `at`, each `apart` bytes after the one before. O(count).
+// Some numbers of 16 bits to the front of a buffer: the first stands at byte `at`, each `apart` bytes after the one before, and the last one's two bytes end within the bytes. O(count).
 pub fn read16s(bytes: &[u8], at: usize, apart: usize, count: usize, numbers: &mut [u16])
     requires { ⌜ (2 ≤ apart) × (at + apart * count ≤ length (now bytes) + (apart - 2)) × (count ≤ length (now numbers)) ⌝ }
     ensures { λ _. ⌜ now (numbers .exit) ≡ written (decode16s (now (bytes .entry)) at apart count) (now (numbers .entry)) ⌝ }
@@ -45,7 +45,7 @@ pub fn read16s(bytes: &[u8], at: usize, apart: usize, count: usize, numbers: &mu
     }
 }
 
-// A number of 16 bits. O(1).
+// A number of 16 bits to the front of the bytes. O(1).
 pub fn write16(x: u16, bytes: &mut [u8])
     requires { ⌜ 2 ≤ length (now bytes) ⌝ }
     ensures { λ _. ⌜ now (bytes .exit) ≡ written (encode16 x) (now (bytes .entry)) ⌝ }
@@ -54,7 +54,7 @@ pub fn write16(x: u16, bytes: &mut [u8])
     bytes[1] = (x / 256 % 256) as u8;
 }
 
-// A number of 32 bits. O(1).
+// A number of 32 bits to the front of the bytes. O(1).
 pub fn write32(x: u32, bytes: &mut [u8])
     requires { ⌜ 4 ≤ length (now bytes) ⌝ }
     ensures { λ _. ⌜ now (bytes .exit) ≡ written (encode32 x) (now (bytes .entry)) ⌝ }
@@ -63,7 +63,7 @@ pub fn write32(x: u32, bytes: &mut [u8])
     write16((x / 65536) as u16, &mut bytes[2..]);
 }
 
-// Some numbers of 16 bits, one after the other. O(length).
+// Some numbers of 16 bits to the front of the bytes, one after the other. O(length).
 pub fn write16s(numbers: &[u16], bytes: &mut [u8])
     requires { ⌜ 2 * length (now numbers) ≤ length (now bytes) ⌝ }
     ensures { λ _. ⌜ now (bytes .exit) ≡ written (encode16s (now (numbers .entry))) (now (bytes .entry)) ⌝ }

@@ -53,7 +53,7 @@ pub fn bad_column(n: usize, j: usize, column: &[u16]) -> bool
     false
 }
 
-// Whether some column breaks it. O(n + slots).
+// Whether some column breaks 17's rule. O(n + slots).
 pub fn bad_columns(n: usize, columnStarts: &[u32], rows: &[u16]) -> bool
     requires { ⌜ (badStarts n (now columnStarts) ≡ false) × (getD (now columnStarts) n 0 ≤ length (now rows)) ⌝ }
     ensures { λ r. ⌜ r ≡ badColumns n (now (columnStarts .entry)) (now (rows .entry)) ⌝ }

@@ -1,4 +1,4 @@
--- What the functions' contracts cite besides the book: a mesh of its lent parts, lists that lie within their entries, and the place of a number in an ascending list.
+-- What the functions' contracts cite besides the book: a mesh put together from what is lent, lists that lie within their entries, and the place of a number in an ascending list.
 use mathlib.Core.List.{List}
 use Prim.Native.Nat.{ℕ, _+_, _≤_, _<_}
 use lib.ListN.{length, getD}
@@ -14,7 +14,7 @@ pub record ListWithin (starts entries : List ℕ) (v : ℕ) : Type 0 where
   pub ordered : getD starts v 0 ≤ getD starts (v + 1) 0
   pub ended : getD starts (v + 1) 0 ≤ length entries
 
--- in an ascending list, the first place k whose entry is not less than x; the list's length where every entry is
+-- the first place k of a list whose entry is not less than x; the list's length where every entry is less
 pub record LowerBound (entries : List ℕ) (x k : ℕ) : Type 0 where
   pub within : k ≤ length entries
   pub before : (i : ℕ) → i < k → getD entries i 0 < x

@@ -146,7 +146,7 @@ fn not_ascending(n: usize, starts: &[u32], neighbours: &[u16]) -> bool
     false
 }
 
-// The first place of an ascending list whose entry is not less than x, the length where every entry is: by bisection, each entry before `low` is less than x, and none from `high` on is. O(log length).
+// The first place of an ascending list whose entry is not less than x, the list's length where every entry is less: by bisection, each entry before `low` is less than x, and none from `high` on is. O(log length).
 pub fn lower_bound(entries: &[u16], x: usize) -> usize
     requires { ⌜ ascending (now entries) ≡ true ⌝ }
     ensures { λ r. ⌜ LowerBound (now (entries .entry)) x r ⌝ }

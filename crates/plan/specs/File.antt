@@ -108,7 +108,7 @@ badParts c =
     isIn 0 (c .sizes) || not (eqb (total (c .sizes)) (c .nodes))
     || exists (λ q. not (mayBeParent (c .parts) q (getD (c .parents) q 0))) (below (c .parts))
 
--- rows r of column j by 17's rule: "a column's rows are not strictly ascending, above the column and below n"
+-- whether rows r of column j break 17's rule: "a column's rows are not strictly ascending, above the column and below n"
 unfoldable pub badColumn : ℕ → ℕ → List ℕ → Bool
 badColumn n j r = not (ascending r && every (λ i. ltb j i && ltb i n) r)
 
@@ -122,7 +122,7 @@ badRows c =
     badStarts (c .nodes) (c .columnStarts) || not (eqb (getD (c .columnStarts) (c .nodes) 0) (c .slots))
     || badColumns (c .nodes) (c .columnStarts) (c .rows)
 
--- rows r of column j by 18's rule
+-- whether rows r of column j break 18's rule
 unfoldable pub outsideAncestors : List ℕ → List ℕ → ℕ → List ℕ → Bool
 outsideAncestors sizes parents j r = exists (λ i. not (atOrAbove parents (partOf sizes j) (partOf sizes i))) r
 
@@ -130,7 +130,7 @@ outsideAncestors sizes parents j r = exists (λ i. not (atOrAbove parents (partO
 unfoldable pub notNested : Contents → Bool
 notNested c = exists (λ j. outsideAncestors (c .sizes) (c .parents) j (listAt (c .columnStarts) (c .rows) j)) (below (c .nodes))
 
--- rows of a column by 19's rule: whether those after the first are all in the first row's column
+-- whether rows of a column keep 19's rule: those after the first are all in the first row's column
 unfoldable pub covered : List ℕ → List ℕ → List ℕ → Bool
 covered columnStarts rows [] = true
 covered columnStarts rows (first ∷ others) = every (λ i. isIn i (listAt columnStarts rows first)) others

@@ -27,6 +27,11 @@ pub record Contents : Type 0 where
   pub columnStarts : List ℕ
   pub rows : List ℕ
 
+-- a plan put together from its counts and lists
+abbrev pub contents : ℕ → ℕ → ℕ → List ℕ → List ℕ → List ℕ → List ℕ → List ℕ → Contents
+contents n p s order sizes parents columnStarts rows =
+    record { nodes = n; parts = p; slots = s; order = order; sizes = sizes; parents = parents; columnStarts = columnStarts; rows = rows }
+
 -- the row counts of the columns
 unfoldable pub rowCounts : Contents → List ℕ
 rowCounts c = map (λ j. getD (c .columnStarts) (j + 1) 0 - getD (c .columnStarts) j 0) (below (c .nodes))
@@ -68,7 +73,7 @@ pub record Capacity : Type 0 where
   pub columnStarts : ℕ
   pub rows : ℕ
 
--- both from their six parts
+-- a record of each kind from its six fields
 abbrev pub buffers : List ℕ → List ℕ → List ℕ → List ℕ → List ℕ → List ℕ → Buffers
 buffers order positions sizes parents columnStarts rows =
     record { order = order; positions = positions; sizes = sizes; parents = parents; columnStarts = columnStarts; rows = rows }

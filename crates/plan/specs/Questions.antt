@@ -4,6 +4,7 @@ use mathlib.Core.List.{List, [], _∷_, _++_}
 use Prim.Native.Nat.{ℕ, zero, suc, _+_, _-_, min, max}
 use lib.Dec.{leb, ltb, eqb}
 use lib.ListN.{length, getD, take, drop}
+use Rattle.plan.specs.declared.Span.{Span}
 use Rattle.plan.specs.Lists.{exists, isIn, indexOf, listAt}
 use Rattle.plan.specs.Refusals.{Checks, firstFault}
 use Rattle.plan.specs.Answers.{Reply, accepted, refused, slotCase, diagonalCase, noSlotCase}
@@ -49,11 +50,6 @@ pairQuestion n columnStarts rows a b =
 -- the companion question: "gives the number (0 if none)"
 unfoldable pub columnRefusal : ℕ → List ℕ → List ℕ → ℕ → ℕ
 columnRefusal n columnStarts rows j = firstFault (questionChecks n columnStarts rows (j ∷ []))
-
--- a stretch of the rows buffer: where it starts, and how many rows it has
-pub record Span : Type 0 where
-  pub start : ℕ
-  pub count : ℕ
 
 -- by the number of the first fault: "a column's rows are shown as a stretch of the rows buffer itself. Where the second question is refused, the stretch is empty"
 unfoldable pub spanFound : ℕ → List ℕ → ℕ → Span

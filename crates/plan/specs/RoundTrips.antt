@@ -1,4 +1,4 @@
--- The user's demand 2 (docs/GUIDE.md), the round trips, as statements: "A written plan, once read, is the same plan; a plan that was read is written back byte for byte." And what a workshop may rely on: of demand 1, "a plan of an unknown version is refused as such", and the checks that every plan has passed that is read.
+-- The user's demand 2 (docs/GUIDE.md), the round trips, as statements: "A written plan, once read, is the same plan; a plan that was read is written back byte for byte." And what a workshop may rely on: of demand 1, "a plan of an unknown version is refused as such", and the checks that every plan that is read has passed.
 use mathlib.Core.Bool.{true, false}
 use mathlib.Core.Path.{_≡_}
 use mathlib.Core.Logic.{_≢_}
@@ -14,7 +14,7 @@ use Rattle.plan.specs.declared.WriteAnswer.the-variants.{Written}
 use Rattle.plan.specs.Lists.{every, written}
 use Rattle.plan.specs.Answers.{accepted}
 use Rattle.plan.specs.Mesh.{Mesh}
-use Rattle.plan.specs.Planning.{Contents, Buffers, Capacity, capacity, buffersTooShort, rowsTooShort, Outcome, handOut, Filled, planning}
+use Rattle.plan.specs.Planning.{Contents, contents, Buffers, Capacity, capacity, buffersTooShort, rowsTooShort, Outcome, handOut, Filled, planOf, planning}
 use Rattle.plan.specs.File.{decode16, magic, version, fileLength, encode, parse, badHeader, badOrder, badParts, badRows, notNested, notCovered}
 use Rattle.plan.specs.Reading.{reading}
 use Rattle.plan.specs.Writing.{used, WriteOutcome, writing, Wrote}
@@ -35,6 +35,13 @@ handed o = record {
 -- an accepted writing of these bytes
 abbrev pub acceptedWriting : List ℕ → WriteOutcome
 acceptedWriting bytes = record { reply = accepted (length bytes ∷ []); bytes = bytes }
+
+-- An accepted writing: its bytes are the file of the used entries, the length returned is theirs, and they fit the output.
+abbrev pub WrittenIsFile : Type 0
+WrittenIsFile =
+    (c : Contents) (output : ℕ)
+    → writing c output .reply .number ≡ 0
+    → (writing c output ≡ acceptedWriting (encode (used c))) × (length (encode (used c)) ≤ output)
 
 -- Written, then read: an accepted writing, read into buffers that are long enough, hands out exactly the used entries.
 abbrev pub WrittenThenRead : Type 0
@@ -58,7 +65,7 @@ PlannedIsWritable =
     → planning m room .reply .number ≡ 0 → used c ≡ handed (planning m room) → fileLength c ≤ output
     → writing c output ≡ acceptedWriting (encode (used c))
 
--- Planned, written, then read: into buffers as long as planning's, it is the same outcome.
+-- What was planned and written, read into buffers as long as planning's, gives planning's outcome again.
 abbrev pub PlannedThenRead : Type 0
 PlannedThenRead =
     (m : Mesh) (room : Capacity) (c : Contents) (output : ℕ)
@@ -77,16 +84,7 @@ WroteThenFilled =
 
 -- a plan as a caller lends it to the writer: its counts, and buffers that may be longer
 abbrev pub lentBack : Plan → Buffers → Contents
-lentBack p b = record {
-  nodes = p .nodes;
-  parts = p .parts;
-  slots = p .slots;
-  order = b .order;
-  sizes = b .sizes;
-  parents = b .parents;
-  columnStarts = b .columnStarts;
-  rows = b .rows;
-}
+lentBack p b = contents (p .nodes) (p .parts) (p .slots) (b .order) (b .sizes) (b .parents) (b .columnStarts) (b .rows)
 
 -- What was read, written from the same buffers into an output that has room, is the bytes that were read.
 abbrev pub FilledThenWrote : Type 0
@@ -96,6 +94,14 @@ FilledThenWrote =
     → Wrote (lentBack p left) answer found after
     → (answer ≡ Written (length bytes)) × (after ≡ written bytes found)
 
+-- What was planned, written from the same buffers into an output that has room, is the file of the mesh's plan.
+abbrev pub PlannedThenWrote : Type 0
+PlannedThenWrote =
+    (m : Mesh) (found after : List ℕ) (p : Plan) (lent left : Buffers) (answer : WriteAnswer)
+    → Filled (planning m (capacity lent)) (Accepted p) lent left → fileLength (planOf m) ≤ length found
+    → Wrote (lentBack p left) answer found after
+    → (answer ≡ Written (fileLength (planOf m))) × (after ≡ written (encode (planOf m)) found)
+
 -- Every other version is refused as such, with 12, whatever the bytes hold after the mark.
 abbrev pub OtherVersions : Type 0
 OtherVersions =
@@ -103,8 +109,11 @@ OtherVersions =
     → 17 ≤ length bytes → take 3 bytes ≡ magic → decode16 bytes 3 ≢ version
     → reading bytes room ≡ handOut 12 (parse bytes)
 
--- a plan without a fault of 13 or 15 to 19
+-- a plan without a fault of 13 or 15 to 19, each list as long as its count says (15 and 17 say it of the order and the column starts)
 pub record Sound (c : Contents) : Type 0 where
+  pub sizesMany : length (c .sizes) ≡ c .parts
+  pub parentsMany : length (c .parents) ≡ c .parts
+  pub rowsMany : length (c .rows) ≡ c .slots
   pub header : badHeader c ≡ false
   pub order : badOrder c ≡ false
   pub parts : badParts c ≡ false

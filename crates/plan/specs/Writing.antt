@@ -18,7 +18,7 @@ badSupply c =
     badHeader c || ltb (length (c .order)) (c .nodes) || ltb (length (c .sizes)) (c .parts) || ltb (length (c .parents)) (c .parts)
     || ltb (length (c .columnStarts)) (c .nodes + 1) || ltb (length (c .rows)) (c .slots)
 
--- the entries that count, of slices that may be longer
+-- as many entries of each slice as its count says; the slices may be longer
 unfoldable pub used : Contents → Contents
 used c = record {
   nodes = c .nodes;

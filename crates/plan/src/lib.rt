@@ -70,6 +70,12 @@ pub enum PairAnswer {
     Refused(u32),
 }
 
+// A stretch of the rows buffer, the answer to the question about a column: where it starts, and how many rows it has.
+pub struct Span {
+    pub start: usize,
+    pub count: usize,
+}
+
 // The family of a refusal's number.
 pub enum RefusalFamily {
     Mesh,

@@ -1,4 +1,4 @@
--- What the functions' contracts cite besides the book: a plan of its parts, checks 15 and 16 by themselves, and what is known of a plan once they are passed.
+-- What the functions' contracts cite besides the book: plans of some of their lists, checks 15 and 16 by themselves, and what is known of a plan once they are passed.
 use mathlib.Core.Path.{_≡_}
 use mathlib.Core.Bool.{Bool, true, false, not}
 use mathlib.Core.List.{List, [], _∷_, _++_, flatten}
@@ -20,18 +20,18 @@ abbrev pub supplied : ℕ → ℕ → ℕ → List ℕ → List ℕ → List ℕ
 supplied n p s order sizes parents columnStarts rows =
     record { nodes = n; parts = p; slots = s; order = order; sizes = sizes; parents = parents; columnStarts = columnStarts; rows = rows }
 
--- of its three counts alone: what check 13 looks at
+-- a plan of its three counts alone: what check 13 looks at
 abbrev pub countsOnly : ℕ → ℕ → ℕ → Contents
 countsOnly n p s = supplied n p s [] [] [] [] []
 
--- of its order and its tree of parts: what checks 15 and 16 look at
+-- a plan of its order and its tree of parts: what checks 15 and 16 look at
 abbrev pub orderAndParts : ℕ → List ℕ → List ℕ → List ℕ → Contents
 orderAndParts n order sizes parents = supplied n (length sizes) 0 order sizes parents [] []
 
 abbrev pub orderChecks : Contents → Checks
 orderChecks c = (15, badOrder c) ∷ (16, badParts c) ∷ []
 
--- of its tree of parts and its layout: what checks 17 to 19 look at
+-- a plan of its tree of parts and its layout: what checks 17 to 19 look at
 abbrev pub partsAndRows : ℕ → List ℕ → List ℕ → List ℕ → List ℕ → Contents
 partsAndRows n sizes parents columnStarts rows = supplied n (length sizes) (length rows) [] sizes parents columnStarts rows
 
@@ -55,13 +55,13 @@ pub record Parents (parents : List ℕ) : Type 0 where
   pub few : length parents ≤ 4096
   pub good : (q : ℕ) → q < length parents → mayBeParent (length parents) q (getD parents q 0) ≡ true
 
--- in place i the part of position i, for n positions: later positions lie in no earlier parts
+-- numbers that may be the parts of n positions: each is a part, and a later position has no earlier one
 pub record PartNumbers (n : ℕ) (parents numbers : List ℕ) : Type 0 where
   pub long : n ≤ length numbers
   pub inside : (i : ℕ) → i < n → getD numbers i 0 < length parents
   pub rising : (i k : ℕ) → i ≤ k → k < n → getD numbers i 0 ≤ getD numbers k 0
 
--- rows of column j by 18's rule, where the part of position i stands in place i of a list
+-- whether rows of column j break 18's rule, where the part of position i stands in place i of a list
 abbrev pub outside : List ℕ → List ℕ → ℕ → List ℕ → Bool
 outside numbers parents j r = exists (λ i. not (atOrAbove parents (getD numbers j 0) (getD numbers i 0))) r
 

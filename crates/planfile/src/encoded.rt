@@ -26,7 +26,7 @@ fn count(columnStarts: &[u32], j: usize) -> usize
     e - a
 }
 
-// Column j's rows to the front of a buffer; their number is returned. O(rows).
+// Column j's rows to the front of a buffer; their number is returned. n is for the contract alone. O(rows).
 fn load(n: usize, columnStarts: &[u32], bytes: &[u8], j: usize, column: &mut [u16]) -> usize
     requires { ⌜ Started n (now columnStarts) (rowsIn (now bytes)) × (j < n) × (length (listAt (now columnStarts) (rowsIn (now bytes)) j) ≤ length (now column)) ⌝ }
     ensures { λ r. ⌜ (r ≡ length (listAt (now (columnStarts .entry)) (rowsIn (now (bytes .entry))) j)) × (take r (now (column .exit)) ≡ listAt (now (columnStarts .entry)) (rowsIn (now (bytes .entry))) j) ⌝ }
@@ -37,7 +37,7 @@ fn load(n: usize, columnStarts: &[u32], bytes: &[u8], j: usize, column: &mut [u1
     k
 }
 
-// Column j by 17's rule. A column of n rows or more cannot keep it. O(rows).
+// Whether column j breaks 17's rule; a column of n rows or more does. O(rows).
 fn bad_column_at(n: usize, columnStarts: &[u32], bytes: &[u8], j: usize, column: &mut [u16]) -> bool
     requires { ⌜ Started n (now columnStarts) (rowsIn (now bytes)) × (j < n) × (n ≤ length (now column)) ⌝ }
     ensures { λ r. ⌜ r ≡ badColumnOf n j (listAt (now (columnStarts .entry)) (rowsIn (now (bytes .entry))) j) ⌝ }
@@ -63,7 +63,7 @@ pub(crate) fn bad_columns(n: usize, columnStarts: &[u32], bytes: &[u8]) -> bool
     false
 }
 
-// Column j by 18's rule. O(rows + ancestors).
+// Whether column j breaks 18's rule. O(rows + ancestors).
 fn outside_at(
     n: usize,
     numbers: &[u16],
@@ -103,7 +103,7 @@ pub(crate) fn not_nested(
     false
 }
 
-// Column j by 19's rule. O(both columns).
+// Whether column j keeps 19's rule. O(both columns).
 fn covered_at(
     n: usize,
     columnStarts: &[u32],

@@ -34,7 +34,7 @@ fn bad_rows(n: usize, columnStarts: &[u32], rows: &[u16]) -> bool
     bad_columns(n, columnStarts, rows)
 }
 
-// Check 18: a row lies outside its column's part and that part's ancestors. O(n + slots + the ancestors of each column's part).
+// Check 18: a row lies outside its column's part and that part's ancestors. O(4,096 + slots + the ancestors of each column's part).
 fn not_nested(n: usize, sizes: &[u16], parents: &[u16], columnStarts: &[u32], rows: &[u16]) -> bool
     requires { ⌜ Parted n (now sizes) (now parents) × LaidOut n (now columnStarts) (now rows) ⌝ }
     ensures { λ r. ⌜ r ≡ notNested (partsAndRows n (now (sizes .entry)) (now (parents .entry)) (now (columnStarts .entry)) (now (rows .entry))) ⌝ }
@@ -49,7 +49,7 @@ fn not_nested(n: usize, sizes: &[u16], parents: &[u16], columnStarts: &[u32], ro
     false
 }
 
-// Column j by 19's rule: whether its rows after the first are all in the first row's column. O(both columns).
+// Whether column j keeps 19's rule: its rows after the first are all in the first row's column. n is for the contract alone. O(both columns).
 fn column_covered(n: usize, columnStarts: &[u32], rows: &[u16], j: usize) -> bool
     requires { ⌜ LaidOut n (now columnStarts) (now rows) × (j < n) ⌝ }
     ensures { λ r. ⌜ r ≡ covered (now (columnStarts .entry)) (now (rows .entry)) (listAt (now (columnStarts .entry)) (now (rows .entry)) j) ⌝ }
@@ -75,7 +75,7 @@ fn not_covered(n: usize, columnStarts: &[u32], rows: &[u16]) -> bool
     false
 }
 
-// The first refusal of checks 15 to 19, 0 for none. O(4,096 + slots + ancestors and first rows' columns).
+// The first refusal of checks 15 to 19, 0 for none. O(4,096 + slots + the ancestors of each column's part + the first rows' columns).
 pub(crate) fn contents_refusal(
     n: usize,
     order: &[u16],

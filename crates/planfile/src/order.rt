@@ -63,7 +63,7 @@ fn may_be_parent(p: usize, q: usize, r: u16) -> bool
     node(r) < p
 }
 
-// Whether some parent may not be. O(p).
+// Whether some part's parent is neither none nor a later part. O(p).
 fn bad_parents(parents: &[u16]) -> bool
     ensures { λ r. ⌜ r ≡ exists (λ q. not (mayBeParent (length (now (parents .entry))) q (getD (now (parents .entry)) q 0))) (below (length (now (parents .entry)))) ⌝ }
 {
@@ -75,7 +75,7 @@ fn bad_parents(parents: &[u16]) -> bool
     false
 }
 
-// Check 16: a size is 0, the sizes do not sum to n, or a parent may not be. O(p).
+// Check 16: a size is 0, the sizes do not sum to n, or a part's parent is neither none nor a later part. O(p).
 fn bad_parts(n: usize, sizes: &[u16], parents: &[u16]) -> bool
     requires { ⌜ (length (now sizes) ≤ 4096) × (length (now parents) ≡ length (now sizes)) ⌝ }
     ensures { λ r. ⌜ r ≡ badParts (orderAndParts n [] (now (sizes .entry)) (now (parents .entry))) ⌝ }

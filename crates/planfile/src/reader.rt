@@ -33,7 +33,7 @@ fn no_starts() -> [u32; 4097]
     [0; 4097]
 }
 
-// The first refusal of checks 15 to 19, 0 for none; order, sizes, parents and column starts are those of the file. O(4,096 + slots + ancestors and first rows' columns).
+// The first refusal of checks 15 to 19, 0 for none; order, sizes, parents and column starts are those of the file. O(4,096 + slots + the ancestors of each column's part + the first rows' columns).
 fn contents_refusal(
     bytes: &[u8],
     n: usize,
@@ -69,7 +69,7 @@ fn contents_refusal(
     0
 }
 
-// The order, the sizes and the parents to the front of three buffers. O(n).
+// The order, the sizes and the parents to the front of three buffers. s is for the contract alone. O(n).
 fn read_order(
     bytes: &[u8],
     n: usize,
@@ -87,7 +87,7 @@ fn read_order(
     read16s(bytes, HEADER + 2 * n + 2, 4, p, parents);
 }
 
-// The row counts to the front of a buffer. O(n).
+// The row counts to the front of a buffer. s is for the contract alone. O(n).
 fn read_row_counts(bytes: &[u8], n: usize, p: usize, s: usize, counts: &mut [u16])
     requires { ⌜ Headed (now bytes) n p s × (n ≤ length (now counts)) ⌝ }
     ensures { λ _. ⌜ now (counts .exit) ≡ written (countsIn (now (bytes .entry))) (now (counts .entry)) ⌝ }
@@ -95,7 +95,7 @@ fn read_row_counts(bytes: &[u8], n: usize, p: usize, s: usize, counts: &mut [u16
     read16s(bytes, HEADER + 2 * n + 4 * p, 2, n, counts);
 }
 
-// Checks 15 to 19 of a file: its fields but the rows are read into working memory. O(4,096 + slots + ancestors and first rows' columns).
+// Checks 15 to 19 of a file: its fields but the rows are read into working memory. O(4,096 + slots + the ancestors of each column's part + the first rows' columns).
 fn file_refusal(bytes: &[u8], n: usize, p: usize, s: usize, counts: &[u16]) -> u32
     requires { ⌜ Headed (now bytes) n p s × (n ≤ length (now counts)) × (take n (now counts) ≡ countsIn (now bytes)) ⌝ }
     ensures { λ r. ⌜ r ≡ firstFault (contentsChecks (parse (now (bytes .entry)))) ⌝ }
@@ -151,7 +151,7 @@ fn hand_out(
     PlanAnswer::Accepted(Plan::new(n as u32, p as u32, s as u32, totals.multiplications))
 }
 
-// Reading where checks 10 to 14 found no fault. O(4,096 + slots + ancestors and first rows' columns).
+// Reading where checks 10 to 14 found no fault. O(4,096 + slots + the ancestors of each column's part + the first rows' columns).
 fn read_headed(
     bytes: &[u8],
     order: &mut [u16],
@@ -204,7 +204,7 @@ fn read_headed(
     )
 }
 
-// Reading: checks 10 to 19, 8 and 9 in this order, then the plan in the lent buffers; the multiplications are counted anew. O(4,096 + slots + ancestors and first rows' columns).
+// Reading: checks 10 to 19, 8 and 9 in this order, then the plan in the lent buffers; the multiplications are counted anew. O(4,096 + slots + the ancestors of each column's part + the first rows' columns).
 pub fn read(
     bytes: &[u8],
     order: &mut [u16],

@@ -28,7 +28,7 @@ fn fill(at: usize, count: usize, q: u16, numbers: &mut [u16])
     }
 }
 
-// The part of each position. O(n).
+// The part of each position. O(parts + positions).
 pub(crate) fn number_parts(sizes: &[u16], numbers: &mut [u16])
     requires { ⌜ (length (now sizes) ≤ 4096) × (total (now sizes) ≤ length (now numbers)) ⌝ }
     ensures { λ _. ⌜ ((i : ℕ) → i < total (now (sizes .entry)) → getD (now (numbers .exit)) i 0 ≡ partOf (now (sizes .entry)) i) ⌝ }
@@ -53,7 +53,7 @@ fn climb(parents: &[u16], part: u16, to: u16) -> u16
     r
 }
 
-// Rows of column j by 18's rule: whether one lies outside the column's part and its ancestors (document 01: forefathers). The rows and the chain of ancestors are walked together. O(rows + ancestors).
+// Whether rows of column j break 18's rule: one lies outside the column's part and its ancestors (document 01: forefathers). The rows and the chain of ancestors are walked together. n is for the contract alone. O(rows + ancestors).
 pub(crate) fn outside(n: usize, numbers: &[u16], parents: &[u16], j: usize, column: &[u16]) -> bool
     requires { ⌜ Parents (now parents) × PartNumbers n (now parents) (now numbers) × (j < n) × (badColumn n j (now column) ≡ false) ⌝ }
     ensures { λ r. ⌜ r ≡ outsideOf (now (numbers .entry)) (now (parents .entry)) j (now (column .entry)) ⌝ }
@@ -69,7 +69,7 @@ pub(crate) fn outside(n: usize, numbers: &[u16], parents: &[u16], j: usize, colu
     false
 }
 
-// The first place of a list from k on whose entry is not less than x; its length where every entry is. Those before k are. O(places passed).
+// The first place whose entry is not less than x, the list's length where every entry is less; the entries before k are known to be less. O(places passed).
 fn advance(entries: &[u16], k: usize, x: usize) -> usize
     requires { ⌜ (k ≤ length (now entries)) × ((i : ℕ) → i < k → getD (now entries) i 0 < x) ⌝ }
     ensures { λ r. ⌜ LowerBound (now (entries .entry)) x r ⌝ }

@@ -28,21 +28,31 @@ use Rattle.theory.proofs.Refusals.{no-fault}
 use Rattle.theory.proofs.Checked.{node-count, good-starts}
 use Rattle.theory.proofs.Orders.{order-length, passes-order}
 use Rattle.theory.proofs.Compressed.{counts-sums, list-length, entry-listed}
-use Rattle.theory.proofs.FileFields.{Narrow, Fits, counts-length}
+use Rattle.theory.proofs.FileFields.{Whole, Narrow, Fits, counts-length}
 use Rattle.theory.proofs.PartChecks.{passes-tree, parents-known}
 
 -- ---- what the checks say
 
--- a plan that passes 13 and 15 to 19 has none of their faults
-pub passes-sound : (c : Contents) → badHeader c ≡ false → firstFault (contentsChecks c) ≡ 0 → Sound c
+-- a plan that passes 13 and 15 to 19, with lists as long as their counts, has none of their faults
+pub passes-sound : (c : Contents) → Whole c → badHeader c ≡ false → firstFault (contentsChecks c) ≡ 0 → Sound c
 unfolding contentsChecks
-passes-sound c header h =
+passes-sound c whole header h =
     let c15 = no-fault 15 (badOrder c) _ (omega arith) h in
     let c16 = no-fault 16 (badParts c) _ (omega arith) (c15 .1) in
     let c17 = no-fault 17 (badRows c) _ (omega arith) (c16 .1) in
     let c18 = no-fault 18 (notNested c) _ (omega arith) (c17 .1) in
     let c19 = no-fault 19 (notCovered c) _ (omega arith) (c18 .1) in
-    record { header = header; order = c15 .0; parts = c16 .0; rows = c17 .0; nested = c18 .0; covered = c19 .0 }
+    record {
+      sizesMany = whole .sizes;
+      parentsMany = whole .parents;
+      rowsMany = whole .rows;
+      header = header;
+      order = c15 .0;
+      parts = c16 .0;
+      rows = c17 .0;
+      nested = c18 .0;
+      covered = c19 .0;
+    }
 
 -- and the other way round; the first fault is that of the checks to come
 pub sound-passes : (c : Contents) (more : Checks) → Sound c → firstFault (contentsChecks c ++ more) ≡ firstFault more
@@ -111,7 +121,7 @@ good-rows c h =
 
 -- ---- what fits
 
-module _ (c : Contents) (sound : Sound c) (sizesMany : length (c .sizes) ≡ c .parts) (parentsMany : length (c .parents) ≡ c .parts) (rowsMany : length (c .rows) ≡ c .slots) where
+module _ (c : Contents) (sound : Sound c) where
   -- 13, 15 and 17 of it
   limits : Limits c
   limits = header-limits c (sound .header)
@@ -131,7 +141,7 @@ module _ (c : Contents) (sound : Sound c) (sizesMany : length (c .sizes) ≡ c .
       let own : parentOf (c .parents) q ≡ x = getD-indexOf (c .parents) x noParent (indexOf-lt (c .parents) x m) in
       elim (eq-or-ne x noParent) [
         | inl e ↦ omega arith
-        | inr e ↦ omega (arith, own, parents-known c (sound .parts) parentsMany q (λ t. e (sym own ∙ t)), parentsMany, limits .partsFew, limits .nodesFew)
+        | inr e ↦ omega (arith, own, parents-known c (sound .parts) (sound .parentsMany) q (λ t. e (sym own ∙ t)), sound .parentsMany, limits .partsFew, limits .nodesFew)
       ]
 
   -- a column has fewer rows than there are nodes
@@ -148,7 +158,7 @@ module _ (c : Contents) (sound : Sound c) (sizesMany : length (c .sizes) ≡ c .
         arith,
         getD-indexOf (rowCounts c) x 0 place,
         getD-map-below (λ j. getD starts (j + 1) 0 - getD starts j 0) 0 n j inside,
-        list-length n starts (c .rows) (columns .starts) (omega (arith, columns .last, rowsMany)) j inside,
+        list-length n starts (c .rows) (columns .starts) (omega (arith, columns .last, sound .rowsMany)) j inside,
         ascending-few column 0 n (columns .ascends j inside) (λ i t. (omega arith, columns .inside j inside i t .1)),
         limits .nodesFew,
       )
@@ -156,19 +166,19 @@ module _ (c : Contents) (sound : Sound c) (sizesMany : length (c .sizes) ≡ c .
   -- a row is a position
   narrow-rows : Narrow (c .rows)
   narrow-rows x m =
-      let all : segment (c .rows) 0 (getD (c .columnStarts) (c .nodes) 0) ≡ c .rows = take-all (getD (c .columnStarts) (c .nodes) 0 - 0) (c .rows) (omega (arith, columns .last, rowsMany)) in
+      let all : segment (c .rows) 0 (getD (c .columnStarts) (c .nodes) 0) ≡ c .rows = take-all (getD (c .columnStarts) (c .nodes) 0 - 0) (c .rows) (omega (arith, columns .last, sound .rowsMany)) in
       let r = entry-listed (c .nodes) (c .columnStarts) (c .rows) (columns .starts) (c .nodes) (omega arith) x (ap (isIn x) all ∙ m) in
       omega (arith, columns .inside (r .0) (r .1) x (r .2), limits .nodesFew)
 
   -- A plan without a fault fits.
   pub sound-fits : Fits c
   sound-fits = record {
-    whole = record { order = order-length (c .nodes) (c .order) (passes-order (c .nodes) (c .order) once); sizes = sizesMany; parents = parentsMany; rows = rowsMany };
+    whole = record { order = order-length (c .nodes) (c .order) (passes-order (c .nodes) (c .order) once); sizes = sound .sizesMany; parents = sound .parentsMany; rows = sound .rowsMany };
     nodes = omega (arith, limits .nodesFew);
     parts = omega (arith, limits .nodesFew, limits .partsFew);
     slots = few-slots c limits;
     order = λ x m. omega (arith, isIn-below (c .nodes) x (same-members (c .order) (below (c .nodes)) (passes-order (c .nodes) (c .order) once) x m), limits .nodesFew);
-    sizes = λ x m. omega (arith, isIn-total (c .sizes) x m, passes-tree c (sound .parts) parentsMany sizesMany .whole, limits .nodesFew);
+    sizes = λ x m. omega (arith, isIn-total (c .sizes) x m, passes-tree c (sound .parts) (sound .parentsMany) (sound .sizesMany) .whole, limits .nodesFew);
     parents = narrow-parents;
     counts = narrow-counts;
     rows = narrow-rows;

@@ -1,4 +1,4 @@
--- The round trips of the promises: of every writer that keeps Wrote, and every reader that keeps Filled.
+-- The round trips of the promises: of every writer that keeps Wrote, and every reader and planner that keep Filled.
 use mathlib.Core.Path.{_≡_, sym, ap, subst, _∙_}
 use mathlib.Core.List.{List, [], _∷_}
 use Prim.Native.Nat.{ℕ, zero, suc, _+_}
@@ -11,16 +11,16 @@ use Rattle.plan.specs.declared.WriteAnswer.the-variants.{Written, Refused}
 use Rattle.plan.specs.Lists.{written}
 use Rattle.plan.specs.Refusals.{firstFault}
 use Rattle.plan.specs.Answers.{Reply, accepted, planReply, writeReply}
-use Rattle.plan.specs.Planning.{Contents, Buffers, Capacity, capacity, Outcome, handOut, fill, Filled}
-use Rattle.plan.specs.File.{fileLength, parse}
+use Rattle.plan.specs.Planning.{Contents, planOf, Buffers, Capacity, capacity, planChecks, Outcome, handOut, planning, fill, Filled}
+use Rattle.plan.specs.File.{fileLength, encode, parse}
 use Rattle.plan.specs.Reading.{readChecks, reading}
-use Rattle.plan.specs.Writing.{used, writeChecks, WriteOutcome, writeOut, writing}
-use Rattle.plan.specs.RoundTrips.{acceptedWriting, lentBack, WroteThenFilled, FilledThenWrote}
+use Rattle.plan.specs.Writing.{used, writeChecks, WriteOutcome, writeOut, writing, Wrote}
+use Rattle.plan.specs.RoundTrips.{acceptedWriting, lentBack, WroteThenFilled, FilledThenWrote, PlannedThenWrote, Sound}
 use Rattle.theory.proofs.Written.{front-written}
 use Rattle.theory.proofs.FileFields.{Whole, encode-length}
-use Rattle.theory.proofs.Fitting.{good-rows}
-use Rattle.theory.proofs.Planned.{hand-number}
-use Rattle.theory.proofs.RoundTrips.{write-says, read-says, read-whole, handed-read, written-then-read, read-then-written}
+use Rattle.theory.proofs.Fitting.{good-rows, sound-fits}
+use Rattle.theory.proofs.Planned.{hand-number, handed-planned}
+use Rattle.theory.proofs.RoundTrips.{used-long, write-says, read-says, handed-read, written-then-read, read-then-written, planned-is-sound, planned-is-writable}
 
 -- ---- what was written, then read
 
@@ -50,10 +50,11 @@ wrote-then-filled c size found bytes answer lent left wrote eight nine filled =
 -- ---- what was read, then written
 
 -- the used entries of buffers that a plan was handed out to, with the counts that were answered, are the plan
-filled-used : (c : Contents) (p : Plan) (lent left : Buffers) → Whole c → length (c .columnStarts) ≡ c .nodes + 1 → Filled (handOut 0 c) (Accepted p) lent left
-    → used (lentBack p left) ≡ c
+filled-used : (c : Contents) (p : Plan) (lent left : Buffers) → Sound c → Filled (handOut 0 c) (Accepted p) lent left → used (lentBack p left) ≡ c
 unfolding used handOut fill
-filled-used c p lent left whole starts h =
+filled-used c p lent left sound h =
+    let whole : Whole c = sound-fits c sound .whole in
+    let starts : length (c .columnStarts) ≡ c .nodes + 1 = good-rows c (sound .rows) .starts .many in
     let value : (k : ℕ) → getD (planReply (Accepted p) .values) k 0 ≡ getD (handOut 0 c .reply .values) k 0 = λ k. ap (λ (r : Reply). getD (r .values) k 0) (h .reply) in
     let nodes : p .nodes ≡ c .nodes = value 0 in
     let parts : p .parts ≡ c .parts = value 1 in
@@ -69,29 +70,48 @@ filled-used c p lent left whole starts h =
       front-written (c .slots) (c .rows) (lent .rows) (left .rows) (h .rows) (whole .rows),
     )
 
--- an accepted reading, by the plan that is read
-reading-accepted : (bytes : List ℕ) (room : Capacity) → reading bytes room .reply .number ≡ 0 → reading bytes room ≡ handOut 0 (parse bytes)
-unfolding reading
-reading-accepted bytes room h =
-    ap (λ (k : ℕ). handOut k (parse bytes)) (sym (hand-number (firstFault (readChecks bytes room)) (parse bytes)) ∙ h)
+-- where a plan is the answer, it was handed out
+handed-out : (k : ℕ) (c : Contents) (p : Plan) (lent left : Buffers) → Filled (handOut k c) (Accepted p) lent left → Filled (handOut 0 c) (Accepted p) lent left
+handed-out k c p lent left h =
+    subst (λ (i : ℕ). Filled (handOut i c) (Accepted p) lent left) (sym (hand-number k c) ∙ sym (ap (λ (r : Reply). r .number) (h .reply))) h
 
 -- the answer of a writing that shows a size
 size-answer : (answer : WriteAnswer) (size : ℕ) → writeReply answer ≡ accepted (size ∷ []) → answer ≡ Written size
 size-answer (Written n) size e = ap (λ (r : Reply). Written (getD (r .values) 0 0)) e
 size-answer (Refused k) size e = absurd (omega (arith, ap (λ (r : Reply). length (r .values)) e))
 
+-- what was written, by the writing's bytes
+wrote-bytes : (c : Contents) (bytes found after : List ℕ) (answer : WriteAnswer) → writing c (length found) ≡ acceptedWriting bytes → Wrote c answer found after
+    → (answer ≡ Written (length bytes)) × (after ≡ written bytes found)
+wrote-bytes c bytes found after answer w wrote = (
+  size-answer answer (length bytes) (wrote .reply ∙ ap (λ (o : WriteOutcome). o .reply) w),
+  wrote .output ∙ ap (λ (o : WriteOutcome). written (o .bytes) found) w,
+)
+
 -- What was read, then written: the bytes.
 pub filled-then-wrote : FilledThenWrote
+unfolding reading
 filled-then-wrote bytes found after p lent left answer small filled fits wrote =
     let room : Capacity = capacity lent in
     let c : Contents = lentBack p left in
     let h : reading bytes room .reply .number ≡ 0 = sym (ap (λ (r : Reply). r .number) (filled .reply)) in
-    let handed-out : Filled (handOut 0 (parse bytes)) (Accepted p) lent left =
-    subst (λ (o : Outcome). Filled o (Accepted p) lent left) (reading-accepted bytes room h) filled in
     let e : used c ≡ parse bytes =
-    filled-used (parse bytes) p lent left (read-whole bytes) (good-rows (parse bytes) (read-says bytes room h .sound .rows) .starts .many) handed-out in
-    let w : writing c (length found) ≡ acceptedWriting bytes =
-    read-then-written bytes room c (length found) small h (e ∙ sym (handed-read bytes room h)) fits in (
-      size-answer answer (length bytes) (wrote .reply ∙ ap (λ (o : WriteOutcome). o .reply) w),
-      wrote .output ∙ ap (λ (o : WriteOutcome). written (o .bytes) found) w,
-    )
+    filled-used (parse bytes) p lent left (read-says bytes room h .sound) (handed-out (firstFault (readChecks bytes room)) (parse bytes) p lent left filled) in
+    wrote-bytes c bytes found after answer (read-then-written bytes room c (length found) small h (e ∙ sym (handed-read bytes room h)) fits) wrote
+
+-- ---- what was planned, then written
+
+-- What was planned, then written: the file of the mesh's plan.
+pub planned-then-wrote : PlannedThenWrote
+unfolding planning
+planned-then-wrote m found after p lent left answer filled fits wrote =
+    let room : Capacity = capacity lent in
+    let c : Contents = lentBack p left in
+    let h : planning m room .reply .number ≡ 0 = sym (ap (λ (r : Reply). r .number) (filled .reply)) in
+    let sound : Sound (planOf m) = planned-is-sound m room h in
+    let e : used c ≡ planOf m = filled-used (planOf m) p lent left sound (handed-out (firstFault (planChecks m room)) (planOf m) p lent left filled) in
+    let long : fileLength c ≡ fileLength (planOf m) = sym (used-long c) ∙ ap fileLength e in
+    let w : writing c (length found) ≡ acceptedWriting (encode (planOf m)) =
+    planned-is-writable m room c (length found) h (e ∙ sym (handed-planned m room h)) (omega (arith, long, fits)) ∙ ap (λ (d : Contents). acceptedWriting (encode d)) e in
+    let r : (answer ≡ Written (length (encode (planOf m)))) × (after ≡ written (encode (planOf m)) found) = wrote-bytes c (encode (planOf m)) found after answer w wrote in
+    (r .0 ∙ ap Written (encode-length (planOf m) (sound-fits (planOf m) sound .whole)), r .1)

@@ -15,13 +15,13 @@ use Rattle.plan.specs.Planning.{Contents, planBy, planOf, Capacity, buffersTooS
 use Rattle.plan.specs.File.{encode16, decode16, magic, version, lengthAt, fileLength, encode, parseAt, parse, badHeader, contentsChecks}
 use Rattle.plan.specs.Reading.{tooFewBytes, badMagic, badVersion, badLength, headerChecks, readChecks, reading}
 use Rattle.plan.specs.Writing.{badSupply, used, suppliedChecks, outputTooShort, writeChecks, WriteOutcome, writeOut, writing}
-use Rattle.plan.specs.RoundTrips.{handed, acceptedWriting, WrittenThenRead, ReadThenWritten, PlannedIsWritable, PlannedThenRead, OtherVersions, Sound, ReadIsSound}
+use Rattle.plan.specs.RoundTrips.{handed, acceptedWriting, WrittenIsFile, WrittenThenRead, ReadThenWritten, PlannedIsWritable, PlannedThenRead, OtherVersions, Sound, ReadIsSound}
 use Rattle.theory.proofs.Bools.{or-false-left, or-false-right, or-neither}
 use Rattle.theory.proofs.Lists.{same-equal}
 use Rattle.theory.proofs.Coding.{decode16s-length}
 use Rattle.theory.proofs.Refusals.{no-fault, fault-here, fault-later, first-nil, no-fault-first, first-none}
 use Rattle.theory.proofs.Orders.{order-length}
-use Rattle.theory.proofs.FileFields.{Whole, encode-fields, encode-length, parse-encode, encode-parse}
+use Rattle.theory.proofs.FileFields.{Whole, Fits, encode-fields, encode-length, parse-encode, encode-parse}
 use Rattle.theory.proofs.Fitting.{passes-sound, sound-passes, good-rows, sound-fits}
 use Rattle.theory.proofs.Planned.{planned-once, planned-sizes, planned-parents, planned-nodes, hand-number, handed-accepted, handed-planned}
 use Rattle.theory.proofs.Readable.{planned-header, planned-readable}
@@ -59,7 +59,7 @@ module _ (c : Contents) where
   used-header = refl
 
   -- and so is the length of the file
-  used-long : fileLength (used c) ≡ fileLength c
+  pub used-long : fileLength (used c) ≡ fileLength c
   unfolding used fileLength
   used-long = refl
 
@@ -113,12 +113,13 @@ write-says c output h =
     let none : firstFault (writeChecks c output) ≡ 0 = sym (write-number (firstFault (writeChecks c output)) c) ∙ h in
     let c13 = no-fault 13 (badSupply c) _ (omega arith) none in
     let supply = supply-says c (c13 .0) in
-    (passes-sound (used c) (supply .0) (no-fault-first (contentsChecks (used c)) _ (c13 .1)), supply .1, ap (λ (k : ℕ). writeOut k c .bytes) none)
+    (passes-sound (used c) (supply .1) (supply .0) (no-fault-first (contentsChecks (used c)) _ (c13 .1)), supply .1, ap (λ (k : ℕ). writeOut k c .bytes) none)
 
 -- and the other way round, given room
-pub write-accepts : (c : Contents) (output : ℕ) → Sound (used c) → Whole (used c) → fileLength c ≤ output → writing c output ≡ acceptedWriting (encode (used c))
+pub write-accepts : (c : Contents) (output : ℕ) → Sound (used c) → fileLength c ≤ output → writing c output ≡ acceptedWriting (encode (used c))
 unfolding writing writeChecks suppliedChecks writeOut outputTooShort
-write-accepts c output sound whole fits =
+write-accepts c output sound fits =
+    let whole : Whole (used c) = sound-fits (used c) sound .whole in
     let eight : Checks = (8, outputTooShort c output) ∷ [] in
     let none : firstFault (writeChecks c output) ≡ 0 =
     fault-later 13 (badSupply c) (contentsChecks (used c) ++ eight) (supply-good c sound whole) ∙ sound-passes (used c) eight sound
@@ -126,7 +127,29 @@ write-accepts c output sound whole fits =
     let long : fileLength c ≡ length (encode (used c)) = sym (encode-length (used c) whole ∙ used-long c) in
     rw (none, long)
 
+-- An accepted writing is the file of the used entries, which fits the output.
+pub written-is-file : WrittenIsFile
+unfolding writing writeChecks suppliedChecks outputTooShort
+written-is-file c output h =
+    let w = write-says c output h in
+    let eight : Checks = (8, outputTooShort c output) ∷ [] in
+    let none : firstFault (writeChecks c output) ≡ 0 = sym (write-number (firstFault (writeChecks c output)) c) ∙ h in
+    let late : firstFault (contentsChecks (used c) ++ eight) ≡ 0 = no-fault 13 (badSupply c) _ (omega arith) none .1 in
+    let c8 = no-fault 8 (outputTooShort c output) [] (omega arith) (sym (sound-passes (used c) eight (w .0)) ∙ late) in
+    let fits : fileLength c ≤ output = ltb-false output (fileLength c) (c8 .0) in
+    (write-accepts c output (w .0) fits, omega (arith, encode-length (used c) (w .1), used-long c))
+
 -- ---- reading
+
+-- what is read is as many entries as the counts
+pub read-whole : (bytes : List ℕ) → Whole (parse bytes)
+unfolding parse parseAt
+read-whole bytes = record {
+  order = decode16s-length bytes _ 2 _;
+  sizes = decode16s-length bytes _ 4 _;
+  parents = decode16s-length bytes _ 4 _;
+  rows = decode16s-length bytes _ 2 _;
+}
 
 -- what an accepted reading tells of the bytes and of the plan
 pub record Read (bytes : List ℕ) : Type 0 where
@@ -149,18 +172,8 @@ read-says bytes room h =
       mark = same-equal (take 3 bytes) magic (not-false (same (take 3 bytes) magic) (c11 .0));
       known = eqb-true (decode16 bytes 3) version (not-false (eqb (decode16 bytes 3) version) (c12 .0));
       long = eqb-true (length bytes) (fileLength (parse bytes)) (not-false (eqb (length bytes) (fileLength (parse bytes))) (c14 .0));
-      sound = passes-sound (parse bytes) (c13 .0) (no-fault-first (contentsChecks (parse bytes)) _ (c14 .1));
+      sound = passes-sound (parse bytes) (read-whole bytes) (c13 .0) (no-fault-first (contentsChecks (parse bytes)) _ (c14 .1));
     }
-
--- what is read is as many entries as the counts
-pub read-whole : (bytes : List ℕ) → Whole (parse bytes)
-unfolding parse parseAt
-read-whole bytes = record {
-  order = decode16s-length bytes _ 2 _;
-  sizes = decode16s-length bytes _ 4 _;
-  parents = decode16s-length bytes _ 4 _;
-  rows = decode16s-length bytes _ 2 _;
-}
 
 -- what an accepted reading hands out
 pub handed-read : (bytes : List ℕ) (room : Capacity) → reading bytes room .reply .number ≡ 0 → handed (reading bytes room) ≡ parse bytes
@@ -181,14 +194,15 @@ unfolding badVersion decode16 encode16
 encoded-version c = ap (λ (l : List ℕ). not (eqb (decode16 l 3) version)) (encode-fields c)
 
 -- An encoded plan without a fault is read, into buffers that are long enough, as the plan.
-pub read-encoded : (c : Contents) (room : Capacity) → Sound c → Whole c → buffersTooShort (c .nodes) room ≡ false → rowsTooShort c room ≡ false
+pub read-encoded : (c : Contents) (room : Capacity) → Sound c → buffersTooShort (c .nodes) room ≡ false → rowsTooShort c room ≡ false
     → reading (encode c) room ≡ handOut 0 c
 unfolding reading readChecks headerChecks tooFewBytes badLength
-read-encoded c room sound whole eight nine =
+read-encoded c room sound eight nine =
+    let fits : Fits c = sound-fits c sound in
     let bytes : List ℕ = encode c in
     let behind : Contents → Checks = λ d. (8, buffersTooShort (d .nodes) room) ∷ (9, rowsTooShort d room) ∷ [] in
-    let e : parse bytes ≡ c = parse-encode c (sound-fits c sound (whole .sizes) (whole .parents) (whole .rows)) in
-    let long : length bytes ≡ fileLength c = encode-length c whole in
+    let e : parse bytes ≡ c = parse-encode c fits in
+    let long : length bytes ≡ fileLength c = encode-length c (fits .whole) in
     let none : firstFault (readChecks bytes room) ≡ 0 =
     fault-later 10 (tooFewBytes bytes) _ (le-ltb (length bytes) 17 (omega (arith, long, file-some c)))
     ∙ fault-later 11 (badMagic bytes) _ (encoded-mark c) ∙ fault-later 12 (badVersion bytes) _ (encoded-version c)
@@ -214,7 +228,7 @@ other-versions bytes room long mark other = ap (λ (k : ℕ). handOut k (parse b
 pub written-then-read : WrittenThenRead
 written-then-read c output room h eight nine =
     let w = write-says c output h in
-    rw (w .2) (read-encoded (used c) room (w .0) (w .1) (unfold used in eight) (unfold used rowsTooShort in nine))
+    rw (w .2) (read-encoded (used c) room (w .0) (unfold used in eight) (unfold used rowsTooShort in nine))
 
 -- Read, then written: the bytes.
 pub read-then-written : ReadThenWritten
@@ -223,7 +237,7 @@ read-then-written bytes room c output small h same-plan fits =
     let e : used c ≡ parse bytes = same-plan ∙ handed-read bytes room h in
     let again : encode (used c) ≡ bytes = ap encode e ∙ encode-parse bytes small (r .mark) (r .known) (r .long) in
     let long : fileLength c ≡ length bytes = sym (used-long c) ∙ ap fileLength e ∙ sym (r .long) in
-    write-accepts c output (subst Sound (sym e) (r .sound)) (subst Whole (sym e) (read-whole bytes)) (omega arith) ∙ ap acceptedWriting again
+    write-accepts c output (subst Sound (sym e) (r .sound)) (omega arith) ∙ ap acceptedWriting again
 
 -- what an accepted planning tells of the mesh and of the buffers
 record Accepted (m : Mesh) (room : Capacity) : Type 0 where
@@ -254,13 +268,17 @@ planned-whole m = record { order = order-length (m .nodes) (planOf m .order) (pl
 
 -- and none of the faults
 planned-sound : (m : Mesh) → firstFault (meshChecks m) ≡ 0 → Sound (planOf m)
-planned-sound m passes = passes-sound (planOf m) (planned-header m passes) (planned-readable m passes)
+planned-sound m passes = passes-sound (planOf m) (planned-whole m) (planned-header m passes) (planned-readable m passes)
+
+-- so what an accepted planning hands out has none of them
+pub planned-is-sound : (m : Mesh) (room : Capacity) → planning m room .reply .number ≡ 0 → Sound (planOf m)
+planned-is-sound m room h = planned-sound m (plan-says m room h .mesh)
 
 -- What planning hands out is written.
 pub planned-is-writable : PlannedIsWritable
 planned-is-writable m room c output h same-plan fits =
     let e : used c ≡ planOf m = same-plan ∙ handed-planned m room h in
-    write-accepts c output (subst Sound (sym e) (planned-sound m (plan-says m room h .mesh))) (subst Whole (sym e) (planned-whole m)) fits
+    write-accepts c output (subst Sound (sym e) (planned-is-sound m room h)) fits
 
 -- Planned, written, then read: the same outcome.
 pub planned-then-read : PlannedThenRead
@@ -268,7 +286,7 @@ planned-then-read m room c output h same-plan fits =
     let p : Accepted m room = plan-says m room h in
     let e : used c ≡ planOf m = same-plan ∙ handed-planned m room h in
     ap (λ (w : WriteOutcome). reading (w .bytes) room) (planned-is-writable m room c output h same-plan fits) ∙ ap (λ (d : Contents). reading (encode d) room) e
-    ∙ read-encoded (planOf m) room (planned-sound m (p .mesh)) (planned-whole m) (p .buffers) (p .rows) ∙ sym (unfold planning in ap (λ (k : ℕ). handOut k (planOf m)) (p .none))
+    ∙ read-encoded (planOf m) room (planned-is-sound m room h) (p .buffers) (p .rows) ∙ sym (unfold planning in ap (λ (k : ℕ). handOut k (planOf m)) (p .none))
 
 -- What reading hands out has none of the faults.
 pub read-is-sound : ReadIsSound
