@@ -55,7 +55,7 @@ module _ (m : Mesh) (j : ℕ) (old : List ℕ) where
     same-test : (v : ℕ) → getD new v 0 ≡ getD old v 0 → separatesAt m j new v ≡ separatesAt m j old v
     same-test v e =
         ap₂ _&&_ (ap (λ (x : ℕ). eqb x j) e)
-        (exists-ext (λ w. eqb (getD new w 0) (j + 1)) (λ w. eqb (getD old w 0) (j + 1)) (neighboursOf m v) same-next)
+        (exists-ext (λ w. eqb (getD new w 0) (j + 1)) (λ w. eqb (getD old w 0) (j + 1)) (neighboursOf m v) (λ w t. same-next w))
 
     -- what is stored for a node
     stored : (u : ℕ) → cond (separatesAt m j new u) outside (getD new u 0) ≡ cond (separatesAt m j old u) outside (getD old u 0)

@@ -16,7 +16,6 @@ use Rattle.plan.specs.Choice.{georgeLiu}
 use Rattle.plan.specs.Dissection.{Forest, parts, sizes, parents}
 use Rattle.plan.specs.Steps.{byNumber}
 use Rattle.theory.specs.Checked.{Checked}
-use Rattle.theory.specs.Balanced.{Balanced}
 use Rattle.theory.specs.PartTree.{PartTree}
 use Rattle.theory.proofs.Bools.{cond-true, cond-false, eq-or-ne, lt-or-le}
 use Rattle.theory.proofs.Lists.{isIn-head, isIn-tail, isIn-getD, indexOf-lt, getD-indexOf, getD-default}
@@ -25,8 +24,8 @@ use Rattle.theory.proofs.Counting.{count-le}
 use Rattle.theory.proofs.Forest.{sizes-length}
 use Rattle.theory.proofs.Dissection.{parts-few, dissection-tree}
 use Rattle.theory.proofs.Choice.{georgeLiu-takes}
-use Rattle.theory.proofs.StepStates.{balanced-steps}
 use Rattle.dissection.specs.Blocks.{inner, headsOf, stateAfter, planned, Dissected, leading, blockSizes, blockParents, Heads}
+use Rattle.dissection.proofs.States.{state-balanced}
 
 -- ---- the first place of a list of heads
 
@@ -260,11 +259,6 @@ begins-heads (b ∷ blocks) (p ∷ ps) many some plain = plain p (isIn-head p ps
 
 -- ---- the parts of a dissection
 
--- the state after any number of steps is balanced
-after-balanced : (m : Mesh) (count : ℕ) → Balanced (adjacent m) (m .nodes) (stateAfter m count)
-unfolding stateAfter
-after-balanced m count = balanced-steps (adjacent m) (m .nodes) (georgeLiu m) (georgeLiu-takes m) count
-
 -- the sizes sum to n, each is positive, and there is a parent for each
 planned-tree : (m : Mesh) → PartTree (m .nodes) (sizes (planned m)) (parents (planned m))
 unfolding planned
@@ -299,9 +293,9 @@ module _ (m : Mesh) (good : Checked m) (orderHeld heads : List ℕ) (count : ℕ
       let i : ℕ = indexOf p chosenParents in
       let l : i < length chosenParents = indexOf-lt chosenParents p h in
       let e : getD chosenParents i 0 ≡ p = getD-indexOf chosenParents p 0 l in
-      elim (after-balanced m count .parents i l) [
+      elim (state-balanced m count .parents i l) [
         | inl n ↦ inl (sym e ∙ n)
-        | inr n ↦ inr (omega (arith, e, as-many, after-balanced m count .asMany))
+        | inr n ↦ inr (omega (arith, e, as-many, state-balanced m count .asMany))
       ]
 
   -- so it is no inner place

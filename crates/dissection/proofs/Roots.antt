@@ -6,10 +6,10 @@ use mathlib.Core.List.{List, [], _∷_, _++_, map, getLastD}
 use Prim.Native.Nat.{ℕ, zero, suc, _+_, _-_, _≤_, _<_}
 use native.Mathlib.Omega.{arith}
 use lib.Dec.{eqb, ltb}
-use lib.ListN.{length, getD, take, drop, set, length-drop, length-map, List·getD-map}
+use lib.ListN.{length, getD, take, set, length-map, List·getD-map}
 use lib.Seq.{length-take-le, take-all, getD-take, ext-getD, getD-set-same, getD-set-other}
 use borrow.Author.Tests.{eq-eqb, ne-eqb, lt-ltb, le-ltb}
-use Rattle.plan.specs.Lists.{keep, isIn, listAt, ascending}
+use Rattle.plan.specs.Lists.{keep, isIn, ascending}
 use Rattle.plan.specs.Mesh.{maxNodes, Mesh, neighboursOf, adjacent}
 use Rattle.plan.specs.Levels.{levels, eccentricity, components}
 use Rattle.plan.specs.Choice.{degreeIn, lesser, leastFrom, leastDegree, candidates, improves, nextRoot, rootFrom, rootOf}
@@ -23,8 +23,7 @@ use Rattle.theory.proofs.Components.{components-some}
 use Rattle.theory.proofs.LevelNumbers.{level-first, level-kept, levels-some}
 use Rattle.theory.proofs.RootSearch.{next-cases, turn-ends, turn-goes, search-same, root-same}
 use Rattle.theory.proofs.RootInside.{leastDegree-isIn}
-use Rattle.mesh.specs.Lent.{ListWithin}
-use Rattle.mesh.proofs.Lists.{checked-within}
+use Rattle.mesh.proofs.Lists.{list-long, checked-within}
 use Rattle.dissection.specs.Numbers.{fresh, outside, freshOf, Within, Only, Renumbered, grouped, Labelled}
 use Rattle.dissection.specs.Standing.{Regional, Standing, onlyLevel}
 use Rattle.dissection.specs.Rooted.{none, degreeOf, betterOf, bestOf, Bests, Compared, Rooted, Better}
@@ -37,11 +36,8 @@ use Rattle.dissection.proofs.Standing.{level-inside, number-level}
 
 -- the degree of a node by the starts
 pub degree-is : (m : Mesh) → Checked m → (v : ℕ) → v < m .nodes → getD (m .starts) (v + 1) 0 - getD (m .starts) v 0 ≡ degreeOf m v
-unfolding neighboursOf listAt
-degree-is m h v lt =
-    let w : ListWithin (m .starts) (m .neighbours) v = checked-within m h v lt in
-    let a : ℕ = getD (m .starts) v 0 in
-    sym (length-take-le (getD (m .starts) (v + 1) 0 - a) (drop a (m .neighbours)) (omega (arith, w .ended, length-drop a (m .neighbours))))
+unfolding neighboursOf
+degree-is m h v lt = sym (list-long (m .starts) (m .neighbours) v (checked-within m h v lt))
 
 -- the best of v and a list with one more at the end
 least-snoc : (degree : ℕ → ℕ) (v : ℕ) (l : List ℕ) (x : ℕ) → leastFrom degree v (l ++ (x ∷ [])) ≡ lesser degree (leastFrom degree v l) x

@@ -14,14 +14,15 @@ use Rattle.plan.specs.Answers.{accepted, refused, slotCase, diagonalCase, noSlo
 use Rattle.plan.specs.Questions.{layoutChecks, positionOutside, questionChecks, slotOf, pairFound, pairQuestion, columnRefusal, spanFound, columnSpan}
 use Rattle.theory.proofs.Bools.{cond-true, cond-false}
 use Rattle.theory.proofs.Lists.{isIn-head}
+use Rattle.theory.proofs.ColumnRule.{good-column, good-columns}
 use Rattle.mesh.specs.Lent.{ListWithin}
-use Rattle.layout.proofs.ColumnRule.{good-column, good-columns, column-within}
+use Rattle.mesh.proofs.Lists.{good-starts-within}
 use Rattle.layout.proofs.Asked.{GoodLayout, layout-fault, position-fault, no-question-fault, good-question}
 
 -- a column of a layout without a fault lies within the rows, and ascends
 module _ (n : ℕ) (columnStarts rows : List ℕ) (g : GoodLayout n columnStarts rows) (j : ℕ) (lt : j < n) where
   pub good-within : ListWithin columnStarts rows j
-  good-within = column-within n columnStarts rows (g .starts) (g .last) j lt
+  good-within = good-starts-within n columnStarts rows (g .starts) (g .last) j lt
 
   pub good-ascends : ascending (listAt columnStarts rows j) ≡ true
   good-ascends = good-column n j (listAt columnStarts rows j) (good-columns n columnStarts rows (g .columns) j lt) .0

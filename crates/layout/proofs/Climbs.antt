@@ -13,7 +13,7 @@ use Rattle.plan.specs.Lists.{keep, upFrom, below, written}
 use Rattle.plan.specs.Mesh.{Mesh}
 use Rattle.theory.specs.Rows.{isRow, firstRow}
 use Rattle.theory.proofs.Bools.{and-left, and-right, tested, cond-true, cond-false, lt-or-le}
-use Rattle.theory.proofs.Lists.{isIn-none, of-keep, exists-isIn}
+use Rattle.theory.proofs.Lists.{isIn-none, of-keep, keep-append, exists-isIn}
 use Rattle.theory.proofs.Ranges.{isIn-upFrom, upFrom-add, upFrom-snoc}
 use Rattle.theory.proofs.Counting.{count-exists}
 use Rattle.theory.proofs.EliminationTree.{Above, self as above-self, parent as above-parent, first-later, parent-at-most}
@@ -21,15 +21,6 @@ use Rattle.layout.specs.Arrays.{none, Tree, Rising, markedBelow, Ancesto
 use Rattle.theory.proofs.Written.{written-push}
 
 -- ---- lists
-
--- what passes of two lists one behind the other
-keep-append : (p : ℕ → Bool) (xs ys : List ℕ) → keep p (xs ++ ys) ≡ keep p xs ++ keep p ys
-keep-append p [] ys = refl
-keep-append p (x ∷ xs) ys = go (p x) (keep-append p xs ys)
-  where
-    go : (b : Bool) → keep p (xs ++ ys) ≡ keep p xs ++ keep p ys → cond b (x ∷ keep p (xs ++ ys)) (keep p (xs ++ ys)) ≡ cond b (x ∷ keep p xs) (keep p xs) ++ keep p ys
-    go true e = ap (λ (l : List ℕ). x ∷ l) e
-    go false e = e
 
 -- a list of no length is empty
 no-length : (l : List ℕ) → length l ≤ 0 → l ≡ []

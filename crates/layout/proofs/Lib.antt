@@ -6,6 +6,6 @@ pub mod Children
 pub mod Grown
 pub mod Climbs
 pub mod Rows
-pub mod ColumnRule
+pub mod ColumnScan
 pub mod Asked
 pub mod Answered

@@ -9,7 +9,7 @@ use lib.ListN.{length, take, getD}
 use lib.Seq.{take-suc}
 use Rattle.plan.specs.Lists.{total, runningSums}
 use Rattle.plan.specs.Elimination.{multiplications}
-use Rattle.theory.proofs.Sums.{total-append}
+use Rattle.theory.proofs.Sums.{total-append, total-more}
 
 -- the multiplications of a column of c rows
 abbrev pub work : ℕ → ℕ
@@ -24,10 +24,6 @@ module _ (l : List ℕ) (j : ℕ) (h : j < length l) where
   take-more : take (j + 1) l ≡ take j l ++ (getD l j 0 ∷ [])
   take-more = rw add-one (take-suc l j 0 h)
 
-  -- in a total
-  pub total-more : total (take (j + 1) l) ≡ total (take j l) + getD l j 0
-  total-more = let t = total-append (take j l) (getD l j 0 ∷ []) in rw take-more (omega arith)
-
   -- in the multiplications
   pub multiplications-more : multiplications (take (j + 1) l) ≡ multiplications (take j l) + work (getD l j 0)
   unfolding multiplications
@@ -37,7 +33,7 @@ module _ (l : List ℕ) (j : ℕ) (h : j < length l) where
 
   -- in the running sums
   pub sums-more : runningSums 0 (take (j + 1) l) ≡ runningSums 0 (take j l) ++ (total (take (j + 1) l) ∷ [])
-  sums-more = rw (total-more, take-more) (rw zero-add at (snoc 0 (take j l) (getD l j 0)))
+  sums-more = rw (total-more l j h, take-more) (rw zero-add at (snoc 0 (take j l) (getD l j 0)))
     where
       snoc : (a : ℕ) (cs : List ℕ) (c : ℕ) → runningSums a (cs ++ (c ∷ [])) ≡ runningSums a cs ++ ((a + (total cs + c)) ∷ [])
       snoc a [] c = let z : a + (0 + c) ≡ a + c = omega arith in rw z

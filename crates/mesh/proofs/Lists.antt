@@ -7,10 +7,10 @@ use native.Mathlib.Omega.{arith}
 use lib.ListN.{length, drop, getD, length-drop}
 use lib.Seq.{length-take-le}
 use Rattle.plan.specs.Lists.{listAt}
-use Rattle.plan.specs.Mesh.{Mesh, neighboursOf, adjacent, badMeshStarts}
+use Rattle.plan.specs.Mesh.{Mesh, neighboursOf, adjacent, badStarts, badMeshStarts}
 use Rattle.theory.specs.Checked.{Starts, Checked}
 use Rattle.theory.proofs.Ascending.{falls-getD}
-use Rattle.theory.proofs.Checked.{mesh-starts}
+use Rattle.theory.proofs.Checked.{good-starts, mesh-starts}
 use Rattle.theory.proofs.Lists.{isIn-getD}
 use Rattle.mesh.specs.Lent.{ListWithin}
 
@@ -22,6 +22,10 @@ starts-within n starts entries s last v lt =
       ordered = falls-getD starts (s .rising) v (v + 1) (omega arith) (omega (arith, s .many));
       ended = omega (arith, last, falls-getD starts (s .rising) (v + 1) n (omega arith) (omega (arith, s .many)));
     }
+
+-- and by starts without a fault
+pub good-starts-within : (n : ℕ) (starts entries : List ℕ) → badStarts n starts ≡ false → getD starts n 0 ≤ length entries → (v : ℕ) → v < n → ListWithin starts entries v
+good-starts-within n starts entries h = starts-within n starts entries (good-starts n starts h)
 
 -- a list that lies within them is as long as its two starts say
 pub list-long : (starts entries : List ℕ) (v : ℕ) → ListWithin starts entries v → length (listAt starts entries v) ≡ getD starts (v + 1) 0 - getD starts v 0

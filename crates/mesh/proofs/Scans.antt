@@ -7,9 +7,10 @@ use Prim.Native.Nat.{ℕ, zero, suc, _+_, _-_, _≤_, _<_}
 use native.Mathlib.Omega.{arith}
 use lib.Dec.{ltb}
 use lib.ListN.{length, getD}
-use Rattle.plan.specs.Lists.{exists, upFrom, below, isIn, ascending, falls}
-use Rattle.theory.proofs.Bools.{eq-or-ne}
-use Rattle.theory.proofs.Lists.{isIn-exists, exists-none, none-exists, isIn-getD}
+use borrow.Author.Tests.{not-false}
+use Rattle.plan.specs.Lists.{exists, every, upFrom, below, isIn, ascending, falls}
+use Rattle.theory.proofs.Bools.{clash, refuted, eq-or-ne}
+use Rattle.theory.proofs.Lists.{every-isIn, isIn-every, isIn-exists, exists-none, none-exists, isIn-getD}
 use Rattle.theory.proofs.Ranges.{isIn-below, below-isIn}
 
 -- no place below i passes
@@ -59,6 +60,18 @@ module _ (p : ℕ → Bool) (l : List ℕ) where
   -- all were tried
   pub none-in : (i : ℕ) → length l ≤ i → Clear (elementAt p l) i → exists p l ≡ false
   none-in i le h = elements p l ∙ none-below (elementAt p l) (length l) i le h
+
+  -- an element that fails
+  pub one-fails : (i : ℕ) → i < length l → elementAt p l i ≡ false → every p l ≡ false
+  one-fails i lt f = refuted (every p l) (λ h. clash (elementAt p l i) (every-isIn p l h (getD l i 0) (isIn-getD l i 0 lt)) f)
+
+-- whether x fails
+abbrev pub fails : (ℕ → Bool) → ℕ → Bool
+fails p x = not (p x)
+
+-- all were tried, and none fails
+pub none-fails : (p : ℕ → Bool) (l : List ℕ) (i : ℕ) → length l ≤ i → Clear (elementAt (fails p) l) i → every p l ≡ true
+none-fails p l i le h = isIn-every p l (λ x m. not-false (p x) (exists-none (fails p) l (none-in (fails p) l i le h) x m))
 
 -- ---- the pairs of an element and the one before it
 

@@ -1,42 +1,29 @@
 -- Climbing from a part to its ancestors, where the parents have passed check 16: each step goes to a later part, or behind them all.
 use mathlib.Core.Path.{_≡_, sym, ap, _∙_}
 use mathlib.Core.Logic.{_≢_, inl, inr}
-use mathlib.Core.Bool.{true, false, _&&_}
+use mathlib.Core.Bool.{true, false}
 use mathlib.Core.List.{List}
 use Prim.Native.Nat.{ℕ, _≤_, _<_}
 use native.Mathlib.Omega.{arith}
-use lib.Dec.{eqb, ltb}
-use lib.ListN.{length, getD, List·getD-eq-default}
-use borrow.Author.Tests.{eqb-true, ltb-true, eq-eqb, ne-eqb}
+use lib.Dec.{eqb}
+use lib.ListN.{length, getD}
+use borrow.Author.Tests.{eq-eqb, ne-eqb}
 use Rattle.plan.specs.Mesh.{noParent}
 use Rattle.plan.specs.Parts.{parentOf, atOrAbove}
-use Rattle.plan.specs.File.{mayBeParent}
-use Rattle.theory.proofs.Bools.{or-cases, and-left, and-right, refuted, iff-eq, eq-or-ne, lt-or-le}
+use Rattle.theory.proofs.Bools.{refuted, iff-eq, eq-or-ne}
 use Rattle.theory.proofs.Lists.{getD-default}
 use Rattle.theory.proofs.PartAncestors.{Under, here, up, under-trans, under-of-test, under-le, under-chain, test-of-under}
+use Rattle.theory.proofs.PartChecks.{parent-is}
 use Rattle.planfile.specs.Supplied.{Parents}
 
 module _ (parents : List ℕ) (passed : Parents parents) where
-  -- a part's parent, where it has one, is a later part, and one of them
-  parent-is : (q : ℕ) → parentOf parents q ≢ noParent → (q < parentOf parents q) × (parentOf parents q < length parents)
-  unfolding parentOf mayBeParent
-  parent-is q has = elim (lt-or-le q (length parents)) [
-    | inl l ↦
-        let r : ℕ = parentOf parents q in
-        let may : mayBeParent (length parents) q r ≡ true = ap (mayBeParent (length parents) q) (getD-default parents q noParent 0 l) ∙ passed .good q l in
-        elim (or-cases (eqb r noParent) (ltb q r && ltb r (length parents)) may) [
-          | inl e ↦ absurd (has (eqb-true r noParent e))
-          | inr t ↦ (ltb-true q r (and-left (ltb q r) _ t), ltb-true r (length parents) (and-right (ltb q r) _ t))
-        ]
-    | inr l ↦ absurd (has (List·getD-eq-default parents noParent l))
-  ]
-
-  -- in the form that the laws of ancestors ask for
+  -- a part's parent, where it has one, is a later part
   later : (q : ℕ) → parentOf parents q ≢ noParent → q < parentOf parents q
-  later q has = parent-is q has .0
+  later q has = parent-is parents (passed .good) q has .0
 
+  -- and one of them
   known : (q : ℕ) → parentOf parents q ≢ noParent → parentOf parents q < length parents
-  known q has = parent-is q has .1
+  known q has = parent-is parents (passed .good) q has .1
 
   -- the test, of the relation
   above-test : (q to : ℕ) → Under parents q to → atOrAbove parents q to ≡ true

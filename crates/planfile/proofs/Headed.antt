@@ -4,43 +4,32 @@ use mathlib.Core.Bool.{true, false}
 use mathlib.Core.List.{List, []}
 use Prim.Native.Nat.{ℕ, _+_, _-_, _*_, _/_, _≤_, _<_}
 use native.Mathlib.Omega.{arith}
-use lib.Dec.{eqb}
 use lib.ListN.{length, getD, take, drop, length-drop}
 use lib.Seq.{take-all}
-use borrow.Author.Tests.{eqb-true, eq-eqb, ne-eqb, not-false}
+use borrow.Author.Tests.{eq-eqb, ne-eqb, not-false}
 use Rattle.plan.specs.Lists.{eachOnce, written, runningSums}
 use Rattle.plan.specs.Refusals.{firstFault}
 use Rattle.plan.specs.Mesh.{badStarts}
 use Rattle.plan.specs.Dissection.{positions}
 use Rattle.plan.specs.Planning.{Contents}
-use Rattle.plan.specs.File.{decode16s, lengthAt, fileLength, parseAt, parse, badHeader, badOrder, badParts, badColumns, badRows, notNested, notCovered, contentsChecks}
-use Rattle.plan.specs.Reading.{tooFewBytes, badMagic, badVersion, badLength, headerChecks}
+use Rattle.plan.specs.File.{decode16s, lengthAt, fileLength, parseAt, parse, badOrder, badColumns, badRows, notNested, notCovered, contentsChecks}
+use Rattle.plan.specs.Reading.{headerChecks}
 use Rattle.theory.specs.Counting.{Order}
-use Rattle.theory.proofs.Refusals.{no-fault, first-some}
+use Rattle.theory.proofs.Refusals.{no-fault}
 use Rattle.theory.proofs.Orders.{passes-order}
-use Rattle.theory.proofs.Compressed.{sums-length, sums-starts}
+use Rattle.theory.proofs.Compressed.{sums-starts}
 use Rattle.theory.proofs.Coding.{decode16s-length, decode16s-drop}
-use Rattle.theory.proofs.Fitting.{Limits, header-limits, few-slots}
-use Rattle.theory.proofs.RoundTrips.{read-whole}
-use Rattle.planfile.specs.Supplied.{orderAndParts, orderChecks, partsAndRows, Parted, Started, rowsIn, countsIn, Headed}
+use Rattle.theory.proofs.Fitting.{Limits, header-limits, counts-few}
+use Rattle.theory.proofs.RoundTrips.{Header, header-says, read-whole}
+use Rattle.planfile.specs.Supplied.{orderAndParts, orderChecks, partsAndRows, Exact, Parted, Started, rowsIn, countsIn, Headed}
+use Rattle.planfile.proofs.Passing.{order-checks, exact-whole, exact-few, passed-parted}
 
 -- ---- the counts and the length
-
--- 13 and 14 by themselves
-header-says : (bytes : List ℕ) → firstFault (headerChecks bytes) ≡ 0 → (badHeader (parse bytes) ≡ false) × (length bytes ≡ fileLength (parse bytes))
-unfolding headerChecks badLength
-header-says bytes h =
-    let c10 = no-fault 10 (tooFewBytes bytes) _ (omega arith) h in
-    let c11 = no-fault 11 (badMagic bytes) _ (omega arith) (c10 .1) in
-    let c12 = no-fault 12 (badVersion bytes) _ (omega arith) (c11 .1) in
-    let c13 = no-fault 13 (badHeader (parse bytes)) _ (omega arith) (c12 .1) in
-    let c14 = no-fault 14 (badLength bytes) _ (omega arith) (c13 .1) in
-    (c13 .0, eqb-true (length bytes) (fileLength (parse bytes)) (not-false (eqb (length bytes) (fileLength (parse bytes))) (c14 .0)))
 
 -- such a file has a header
 pub header-long : (bytes : List ℕ) → firstFault (headerChecks bytes) ≡ 0 → 17 ≤ length bytes
 unfolding fileLength lengthAt
-header-long bytes h = omega (arith, header-says bytes h .1)
+header-long bytes h = omega (arith, header-says bytes h .long)
 
 -- what 13 and 14 say of n, p and s
 pub record Sizes (bytes : List ℕ) (n p s : ℕ) : Type 0 where
@@ -58,13 +47,13 @@ module _ (bytes : List ℕ) (n p s : ℕ) (h : Headed bytes n p s) where
   pub headed-sizes : Sizes bytes n p s
   unfolding fileLength lengthAt
   headed-sizes =
-      let says = header-says bytes (h .good) in
-      let limits : Limits (parse bytes) = header-limits (parse bytes) (says .0) in
+      let says : Header bytes = header-says bytes (h .good) in
+      let limits : Limits (parse bytes) = header-limits (parse bytes) (says .good) in
       record {
         few = omega (arith, h .nodes, limits .nodesFew);
         parts = omega (arith, h .nodes, h .parts, limits .partsFew);
-        slots = omega (arith, h .slots, few-slots (parse bytes) limits);
-        long = omega (arith, h .nodes, h .parts, h .slots, says .1);
+        slots = omega (arith, h .slots, counts-few (parse bytes) (says .good));
+        long = omega (arith, h .nodes, h .parts, h .slots, says .long);
       }
 
   -- ---- the fields
@@ -110,7 +99,7 @@ module _ (bytes : List ℕ) (n p s : ℕ) (h : Headed bytes n p s) where
   counts-many = decode16s-length bytes _ 2 _ ∙ sym (h .nodes)
 
   pub starts-many : length (parse bytes .columnStarts) ≡ n + 1
-  starts-many = rw starts-field (omega (arith, sums-length 0 (countsIn bytes), counts-many))
+  starts-many = read-whole bytes .columnStarts ∙ ap (λ (k : ℕ). k + 1) (sym (h .nodes))
 
   rows-many : length (parse bytes .rows) ≡ s
   rows-many = read-whole bytes .rows ∙ sym (h .slots)
@@ -133,6 +122,10 @@ module _ (bytes : List ℕ) (n p s : ℕ) (h : Headed bytes n p s) where
   abbrev file : Contents
   file = parse bytes
 
+  -- it has passed 13, and each list in it is as long as its count says
+  exact : Exact file
+  exact = exact-whole file (header-says bytes (h .good) .good) (read-whole bytes)
+
   -- an order that passed 15 can be inverted
   pub order-inverts : (nodes : List ℕ) → nodes ≡ file .order → firstFault (contentsChecks file) ≡ 0 → Order (length nodes) nodes × (length nodes ≡ n)
   unfolding contentsChecks badOrder
@@ -149,34 +142,15 @@ module _ (bytes : List ℕ) (n p s : ℕ) (h : Headed bytes n p s) where
       (own : (order ≡ file .order) × (sizes ≡ file .sizes) × (parents ≡ file .parents) × (columnStarts ≡ file .columnStarts)) where
     -- no list of the order and the parts is longer than 4,096
     pub order-few : (length order ≤ 4096) × (length sizes ≤ 4096) × (length parents ≡ length sizes)
-    order-few = rw (own .0, own .1, own .2) (
-      omega (arith, order-many, headed-sizes .few),
-      omega (arith, sizes-many, headed-sizes .parts, headed-sizes .few),
-      parents-many ∙ sym sizes-many,
-    )
+    order-few = rw (own .0, own .1, own .2) (exact-few file exact)
 
     -- 15 and 16 look at the order and the parts
-    order-checked : firstFault (orderChecks (orderAndParts (length order) order sizes parents)) ≡ firstFault (orderChecks file)
-    unfolding badOrder badParts
-    order-checked = rw (own .0, own .1, own .2, read-whole bytes .order, read-whole bytes .sizes)
-
-    -- what they refuse is refused
-    pub order-refused : (k : ℕ) → k ≡ firstFault (orderChecks (orderAndParts (length order) order sizes parents)) → (k ≡ 0 → ⊥) → k ≡ firstFault (contentsChecks file)
-    unfolding contentsChecks
-    order-refused k e some =
-        let f : k ≡ firstFault (orderChecks file) = e ∙ order-checked in
-        f ∙ sym (first-some (orderChecks file) _ (λ z. some (f ∙ z)))
-
-    -- and else neither finds a fault
-    pub order-passed : firstFault (orderChecks (orderAndParts (length order) order sizes parents)) ≡ 0 → (badOrder file ≡ false) × (badParts file ≡ false)
-    order-passed e =
-        let c15 = no-fault 15 (badOrder file) _ (omega arith) (sym order-checked ∙ e) in
-        (c15 .0, no-fault 16 (badParts file) [] (omega arith) (c15 .1) .0)
+    pub file-ordered : firstFault (orderChecks (orderAndParts (length order) order sizes parents)) ≡ firstFault (orderChecks file)
+    file-ordered = rw (own .0, own .1, own .2) (order-checks file exact)
 
     -- the parts have passed 16
-    pub file-parted : badParts file ≡ false → Parted n sizes parents
-    unfolding badParts
-    file-parted good = record { few = headed-sizes .few; asMany = order-few .2; good = rw (own .1, own .2, read-whole bytes .sizes, h .nodes) good }
+    pub file-parted : firstFault (orderChecks file) ≡ 0 → Parted n sizes parents
+    file-parted ordered = rw (own .1, own .2, h .nodes) (passed-parted file exact ordered)
 
     -- a start for each column, and one more
     pub starts-long : length columnStarts ≡ n + 1

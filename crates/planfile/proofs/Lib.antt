@@ -1,7 +1,4 @@
-pub mod Counts
 pub mod Once
-pub mod Every
-pub mod Numbering
 pub mod Climbs
 pub mod Nesting
 pub mod Passing

@@ -1,32 +1,17 @@
--- A column of the rows in bytes: where it stands in them, and the buffer that it was read into.
+-- A column of the rows in bytes: where it stands in them, and read to the front of a buffer.
 use mathlib.Core.Path.{_≡_, sym, ap, _∙_}
-use mathlib.Core.Logic.{inl, inr}
-use mathlib.Core.Bool.{true}
 use mathlib.Core.List.{List}
-use Prim.Native.Nat.{ℕ, _+_, _-_, _*_, _/_, _≤_, _<_}
+use Prim.Native.Nat.{ℕ, _+_, _-_, _*_, _/_, _≤_}
 use native.Mathlib.Nat.{zero-add}
 use native.Mathlib.Omega.{arith}
-use lib.ListN.{length, take, drop, getD, length-take, length-drop}
-use lib.Seq.{take-all, getD-take}
+use lib.ListN.{length, take, getD}
 use Rattle.plan.specs.Lists.{written, listAt}
-use Rattle.plan.specs.File.{decode16s, badColumn}
-use Rattle.theory.proofs.Bools.{tested}
-use Rattle.theory.proofs.Segments.{segment-front}
+use Rattle.plan.specs.File.{decode16s}
 use Rattle.theory.proofs.Coding.{decode16s-length, decode16s-segment}
 use Rattle.theory.proofs.Written.{front-written}
 use Rattle.mesh.specs.Lent.{ListWithin}
 use Rattle.mesh.proofs.Lists.{list-long}
-use Rattle.layout.proofs.ColumnRule.{column-few}
 use Rattle.planfile.specs.Supplied.{rowsIn}
-
--- ---- a column
-
--- a column of n rows or more breaks 17's rule
-pub column-many : (n j : ℕ) (r : List ℕ) → j < n → n ≤ length r → badColumn n j r ≡ true
-column-many n j r lt many = elim (tested (badColumn n j r)) [
-  | inl t ↦ t
-  | inr good ↦ absurd (omega (arith, column-few n j r good))
-]
 
 module _ (starts bytes : List ℕ) (j : ℕ) (w : ListWithin starts (rowsIn bytes) j) where
   -- the column's bytes end within them
@@ -51,24 +36,3 @@ module _ (starts bytes : List ℕ) (j : ℕ) (w : ListWithin starts (rowsIn byte
     front-written k (decode16s bytes (2 * a) 2 k) found left e (decode16s-length bytes (2 * a) 2 k)
         ∙ rw (ea, ek) (sym column-decoded),
   )
-
--- ---- a buffer that holds k numbers at its front
-
-module _ (k : ℕ) (numbers buffer : List ℕ) (many : k ≡ length numbers) (front : take k buffer ≡ numbers) where
-  -- it is at least k long
-  pub front-within : k ≤ length buffer
-  front-within = omega (arith, many, ap length front, length-take k buffer)
-
-  -- and k entries stand at its front
-  pub front-long : k ≡ length (take k buffer)
-  front-long = many ∙ sym (ap length front)
-
-  -- its entries are the numbers
-  pub front-entry : (i : ℕ) → i < k → getD buffer i 0 ≡ getD numbers i 0
-  front-entry i lt = sym (getD-take k buffer i 0 lt) ∙ ap (λ (l : List ℕ). getD l i 0) front
-
-  -- those behind the first too
-  pub front-others : 1 ≤ k → take (k - 1) (drop 1 buffer) ≡ drop 1 numbers
-  front-others some =
-      segment-front buffer numbers 1 k k some (omega arith) (front ∙ sym (take-all k numbers (omega (arith, many))))
-      ∙ take-all (k - 1) (drop 1 numbers) (omega (arith, many, length-drop 1 numbers))

@@ -1,37 +1,23 @@
 -- What checks 18 and 19 start from: parts that passed check 16, a layout that passed check 17, and the two rules for the rows of one column.
-use mathlib.Core.Path.{_≡_, refl, ap, _∙_}
-use mathlib.Core.Bool.{Bool, true, false, not, _||_}
+use mathlib.Core.Path.{_≡_, refl}
+use mathlib.Core.Bool.{true, false, not}
 use mathlib.Core.List.{List, [], _∷_}
 use Prim.Native.Nat.{ℕ, _≤_, _<_}
 use native.Mathlib.Omega.{arith}
-use lib.Dec.{eqb}
 use lib.ListN.{length, getD, drop}
-use borrow.Author.Tests.{eqb-false, not-false}
-use Rattle.plan.specs.Lists.{exists, every, below, isIn, listAt, ascending, total}
+use Rattle.plan.specs.Lists.{every, isIn, listAt, ascending, total}
 use Rattle.plan.specs.Parts.{partOf, atOrAbove}
-use Rattle.plan.specs.File.{mayBeParent, badParts, badColumn, outsideAncestors, covered}
+use Rattle.plan.specs.File.{badColumn, outsideAncestors, covered}
 use Rattle.theory.specs.PartTree.{PartTree}
-use Rattle.theory.proofs.Bools.{or-false-left, or-false-right}
-use Rattle.theory.proofs.Lists.{isIn-head, isIn-tail, isIn-getD, exists-none}
-use Rattle.theory.proofs.Ranges.{below-isIn}
+use Rattle.theory.proofs.Lists.{exists-ext, isIn-getD}
+use Rattle.theory.proofs.Sums.{positive-few}
 use Rattle.theory.proofs.Ascending.{ascending-tail}
+use Rattle.theory.proofs.ColumnRule.{good-column, column-few, good-columns}
 use Rattle.theory.proofs.PartOf.{part-mono, part-lt}
-use Rattle.theory.proofs.PartChecks.{passes-tree}
+use Rattle.theory.proofs.PartChecks.{parents-may, passes-tree}
 use Rattle.mesh.specs.Lent.{ListWithin}
-use Rattle.layout.proofs.ColumnRule.{good-column, good-columns, column-few, column-within}
-use Rattle.planfile.specs.Supplied.{orderAndParts, Parted, Parents, PartNumbers, outside, LaidOut}
-
--- ---- lists
-
--- numbers above 0 are no more than their sum
-some-each : (l : List ℕ) → isIn 0 l ≡ false → length l ≤ total l
-some-each [] h = omega arith
-some-each (x ∷ l) h = omega (arith, eqb-false 0 x (or-false-left (eqb 0 x) _ h), some-each l (or-false-right (eqb 0 x) _ h))
-
--- two tests that agree on a list's elements
-exists-where : (p q : ℕ → Bool) (l : List ℕ) → ((x : ℕ) → isIn x l ≡ true → p x ≡ q x) → exists p l ≡ exists q l
-exists-where p q [] h = refl
-exists-where p q (x ∷ l) h = rw (h x (isIn-head x l), exists-where p q l (λ y m. h y (isIn-tail y x l m)))
+use Rattle.mesh.proofs.Lists.{good-starts-within}
+use Rattle.planfile.specs.Supplied.{orderAndParts, Parted, Parents, PartNumbers, outside, Started, LaidOut}
 
 -- ---- parts that passed check 16
 
@@ -45,27 +31,16 @@ parted-total n sizes parents h = parted-tree n sizes parents h .whole
 
 -- they are no more than positions
 pub parted-few : (n : ℕ) (sizes parents : List ℕ) → Parted n sizes parents → length sizes ≤ n
-unfolding badParts
 parted-few n sizes parents h =
-    let whole : Bool = eqb (total sizes) n in
-    let none : isIn 0 sizes ≡ false = or-false-left (isIn 0 sizes) (not whole) (or-false-left (isIn 0 sizes || not whole) _ (h .good)) in
-    omega (arith, some-each sizes none, parted-total n sizes parents h)
-
--- each parent is none or a later part
-parted-parent : (n : ℕ) (sizes parents : List ℕ) → Parted n sizes parents → (q : ℕ) → q < length parents → mayBeParent (length parents) q (getD parents q 0) ≡ true
-unfolding badParts
-parted-parent n sizes parents h q lt =
-    let bad : ℕ → Bool = λ q. not (mayBeParent (length sizes) q (getD parents q 0)) in
-    let none : exists bad (below (length sizes)) ≡ false = or-false-right (isIn 0 sizes || not (eqb (total sizes) n)) _ (h .good) in
-    ap (λ (k : ℕ). mayBeParent k q (getD parents q 0)) (h .asMany)
-    ∙ not-false _ (exists-none bad (below (length sizes)) none q (below-isIn (length sizes) q (omega (arith, h .asMany))))
+    let t : PartTree n sizes parents = parted-tree n sizes parents h in
+    omega (arith, positive-few sizes (t .positive), t .whole)
 
 -- so the parents have passed check 16
 pub parted-parents : (n : ℕ) (sizes parents : List ℕ) → Parted n sizes parents → Parents parents
 parted-parents n sizes parents h =
     record {
       few = omega (arith, h .few, h .asMany, parted-few n sizes parents h);
-      good = parted-parent n sizes parents h;
+      good = parents-may (orderAndParts n [] sizes parents) (h .good) (h .asMany);
     }
 
 module _ (n : ℕ) (sizes parents numbers : List ℕ) (h : Parted n sizes parents) (said : (i : ℕ) → i < total sizes → getD numbers i 0 ≡ partOf sizes i) where
@@ -86,15 +61,20 @@ module _ (n : ℕ) (sizes parents numbers : List ℕ) (h : Parted n sizes parent
   pub outside-is : (j : ℕ) (r : List ℕ) → j < n → ((i : ℕ) → isIn i r ≡ true → i < n) → outside numbers parents j r ≡ outsideAncestors sizes parents j r
   unfolding outsideAncestors
   outside-is j r lt rows =
-      exists-where (λ i. not (atOrAbove parents (getD numbers j 0) (getD numbers i 0))) (λ i. not (atOrAbove parents (partOf sizes j) (partOf sizes i))) r
+      exists-ext (λ i. not (atOrAbove parents (getD numbers j 0) (getD numbers i 0))) (λ i. not (atOrAbove parents (partOf sizes j) (partOf sizes i))) r
       (λ i m. rw (number-is j lt, number-is i (rows i m)))
 
--- ---- a layout that passed check 17
+-- ---- a layout
 
+-- where its starts have no fault, each column lies within the rows
+pub started-within : (n : ℕ) (columnStarts rows : List ℕ) → Started n columnStarts rows → (j : ℕ) → j < n → ListWithin columnStarts rows j
+started-within n columnStarts rows h = good-starts-within n columnStarts rows (h .starts) (omega (arith, h .last))
+
+-- and one that passed check 17
 module _ (n : ℕ) (columnStarts rows : List ℕ) (h : LaidOut n columnStarts rows) (j : ℕ) (lt : j < n) where
   -- a column lies within the rows
   pub laid-within : ListWithin columnStarts rows j
-  laid-within = column-within n columnStarts rows (h .started .starts) (omega (arith, h .started .last)) j lt
+  laid-within = started-within n columnStarts rows (h .started) j lt
 
   -- keeps 17's rule
   pub laid-good : badColumn n j (listAt columnStarts rows j) ≡ false

@@ -1,59 +1,19 @@
 -- An order tried entry by entry, with a mark for each node met: it holds each node once where no entry lies outside and none is met again.
-use mathlib.Core.Path.{_≡_, refl, sym, ap, _∙_}
+use mathlib.Core.Path.{_≡_, refl, ap}
 use mathlib.Core.Logic.{_≢_, inl, inr}
-use mathlib.Core.Bool.{true, not, _&&_}
-use mathlib.Core.List.{List, map}
-use Prim.Native.Nat.{ℕ, zero, suc, _+_, _*_, _≤_, _<_}
+use mathlib.Core.Bool.{true, not}
+use mathlib.Core.List.{List}
+use Prim.Native.Nat.{ℕ, _+_, _≤_, _<_}
 use native.Mathlib.Omega.{arith}
-use lib.Dec.{eqb, ltb}
+use lib.Dec.{eqb}
 use lib.ListN.{length, getD, take, set, length-set}
 use lib.Seq.{getD-set-same, getD-set-other, take-all}
-use borrow.Author.Tests.{eq-eqb, ne-eqb, lt-ltb}
-use Rattle.plan.specs.Lists.{upFrom, below, isIn, occurrences, eachOnce, indexOf, total}
-use Rattle.theory.proofs.Bools.{and-both, refuted, eq-or-ne}
-use Rattle.theory.proofs.Lists.{isIn-every, getD-indexOf, indexOf-lt}
-use Rattle.theory.proofs.Ranges.{isIn-below}
-use Rattle.theory.proofs.Counting.{unit, count-more, count-front, count-all, count-ext, count-once, count-values}
-use Rattle.theory.proofs.Orders.{order-inside, passes-order}
-
--- ---- numbers of which none is above 1
-
-module _ (f : ℕ → ℕ) where
-  -- their sum is at most how many they are
-  total-few : (k a : ℕ) → ((v : ℕ) → a ≤ v → v < a + k → f v ≤ 1) → total (map f (upFrom a k)) ≤ k
-  total-few zero a h = omega arith
-  total-few (suc k) a h = omega (arith, h a (omega arith) (omega arith), total-few k (suc a) (λ v l m. h v (omega arith) (omega arith)))
-
-  -- and it is less where any of them is 0
-  total-less : (k a : ℕ) → ((v : ℕ) → a ≤ v → v < a + k → f v ≤ 1) → (v : ℕ) → a ≤ v → v < a + k → total (map f (upFrom a k)) < f v + k
-  total-less zero a h v l m = absurd (omega arith)
-  total-less (suc k) a h v l m =
-      let later : (w : ℕ) → suc a ≤ w → w < suc a + k → f w ≤ 1 = λ w l m. h w (omega arith) (omega arith) in
-      elim (eq-or-ne v a) [
-        | inl e ↦ omega (arith, ap f e, total-few k (suc a) later)
-        | inr e ↦ omega (arith, e, h a (omega arith) (omega arith), total-less k (suc a) later v (omega arith) (omega arith))
-      ]
-
--- ---- a list that holds each number below its length
-
--- no number twice, and none outside: each number once
-pub once-each : (l : List ℕ) → ((x : ℕ) → isIn x l ≡ true → x < length l) → ((v : ℕ) → v < length l → occurrences v l ≤ 1) → eachOnce (length l) l ≡ true
-unfolding eachOnce
-once-each l inside few = and-both (eqb n n) _ (eq-eqb n n refl) (isIn-every (λ v. eqb (occurrences v l) 1) (below n) (λ v m. eq-eqb (occurrences v l) 1 (one v (isIn-below n v m))))
-  where
-    n : ℕ
-    n = length l
-
-    f : ℕ → ℕ
-    f v = 1 * occurrences v l
-
-    full : total (map f (below n)) ≡ n
-    full = sym (count-values (λ x. true) n l) ∙ count-ext (λ x. true && ltb x n) (λ x. true) l (λ x m. lt-ltb x n (inside x m)) ∙ count-all l
-
-    one : (v : ℕ) → v < n → occurrences v l ≡ 1
-    one v lt = omega (arith, few v lt, full, total-less f n 0 (λ v l m. omega (arith, few v (omega arith))) v (omega arith) (omega arith))
-
--- ---- the marks
+use borrow.Author.Tests.{eq-eqb, ne-eqb}
+use Rattle.plan.specs.Lists.{occurrences, eachOnce, indexOf}
+use Rattle.theory.proofs.Bools.{refuted, eq-or-ne}
+use Rattle.theory.proofs.Lists.{getD-indexOf, indexOf-lt}
+use Rattle.theory.proofs.Counting.{unit, count-more, count-front, count-once}
+use Rattle.theory.proofs.Orders.{order-inside, passes-order, once-each}
 
 -- of the first i entries none lies outside and none stands twice; the mark of a node is 1 where it is among them, 0 elsewhere
 pub record Marked (order marks : List ℕ) (i : ℕ) : Type 0 where

@@ -1,20 +1,18 @@
--- Checks 15 to 19 of a plan: which is the first fault, what each check looks at, and what those passed tell the ones behind them.
+-- Checks 13 and 15 to 19 of a plan: which is the first fault, what each check looks at, and what those passed tell the ones behind them.
 use mathlib.Core.Path.{_≡_, refl, sym, _∙_}
-use mathlib.Core.Bool.{Bool, true, false, not, _||_}
+use mathlib.Core.Bool.{true, false}
 use mathlib.Core.List.{[], _∷_}
 use Prim.Native.Nat.{_≤_}
 use native.Mathlib.Omega.{arith}
-use lib.Dec.{eqb, ltb}
-use lib.ListN.{length, getD}
-use borrow.Author.Tests.{eqb-true, not-false}
+use lib.ListN.{length}
 use Rattle.plan.specs.Refusals.{Checks, firstFault}
-use Rattle.plan.specs.Mesh.{badNodeCount, badStarts}
+use Rattle.plan.specs.Mesh.{badNodeCount}
 use Rattle.plan.specs.Planning.{Contents}
-use Rattle.plan.specs.File.{badHeader, badOrder, badParts, badColumns, badRows, notNested, notCovered, contentsChecks}
-use Rattle.theory.proofs.Bools.{or-false-left, or-false-right}
+use Rattle.plan.specs.File.{badHeader, badOrder, badParts, badRows, notNested, notCovered, contentsChecks}
 use Rattle.theory.proofs.Refusals.{no-fault, first-some, first-none}
-use Rattle.theory.proofs.Fitting.{header-limits}
-use Rattle.planfile.specs.Supplied.{orderAndParts, orderChecks, partsAndRows, Exact, Parted, LaidOut}
+use Rattle.theory.proofs.FileFields.{Whole}
+use Rattle.theory.proofs.Fitting.{header-limits, counts-few, Rows, good-rows}
+use Rattle.planfile.specs.Supplied.{countsOnly, orderAndParts, orderChecks, partsAndRows, Exact, Parted, LaidOut}
 
 -- ---- the first fault
 
@@ -51,6 +49,11 @@ module _ (c : Contents) (ordered : firstFault (orderChecks c) ≡ 0) where
 
 -- ---- what a check looks at
 
+-- 13 at the counts
+pub header-counts : (c : Contents) → badHeader (countsOnly (c .nodes) (c .parts) (c .slots)) ≡ badHeader c
+unfolding badHeader
+header-counts c = refl
+
 -- 15 and 16 at the order and the parts
 pub order-checks : (c : Contents) → Exact c → firstFault (orderChecks (orderAndParts (length (c .order)) (c .order) (c .sizes) (c .parents))) ≡ firstFault (orderChecks c)
 unfolding badOrder badParts
@@ -73,21 +76,21 @@ covered-check c = refl
 
 -- ---- what a plan tells that passed a check
 
+-- 13, and lists as long as their counts
+pub exact-whole : (c : Contents) → badHeader c ≡ false → Whole c → Exact c
+exact-whole c header w =
+    record { header = header; order = w .order; sizes = w .sizes; parents = w .parents; columnStarts = w .columnStarts; rows = w .rows }
+
 module _ (c : Contents) (h : Exact c) where
   -- 13: n is 1 to 4,096
   pub exact-count : badNodeCount (c .nodes) ≡ false
-  unfolding badHeader
-  exact-count =
-      let bad : Bool = badNodeCount (c .nodes) in
-      let none : Bool = eqb (c .parts) 0 in
-      let many : Bool = ltb (c .nodes) (c .parts) in
-      or-false-left bad none (or-false-left (bad || none) many (or-false-left (bad || none || many) _ (h .header)))
+  exact-count = header-limits c (h .header) .count
 
   -- and so the order, the sizes and the parents are few
   pub exact-few : (length (c .order) ≤ 4096) × (length (c .sizes) ≤ 4096) × (length (c .parents) ≡ length (c .sizes))
   exact-few =
-      let l = header-limits c (h .header) in
-      (omega (arith, l .nodesFew, h .order), omega (arith, l .nodesFew, l .partsFew, h .sizes), h .parents ∙ sym (h .sizes))
+      let few = counts-few c (h .header) in
+      (omega (arith, few, h .order), omega (arith, few, h .sizes), h .parents ∙ sym (h .sizes))
 
   -- 15 and 16: the sizes and the parents are those of parts
   pub passed-parted : firstFault (orderChecks c) ≡ 0 → Parted (c .nodes) (c .sizes) (c .parents)
@@ -98,17 +101,6 @@ module _ (c : Contents) (h : Exact c) where
 
   -- 17: the rows are laid out
   pub passed-laid : badRows c ≡ false → LaidOut (c .nodes) (c .columnStarts) (c .rows)
-  unfolding badRows
   passed-laid good =
-      let starts : Bool = badStarts (c .nodes) (c .columnStarts) in
-      let ends : Bool = eqb (getD (c .columnStarts) (c .nodes) 0) (c .slots) in
-      let both : (starts || not ends) ≡ false = or-false-left (starts || not ends) _ good in
-      record {
-        started =
-            record {
-              few = header-limits c (h .header) .nodesFew;
-              starts = or-false-left starts (not ends) both;
-              last = eqb-true (getD (c .columnStarts) (c .nodes) 0) (c .slots) (not-false ends (or-false-right starts (not ends) both)) ∙ sym (h .rows);
-            };
-        good = or-false-right (starts || not ends) (badColumns (c .nodes) (c .columnStarts) (c .rows)) good;
-      }
+      let r : Rows c = good-rows c good in
+      record { started = record { few = header-limits c (h .header) .nodesFew; starts = r .starts; last = r .last ∙ sym (h .rows) }; good = r .columns }

@@ -1,30 +1,31 @@
 -- What the writer's checks say of the slices as lent, and the answers that agree with them.
 use mathlib.Core.Path.{_≡_, refl, sym, ap, subst, _∙_}
-use mathlib.Core.Bool.{Bool, true, false, _||_}
+use mathlib.Core.Bool.{true, false}
 use mathlib.Core.List.{List, [], _∷_}
 use Prim.Native.Nat.{ℕ, zero, suc, _+_, _-_, _≤_, _<_}
 use native.Mathlib.Omega.{arith}
-use lib.Dec.{ltb}
 use lib.ListN.{length, getD, take}
-use lib.Seq.{length-take-le, take-all}
-use borrow.Author.Tests.{ltb-false, lt-ltb, le-ltb}
+use lib.Seq.{take-all}
+use borrow.Author.Tests.{lt-ltb, le-ltb}
 use Rattle.plan.specs.declared.WriteAnswer.{WriteAnswer}
 use Rattle.plan.specs.declared.WriteAnswer.the-variants.{Written, Refused}
 use Rattle.plan.specs.Lists.{written}
 use Rattle.plan.specs.Refusals.{firstFault}
 use Rattle.plan.specs.Answers.{refused}
 use Rattle.plan.specs.Planning.{Contents, rowCounts}
-use Rattle.plan.specs.File.{fileLength, encode, badHeader, contentsChecks}
+use Rattle.plan.specs.File.{fileLength, encode, contentsChecks}
 use Rattle.plan.specs.Writing.{badSupply, used, suppliedChecks, outputTooShort, writeChecks, WriteOutcome, writeOut, writing, Wrote}
 use Rattle.plan.specs.RoundTrips.{Sound}
-use Rattle.theory.proofs.Bools.{or-false-left, or-false-right}
 use Rattle.theory.proofs.Lists.{isIn-getD}
 use Rattle.theory.proofs.Ranges.{getD-map-below}
+use Rattle.theory.proofs.Checked.{good-starts}
 use Rattle.theory.proofs.Refusals.{fault-here, fault-later, first-nil, first-some}
 use Rattle.theory.proofs.Compressed.{start-next}
 use Rattle.theory.proofs.FileFields.{counts-length}
 use Rattle.theory.proofs.Fitting.{passes-sound, sound-passes, good-rows, sound-fits}
+use Rattle.theory.proofs.RoundTrips.{used-long, supply-says}
 use Rattle.planfile.specs.Supplied.{supplied, Exact, Narrow, lateChecks, WroteExact}
+use Rattle.planfile.proofs.Passing.{exact-whole}
 
 -- ---- slices that are as long as their counts say
 
@@ -39,40 +40,9 @@ used-exact c x = rw (
   take-all (c .slots) (c .rows) (omega (arith, x .rows)),
 )
 
--- the counts are those of the used entries: 13 looks at them, and the file's length comes from them
-same-header : (c : Contents) → badHeader (used c) ≡ badHeader c
-unfolding used badHeader
-same-header c = refl
-
-same-long : (c : Contents) → fileLength (used c) ≡ fileLength c
-unfolding used fileLength
-same-long c = refl
-
 -- 13 of slices as lent: their used entries are as many as the counts say
 pub exact-used : (c : Contents) → badSupply c ≡ false → Exact (used c)
-unfolding badSupply used
-exact-used c h =
-    let bad : Bool = badHeader c in
-    let order : Bool = ltb (length (c .order)) (c .nodes) in
-    let sizes : Bool = ltb (length (c .sizes)) (c .parts) in
-    let parents : Bool = ltb (length (c .parents)) (c .parts) in
-    let starts : Bool = ltb (length (c .columnStarts)) (c .nodes + 1) in
-    let rows : Bool = ltb (length (c .rows)) (c .slots) in
-    let five : (bad || order || sizes || parents || starts) ≡ false = or-false-left (bad || order || sizes || parents || starts) rows h in
-    let four : (bad || order || sizes || parents) ≡ false = or-false-left (bad || order || sizes || parents) starts five in
-    let three : (bad || order || sizes) ≡ false = or-false-left (bad || order || sizes) parents four in
-    let two : (bad || order) ≡ false = or-false-left (bad || order) sizes three in
-    record {
-      header = same-header c ∙ or-false-left bad order two;
-      order = enough (c .nodes) (c .order) (or-false-right bad order two);
-      sizes = enough (c .parts) (c .sizes) (or-false-right (bad || order) sizes three);
-      parents = enough (c .parts) (c .parents) (or-false-right (bad || order || sizes) parents four);
-      columnStarts = enough (c .nodes + 1) (c .columnStarts) (or-false-right (bad || order || sizes || parents) starts five);
-      rows = enough (c .slots) (c .rows) (or-false-right (bad || order || sizes || parents || starts) rows h);
-    }
-  where
-    enough : (k : ℕ) (l : List ℕ) → ltb (length l) k ≡ false → length (take k l) ≡ k
-    enough k l e = length-take-le k l (ltb-false (length l) k e)
+exact-used c h = let says = supply-says c h in exact-whole (used c) (says .0) (says .1)
 
 -- the slices' fronts by themselves, with their lengths as the counts
 abbrev pub fronts : Contents → Contents
@@ -99,7 +69,7 @@ passes-narrow c x h =
     let count : ℕ → ℕ = λ j. getD starts (j + 1) 0 - getD starts j 0 in
     let fits = sound-fits c sound (x .sizes) (x .parents) (x .rows) in
     record {
-      rising = start-next (c .nodes) starts (good-rows c (sound .rows) .starts);
+      rising = start-next (c .nodes) starts (good-starts (c .nodes) starts (good-rows c (sound .rows) .starts));
       narrow = λ j lt. omega (
         arith,
         getD-map-below count 0 (c .nodes) j lt,
@@ -161,7 +131,7 @@ module _ (c : Contents) (found : List ℕ) where
   -- and so is what is written
   used-out : (k : ℕ) → used (used c) ≡ used c → writeOut k (used c) ≡ writeOut k c
   unfolding writeOut
-  used-out zero e = rw (e, same-long c)
+  used-out zero e = rw (e, used-long c)
   used-out (suc k) e = refl
 
   -- so the answer and the output are those of the slices' fronts

@@ -1,20 +1,20 @@
 -- The listing of planning's answer: what planning leaves in buffers that are long enough is listed as the book says.
 use mathlib.Core.Path.{_≡_, refl, sym, ap, _∙_, subst}
 use mathlib.Core.Logic.{inl, inr}
-use mathlib.Core.Bool.{Bool, true, false, not, cond, _||_}
+use mathlib.Core.Bool.{Bool, true, false, cond, _||_}
 use mathlib.Core.List.{List, [], _∷_, _++_, map, flatten, append-nil}
 use Prim.Native.Nat.{ℕ, zero, suc, _+_, _≤_, _<_}
 use native.Mathlib.Omega.{arith}
 use lib.Dec.{ltb}
 use lib.ListN.{length, getD, take, drop, length-append, List·getD-append}
-use borrow.Author.Tests.{ltb-true, le-ltb, eq-eqb}
+use borrow.Author.Tests.{ltb-true, le-ltb}
 use Rattle.plan.specs.declared.PlanAnswer.{PlanAnswer}
 use Rattle.plan.specs.declared.PlanAnswer.the-variants.{Accepted, Refused}
 use Rattle.plan.specs.declared.Plan.{Plan}
 use Rattle.plan.specs.Lists.{every, below, listAt, written}
 use Rattle.plan.specs.Refusals.{Checks, firstFault}
 use Rattle.plan.specs.Answers.{Reply, planReply}
-use Rattle.plan.specs.Mesh.{Mesh, badStarts, badMeshStarts, meshChecks}
+use Rattle.plan.specs.Mesh.{Mesh, meshChecks}
 use Rattle.plan.specs.Elimination.{columns}
 use Rattle.plan.specs.Planning.{planBy, planOf, Buffers, Capacity, capacity, buffersTooShort, rowsTooShort, planChecks, handOut, planning, fill, Filled, Planned}
 use Rattle.plan.specs.Listing.{maxListedNodes, inputMesh, badInput, listingChecks, headLine, positionLine, refusalLine, print, listing}
@@ -26,8 +26,8 @@ use Rattle.theory.proofs.Orders.{order-length}
 use Rattle.theory.proofs.Slots.{column-listed, column-at, slots-last}
 use Rattle.theory.proofs.Eliminated.{columns-starts}
 use Rattle.theory.proofs.Planned.{planned-once, planned-sizes}
-use Rattle.mesh.specs.Lent.{lent, ListWithin}
-use Rattle.mesh.proofs.Lists.{list-within}
+use Rattle.mesh.specs.Lent.{ListWithin}
+use Rattle.mesh.proofs.Lists.{good-starts-within}
 use Rattle.text.specs.Lines.{lineAt, headOf, linesOf, lentPlan, PlanWithin, answerText, AnswerWithin, meshText}
 use Rattle.text.proofs.Lines.{head-counts, plan-parts}
 use Rattle.text.proofs.Inputs.{input-passes, mesh-nodes}
@@ -113,13 +113,10 @@ within-longer starts entries more rest j w =
 
 -- each column of a plan lies within the rows
 column-within : (m : Mesh) (j : ℕ) → j < m .nodes → ListWithin (planOf m .columnStarts) (planOf m .rows) j
-unfolding planOf planBy badMeshStarts
+unfolding planOf planBy
 column-within m j h =
     let last : getD (planOf m .columnStarts) (m .nodes) 0 ≡ length (planOf m .rows) = simp append-nil at (slots-last m (planOf m .order) []) in
-    list-within (lent (m .nodes) (planOf m .columnStarts) (planOf m .rows))
-    (or-neither (badStarts (m .nodes) (planOf m .columnStarts)) _ (columns-starts m (planOf m .order))
-    (ap not (eq-eqb (getD (planOf m .columnStarts) (m .nodes) 0) (length (planOf m .rows)) last)))
-    j h
+    good-starts-within (m .nodes) (planOf m .columnStarts) (planOf m .rows) (columns-starts m (planOf m .order)) (omega (arith, last)) j h
 
 module _ (m : Mesh) (p : Plan) (found left : Buffers) (h : Filled (handOut 0 (planOf m)) (Accepted p) found left) where
   -- the counts of the answer are the plan's

@@ -5,17 +5,19 @@ use mathlib.Core.Bool.{true}
 use mathlib.Core.List.{List, [], _∷_, _++_, map, flatten, map-append, map-map, append-nil, append-assoc}
 use Prim.Native.Nat.{ℕ, zero, suc, _+_, _-_, _*_, _/_, _%_, _≤_, _<_}
 use native.Mathlib.Nat.{zero-add, add-zero}
+use native.Mathlib.Numerals.{add-one}
 use native.Mathlib.Omega.{arith}
 use lib.Dec.{ltb}
 use lib.ListN.{length, getD, take, drop, length-append, length-drop, List·getD-eq-default}
 use lib.Seq.{length-take-le, drop-cons, drop-drop, drop-at, getD-take, getD-drop, ext-getD}
 use borrow.Author.Tests.{ltb-true}
-use Rattle.plan.specs.Lists.{every, segment, below, isIn}
+use Rattle.plan.specs.Lists.{every, segment, below, isIn, written}
 use Rattle.plan.specs.File.{encode16, encode32, encode16s, decode16, decode32, decode16s}
 use Rattle.theory.proofs.Bools.{lt-or-le}
 use Rattle.theory.proofs.Lists.{isIn-head, isIn-tail, isIn-getD, every-isIn}
 use Rattle.theory.proofs.Segments.{segment-none, segment-append}
-use Rattle.theory.proofs.Ranges.{upFrom-snoc, getD-map-below, length-map-upFrom, map-upFrom-suc, map-ext-upFrom}
+use Rattle.theory.proofs.Written.{Reached}
+use Rattle.theory.proofs.Ranges.{upFrom-snoc, getD-map-below, length-map-upFrom, map-upFrom-suc, map-ext-upFrom, map-getD}
 use Rattle.theory.proofs.Flatten.{flatten-append, flatten-nil, flatten-cons}
 
 -- ---- numbers read from bytes, one after the other
@@ -69,17 +71,6 @@ pub encode16-length : (x : ℕ) → length (encode16 x) ≡ 2
 unfolding encode16
 encode16-length x = refl
 
--- the first, and those after it
-pub encode16s-cons : (x : ℕ) (l : List ℕ) → encode16s (x ∷ l) ≡ encode16 x ++ encode16s l
-unfolding encode16s
-encode16s-cons x l = flatten-cons (encode16 x) (map encode16 l)
-
--- one more at the end
-pub encode16s-push : (l : List ℕ) (x : ℕ) → encode16s (l ++ (x ∷ [])) ≡ encode16s l ++ encode16 x
-unfolding encode16s
-encode16s-push l x =
-    rw (map-append encode16 l (x ∷ []), flatten-append (map encode16 l) (encode16 x ∷ []), flatten-cons (encode16 x) [], flatten-nil, append-nil (encode16 x))
-
 -- blocks of w bytes each
 pub blocks-length : (f : ℕ → List ℕ) (w : ℕ) → ((x : ℕ) → length (f x) ≡ w) → (l : List ℕ) → length (flatten (map f l)) ≡ w * length l
 blocks-length f w wide [] = ap length (flatten-nil {A = ℕ}) ∙ omega arith
@@ -89,6 +80,50 @@ blocks-length f w wide (x ∷ l) = omega (arith, ap length (flatten-cons (f x) (
 pub encode16s-length : (l : List ℕ) → length (encode16s l) ≡ 2 * length l
 unfolding encode16s
 encode16s-length l = blocks-length encode16 2 encode16-length l
+
+-- a block for each number from 0 on, the first k of them
+abbrev pub blocks : (ℕ → List ℕ) → ℕ → List ℕ
+blocks f k = flatten (map f (below k))
+
+-- one more
+blocks-more : (f : ℕ → List ℕ) (k : ℕ) → blocks f (suc k) ≡ blocks f k ++ f k
+blocks-more f k =
+    let last : 0 + k ≡ k = zero-add k in
+    ap (λ (l : List ℕ). flatten (map f l)) (upFrom-snoc 0 k)
+    ∙ rw (last, map-append f (below k) (k ∷ []), flatten-append (map f (below k)) (f k ∷ []), flatten-cons (f k) [], flatten-nil, append-nil (f k))
+
+-- numbers made from 0 on are such blocks
+pub made-blocks : (g : ℕ → ℕ) (k : ℕ) → encode16s (map g (below k)) ≡ blocks (λ i. encode16 (g i)) k
+unfolding encode16s
+made-blocks g k = ap flatten (map-map encode16 g (below k))
+
+-- and so are any
+pub encode16s-blocks : (l : List ℕ) → encode16s l ≡ blocks (λ i. encode16 (getD l i 0)) (length l)
+encode16s-blocks l = ap encode16s (sym (map-getD l)) ∙ made-blocks (λ i. getD l i 0) (length l)
+
+-- ---- such blocks at the front of a buffer
+
+-- the buffer held `found`, and has the first k of n blocks of w bytes
+pub record Blocks (f : ℕ → List ℕ) (w n : ℕ) (found buffer : List ℕ) (k : ℕ) : Type 0 where
+  pub few : k ≤ n
+  pub reached : Reached found (blocks f k) buffer (w * k)
+
+-- none yet
+pub blocks-none : (f : ℕ → List ℕ) (w n : ℕ) (found : List ℕ) → Blocks f w n found found 0
+blocks-none f w n found = record { few = omega arith; reached = record { front = rw flatten-nil; many = rw flatten-nil (omega arith) } }
+
+-- one more
+pub blocks-next : (f : ℕ → List ℕ) (w n : ℕ) (found buffer : List ℕ) (k : ℕ) → k < n → Reached found (blocks f k ++ f k) buffer (w * k + w) → Blocks f w n found buffer (k + 1)
+blocks-next f w n found buffer k lt r = record {
+  few = omega arith;
+  reached = rw add-one (record { front = rw (blocks-more f k) (r .front); many = rw (blocks-more f k) (r .many ∙ omega arith) });
+}
+
+-- all of them
+pub blocks-all : (f : ℕ → List ℕ) (w n : ℕ) (found buffer : List ℕ) (k : ℕ) → n ≤ k → Blocks f w n found buffer k → buffer ≡ written (blocks f n) found
+blocks-all f w n found buffer k le b =
+    let e : k ≡ n = omega (arith, b .few) in
+    b .reached .front ∙ ap (λ (i : ℕ). written (blocks f i) found) e
 
 -- ---- from numbers to bytes and back
 
@@ -191,21 +226,20 @@ module _ (bytes : List ℕ) (small : every (λ b. ltb b 256) bytes ≡ true) whe
 
 -- blocks of w bytes that are stretches of a list, one after the other, are one stretch of it
 pub segment-blocks : (f : ℕ → List ℕ) (w : ℕ) (bytes : List ℕ) (at count : ℕ) → ((k : ℕ) → k < count → f k ≡ segment bytes (at + w * k) (at + w * k + w))
-    → flatten (map f (below count)) ≡ segment bytes at (at + w * count)
+    → blocks f count ≡ segment bytes at (at + w * count)
 segment-blocks f w bytes at zero each =
     let none : at + w * 0 ≡ at = omega arith in
     rw (none, segment-none bytes at) flatten-nil
 segment-blocks f w bytes at (suc count) each =
-    let last : 0 + count ≡ count = zero-add count in
     let more : at + w * suc count ≡ at + w * count + w = omega arith in
-    ap (λ (l : List ℕ). flatten (map f l)) (upFrom-snoc 0 count)
-    ∙ rw (last, map-append f (below count) (count ∷ []), flatten-append (map f (below count)) (f count ∷ []), flatten-cons (f count) [], flatten-nil, append-nil (f count), each count (omega arith), segment-blocks f w bytes at count (λ k l. each k (omega arith)), more)
+    blocks-more f count
+    ∙ rw (each count (omega arith), segment-blocks f w bytes at count (λ k l. each k (omega arith)), more)
     (sym (segment-append bytes at (at + w * count) (at + w * count + w) (omega arith) (omega arith)))
 
 -- numbers of 16 bits one after the other are the bytes that say them
 pub decoded16s : (bytes : List ℕ) → every (λ b. ltb b 256) bytes ≡ true → (at count : ℕ) → at + 2 * count ≤ length bytes
     → encode16s (decode16s bytes at 2 count) ≡ segment bytes at (at + 2 * count)
-unfolding encode16s decode16s
+unfolding decode16s
 decoded16s bytes small at count h =
-    ap flatten (map-map encode16 (λ k. decode16 bytes (at + 2 * k)) (below count))
+    made-blocks (λ k. decode16 bytes (at + 2 * k)) count
     ∙ segment-blocks (λ k. encode16 (decode16 bytes (at + 2 * k))) 2 bytes at count (λ k l. decoded16 bytes small (at + 2 * k) (omega arith))

@@ -1,20 +1,18 @@
 -- Every layout made by elimination passes checks 17 and 19, whatever the order.
 use mathlib.Core.Path.{_≡_, refl, _∙_, ap}
-use mathlib.Core.Bool.{not, true, false, _&&_}
+use mathlib.Core.Bool.{true, false}
 use mathlib.Core.List.{List, [], _∷_, flatten, map}
 use Prim.Native.Nat.{ℕ, _<_}
-use lib.Dec.{ltb}
 use lib.ListN.{length}
-use borrow.Author.Tests.{lt-ltb}
-use Rattle.plan.specs.Lists.{isIn, ascending, listAt, below}
+use Rattle.plan.specs.Lists.{isIn, listAt, below}
 use Rattle.plan.specs.Elimination.{column, startsOf, columns}
 use Rattle.plan.specs.File.{covered, badColumns, badColumn}
 use Rattle.plan.specs.Mesh.{badStarts, Mesh}
 use Rattle.theory.specs.Rows.{isRow}
-use Rattle.theory.proofs.Bools.{and-both}
-use Rattle.theory.proofs.Lists.{isIn-head, isIn-every, none-exists}
+use Rattle.theory.proofs.Lists.{isIn-head, none-exists}
 use Rattle.theory.proofs.Ranges.{isIn-below}
 use Rattle.theory.proofs.Compressed.{sums-starts}
+use Rattle.theory.proofs.ColumnRule.{kept-good}
 use Rattle.theory.proofs.Columns.{row-fact, column-ascending}
 use Rattle.theory.proofs.EliminationTree.{rows-in-first-column}
 use Rattle.theory.proofs.Slots.{counts-length, column-at}
@@ -31,18 +29,16 @@ module _ (m : Mesh) (order : List ℕ) where
   unfolding startsOf
   columns-starts = sums-starts (m .nodes) (map length (columns m order)) (counts-length m order)
 
-  good-column : (j : ℕ) → j < m .nodes → badColumn (m .nodes) j (listAt starts rows j) ≡ false
-  unfolding badColumn isRow
-  good-column j l =
+  column-good : (j : ℕ) → j < m .nodes → badColumn (m .nodes) j (listAt starts rows j) ≡ false
+  unfolding isRow
+  column-good j l =
       rw (column-at m order j l)
-      (ap not (and-both (ascending (column m order j)) _ (column-ascending m order j)
-      (isIn-every (λ i. ltb j i && ltb i (m .nodes)) (column m order j) (λ i h. let r = row-fact m order i j h in
-      and-both (ltb j i) _ (lt-ltb j i (r .1 .later)) (lt-ltb i (m .nodes) (r .0))))))
+      (kept-good (m .nodes) j (column m order j) (column-ascending m order j, λ i h. let r = row-fact m order i j h in (r .1 .later, r .0)))
 
   -- 17: each column's rows are strictly ascending, above the column and below n
   pub columns-good : badColumns (m .nodes) starts rows ≡ false
   unfolding badColumns
-  columns-good = none-exists (λ j. badColumn (m .nodes) j (listAt starts rows j)) (below (m .nodes)) (λ j h. good-column j (isIn-below (m .nodes) j h))
+  columns-good = none-exists (λ j. badColumn (m .nodes) j (listAt starts rows j)) (below (m .nodes)) (λ j h. column-good j (isIn-below (m .nodes) j h))
 
   -- 19: a column's rows after its first are all in the first row's column
   pub column-covered : (j : ℕ) → j < m .nodes → covered starts rows (listAt starts rows j) ≡ true

@@ -28,6 +28,7 @@ pub record Whole (c : Contents) : Type 0 where
   pub order : length (c .order) ≡ c .nodes
   pub sizes : length (c .sizes) ≡ c .parts
   pub parents : length (c .parents) ≡ c .parts
+  pub columnStarts : length (c .columnStarts) ≡ c .nodes + 1
   pub rows : length (c .rows) ≡ c .slots
 
 -- numbers of 16 bits

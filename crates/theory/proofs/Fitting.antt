@@ -1,7 +1,7 @@
 -- A plan that passes checks 13 and 15 to 19, with lists as long as their counts, has a place in a file.
 use mathlib.Core.Path.{_≡_, sym, ap, _∙_}
 use mathlib.Core.Logic.{inl, inr}
-use mathlib.Core.Bool.{Bool, true, false, not, _&&_, _||_}
+use mathlib.Core.Bool.{Bool, true, false, not, _||_}
 use mathlib.Core.List.{List, _++_}
 use Prim.Native.Nat.{ℕ, _+_, _-_, _*_, _/_, _≤_, _<_}
 use native.Mathlib.Nat.{mul-le-mul}
@@ -9,8 +9,8 @@ use native.Mathlib.Omega.{arith}
 use lib.Dec.{ltb, eqb}
 use lib.ListN.{length, getD}
 use lib.Seq.{take-all}
-use borrow.Author.Tests.{eqb-true, eqb-false, ltb-true, ltb-false, not-false}
-use Rattle.plan.specs.Lists.{every, segment, below, isIn, listAt, ascending, eachOnce, indexOf}
+use borrow.Author.Tests.{eqb-true, eqb-false, ltb-false, not-false}
+use Rattle.plan.specs.Lists.{segment, below, isIn, listAt, eachOnce, indexOf}
 use Rattle.plan.specs.Refusals.{Checks, firstFault}
 use Rattle.plan.specs.Mesh.{maxNodes, noParent, badNodeCount, badStarts}
 use Rattle.plan.specs.Parts.{parentOf}
@@ -18,16 +18,16 @@ use Rattle.plan.specs.Planning.{Contents, rowCounts}
 use Rattle.plan.specs.File.{badHeader, badOrder, badParts, badRows, badColumn, badColumns, notNested, notCovered, contentsChecks}
 use Rattle.plan.specs.RoundTrips.{Sound}
 use Rattle.theory.specs.Checked.{Starts}
-use Rattle.theory.proofs.Bools.{or-false-left, or-false-right, and-left, and-right, eq-or-ne}
-use Rattle.theory.proofs.Lists.{every-isIn, exists-none, getD-indexOf, indexOf-lt}
-use Rattle.theory.proofs.Ranges.{isIn-below, below-isIn, getD-map-below}
+use Rattle.theory.proofs.Bools.{or-false-left, or-false-right, eq-or-ne}
+use Rattle.theory.proofs.Lists.{getD-indexOf, indexOf-lt}
+use Rattle.theory.proofs.Ranges.{isIn-below, getD-map-below}
 use Rattle.theory.proofs.Sums.{isIn-total}
-use Rattle.theory.proofs.Ascending.{ascending-few}
 use Rattle.theory.proofs.Counting.{same-members}
 use Rattle.theory.proofs.Refusals.{no-fault}
 use Rattle.theory.proofs.Checked.{node-count, good-starts}
 use Rattle.theory.proofs.Orders.{order-length, passes-order}
 use Rattle.theory.proofs.Compressed.{counts-sums, list-length, entry-listed}
+use Rattle.theory.proofs.ColumnRule.{good-column, column-few, good-columns}
 use Rattle.theory.proofs.FileFields.{Whole, Narrow, Fits, counts-length}
 use Rattle.theory.proofs.PartChecks.{passes-tree, parents-known}
 
@@ -59,9 +59,9 @@ pub sound-passes : (c : Contents) (more : Checks) → Sound c → firstFault (co
 unfolding contentsChecks firstFault
 sound-passes c more h = rw (h .order, h .parts, h .rows, h .nested, h .covered)
 
--- 13: n is 1 to 4,096, p is 1 to n, s is at most n(n − 1)/2
+-- 13: n passes check 1, so it is 1 to 4,096; p is 1 to n; s is at most n(n − 1)/2
 pub record Limits (c : Contents) : Type 0 where
-  pub nodesSome : 0 < c .nodes
+  pub count : badNodeCount (c .nodes) ≡ false
   pub nodesFew : c .nodes ≤ maxNodes
   pub partsSome : 0 < c .parts
   pub partsFew : c .parts ≤ c .nodes
@@ -74,49 +74,44 @@ header-limits c h =
     let bad : Bool = badNodeCount (c .nodes) in
     let three : (bad || eqb (c .parts) 0 || ltb (c .nodes) (c .parts)) ≡ false = or-false-left (bad || eqb (c .parts) 0 || ltb (c .nodes) (c .parts)) _ h in
     let two : (bad || eqb (c .parts) 0) ≡ false = or-false-left (bad || eqb (c .parts) 0) _ three in
-    let n = node-count (c .nodes) (or-false-left bad _ two) in
+    let count : bad ≡ false = or-false-left bad _ two in
     let some = eqb-false (c .parts) 0 (or-false-right bad _ two) in
     record {
-      nodesSome = n .0;
-      nodesFew = n .1;
+      count = count;
+      nodesFew = node-count (c .nodes) count .1;
       partsSome = omega arith;
       partsFew = ltb-false (c .nodes) (c .parts) (or-false-right (bad || eqb (c .parts) 0) _ three);
       slotsFew = ltb-false (c .nodes * (c .nodes - 1) / 2) (c .slots) (or-false-right (bad || eqb (c .parts) 0 || ltb (c .nodes) (c .parts)) _ h);
     }
 
--- the slots are a number of 32 bits
-pub few-slots : (c : Contents) → Limits c → c .slots < 4294967296
-few-slots c limits =
-    let n : ℕ = c .nodes in
-    let fewer : n - 1 ≤ 4095 = omega (arith, limits .nodesFew) in
-    let pairs : n * (n - 1) ≤ 4096 * 4095 = mul-le-mul (limits .nodesFew) fewer in
-    omega (arith, pairs, limits .slotsFew)
+-- n(n − 1) for few nodes
+pub pairs-few : (n : ℕ) → n ≤ 4096 → n * (n - 1) ≤ 4096 * 4095
+pairs-few n h = mul-le-mul {n₁ = n} {m₁ = n - 1} {n₂ = 4096} {m₂ = 4095} h (omega arith)
 
--- 17: the column starts begin at 0, rise and end at s, and each column's rows are ascending, above the column and below n
-pub record Rows (c : Contents) : Type 0 where
-  pub starts : Starts (c .nodes) (c .columnStarts)
+-- so no count is above some 8 million
+pub counts-few : (c : Contents) → badHeader c ≡ false → (c .nodes ≤ 4096) × (c .parts ≤ 4096) × (c .slots ≤ 8386560)
+counts-few c h =
+    let limits : Limits c = header-limits c h in
+    let pairs = pairs-few (c .nodes) (limits .nodesFew) in
+    (limits .nodesFew, omega (arith, limits .nodesFew, limits .partsFew), omega (arith, limits .slotsFew))
+
+-- 17: starts of n columns without a fault, which end at s, and columns without a fault
+pub record GoodRows (c : Contents) : Type 0 where
+  pub starts : badStarts (c .nodes) (c .columnStarts) ≡ false
   pub last : getD (c .columnStarts) (c .nodes) 0 ≡ c .slots
-  pub ascends : (j : ℕ) → j < c .nodes → ascending (listAt (c .columnStarts) (c .rows) j) ≡ true
-  pub inside : (j : ℕ) → j < c .nodes → (i : ℕ) → isIn i (listAt (c .columnStarts) (c .rows) j) ≡ true → (j < i) × (i < c .nodes)
+  pub columns : badColumns (c .nodes) (c .columnStarts) (c .rows) ≡ false
 
 -- 17 says so
-pub good-rows : (c : Contents) → badRows c ≡ false → Rows c
-unfolding badRows badColumns badColumn
+pub good-rows : (c : Contents) → badRows c ≡ false → GoodRows c
+unfolding badRows
 good-rows c h =
-    let n : ℕ = c .nodes in
-    let starts : Bool = badStarts n (c .columnStarts) in
-    let ends : Bool = eqb (getD (c .columnStarts) n 0) (c .slots) in
+    let starts : Bool = badStarts (c .nodes) (c .columnStarts) in
+    let ends : Bool = eqb (getD (c .columnStarts) (c .nodes) 0) (c .slots) in
     let both : (starts || not ends) ≡ false = or-false-left (starts || not ends) _ h in
-    let column : (j : ℕ) → List ℕ = listAt (c .columnStarts) (c .rows) in
-    let good : (j : ℕ) → j < n → (ascending (column j) && every (λ i. ltb j i && ltb i n) (column j)) ≡ true =
-    λ j l. not-false _ (exists-none (λ j. not (ascending (column j) && every (λ i. ltb j i && ltb i n) (column j))) (below n) (or-false-right (starts || not ends) _ h) j (below-isIn n j l)) in
     record {
-      starts = good-starts n (c .columnStarts) (or-false-left starts _ both);
-      last = eqb-true (getD (c .columnStarts) n 0) (c .slots) (not-false ends (or-false-right starts _ both));
-      ascends = λ j l. and-left (ascending (column j)) _ (good j l);
-      inside = λ j l i m.
-          let t : (ltb j i && ltb i n) ≡ true = every-isIn (λ i. ltb j i && ltb i n) (column j) (and-right (ascending (column j)) _ (good j l)) i m in
-          (ltb-true j i (and-left (ltb j i) _ t), ltb-true i n (and-right (ltb j i) _ t));
+      starts = or-false-left starts _ both;
+      last = eqb-true (getD (c .columnStarts) (c .nodes) 0) (c .slots) (not-false ends (or-false-right starts _ both));
+      columns = or-false-right (starts || not ends) _ h;
     }
 
 -- ---- what fits
@@ -130,8 +125,15 @@ module _ (c : Contents) (sound : Sound c) where
   unfolding badOrder
   once = not-false (eachOnce (c .nodes) (c .order)) (sound .order)
 
-  columns : Rows c
-  columns = good-rows c (sound .rows)
+  laid : GoodRows c
+  laid = good-rows c (sound .rows)
+
+  starts : Starts (c .nodes) (c .columnStarts)
+  starts = good-starts (c .nodes) (c .columnStarts) (laid .starts)
+
+  -- each column keeps 17's rule
+  column : (j : ℕ) → j < c .nodes → badColumn (c .nodes) j (listAt (c .columnStarts) (c .rows) j) ≡ false
+  column = good-columns (c .nodes) (c .columnStarts) (c .rows) (laid .columns)
 
   -- a father is 65,535 or a part
   narrow-parents : Narrow (c .parents)
@@ -149,38 +151,37 @@ module _ (c : Contents) (sound : Sound c) where
   unfolding rowCounts
   narrow-counts x m =
       let n : ℕ = c .nodes in
-      let starts : List ℕ = c .columnStarts in
+      let own : List ℕ = c .columnStarts in
       let j : ℕ = indexOf x (rowCounts c) in
       let place : j < length (rowCounts c) = indexOf-lt (rowCounts c) x m in
       let inside : j < n = omega (arith, place, counts-length c) in
-      let column : List ℕ = listAt starts (c .rows) j in
       omega (
         arith,
         getD-indexOf (rowCounts c) x 0 place,
-        getD-map-below (λ j. getD starts (j + 1) 0 - getD starts j 0) 0 n j inside,
-        list-length n starts (c .rows) (columns .starts) (omega (arith, columns .last, sound .rowsMany)) j inside,
-        ascending-few column 0 n (columns .ascends j inside) (λ i t. (omega arith, columns .inside j inside i t .1)),
+        getD-map-below (λ j. getD own (j + 1) 0 - getD own j 0) 0 n j inside,
+        list-length n own (c .rows) starts (omega (arith, laid .last, sound .rowsMany)) j inside,
+        column-few n j (listAt own (c .rows) j) (column j inside),
         limits .nodesFew,
       )
 
   -- a row is a position
   narrow-rows : Narrow (c .rows)
   narrow-rows x m =
-      let all : segment (c .rows) 0 (getD (c .columnStarts) (c .nodes) 0) ≡ c .rows = take-all (getD (c .columnStarts) (c .nodes) 0 - 0) (c .rows) (omega (arith, columns .last, sound .rowsMany)) in
-      let r = entry-listed (c .nodes) (c .columnStarts) (c .rows) (columns .starts) (c .nodes) (omega arith) x (ap (isIn x) all ∙ m) in
-      omega (arith, columns .inside (r .0) (r .1) x (r .2), limits .nodesFew)
+      let all : segment (c .rows) 0 (getD (c .columnStarts) (c .nodes) 0) ≡ c .rows = take-all (getD (c .columnStarts) (c .nodes) 0 - 0) (c .rows) (omega (arith, laid .last, sound .rowsMany)) in
+      let r = entry-listed (c .nodes) (c .columnStarts) (c .rows) starts (c .nodes) (omega arith) x (ap (isIn x) all ∙ m) in
+      omega (arith, good-column (c .nodes) (r .0) _ (column (r .0) (r .1)) .1 x (r .2), limits .nodesFew)
 
   -- A plan without a fault fits.
   pub sound-fits : Fits c
   sound-fits = record {
-    whole = record { order = order-length (c .nodes) (c .order) (passes-order (c .nodes) (c .order) once); sizes = sound .sizesMany; parents = sound .parentsMany; rows = sound .rowsMany };
+    whole = record { order = order-length (c .nodes) (c .order) (passes-order (c .nodes) (c .order) once); sizes = sound .sizesMany; parents = sound .parentsMany; columnStarts = starts .many; rows = sound .rowsMany };
     nodes = omega (arith, limits .nodesFew);
     parts = omega (arith, limits .nodesFew, limits .partsFew);
-    slots = few-slots c limits;
+    slots = omega (arith, counts-few c (sound .header));
     order = λ x m. omega (arith, isIn-below (c .nodes) x (same-members (c .order) (below (c .nodes)) (passes-order (c .nodes) (c .order) once) x m), limits .nodesFew);
     sizes = λ x m. omega (arith, isIn-total (c .sizes) x m, passes-tree c (sound .parts) (sound .parentsMany) (sound .sizesMany) .whole, limits .nodesFew);
     parents = narrow-parents;
     counts = narrow-counts;
     rows = narrow-rows;
-    starts = unfold rowCounts in counts-sums (c .nodes) (c .columnStarts) (columns .starts);
+    starts = unfold rowCounts in counts-sums (c .nodes) (c .columnStarts) starts;
   }

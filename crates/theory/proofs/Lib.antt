@@ -12,6 +12,7 @@ pub mod Refusals
 pub mod Checked
 pub mod Orders
 pub mod Compressed
+pub mod ColumnRule
 pub mod Coding
 pub mod FileFields
 pub mod Joined

@@ -111,10 +111,10 @@ none-exists p l f = refuted (exists p l) (λ t. let r = exists-isIn p l t in cla
 pub exists-more : (p : ℕ → Bool) (l : List ℕ) (i : ℕ) → i < length l → exists p (take (i + 1) l) ≡ (exists p (take i l) || p (getD l i 0))
 exists-more p l i h = rw (add-one, take-suc l i 0 h, exists-append p (take i l) (getD l i 0 ∷ []), or-false (p (getD l i 0)))
 
--- tests that agree pass together
-pub exists-ext : (p q : ℕ → Bool) (l : List ℕ) → ((x : ℕ) → p x ≡ q x) → exists p l ≡ exists q l
+-- tests that agree on a list pass together
+pub exists-ext : (p q : ℕ → Bool) (l : List ℕ) → ((x : ℕ) → isIn x l ≡ true → p x ≡ q x) → exists p l ≡ exists q l
 exists-ext p q [] f = refl
-exists-ext p q (x ∷ l) f = rw (f x, exists-ext p q l f)
+exists-ext p q (x ∷ l) f = rw (f x (isIn-head x l), exists-ext p q l (λ y m. f y (isIn-tail y x l m)))
 
 -- lists with the same members pass the same tests
 pub exists-same : (p : ℕ → Bool) (xs ys : List ℕ) → ((x : ℕ) → isIn x xs ≡ isIn x ys) → exists p xs ≡ exists p ys

@@ -1,9 +1,9 @@
 -- An order that holds each node once: its length, its nodes, the book's test of it, and its inverse.
-use mathlib.Core.Path.{_≡_, sym, ap, _∙_}
+use mathlib.Core.Path.{_≡_, refl, sym, ap, _∙_}
 use mathlib.Core.Logic.{inl, inr}
 use mathlib.Core.Bool.{Bool, true, _&&_}
-use mathlib.Core.List.{List}
-use Prim.Native.Nat.{ℕ, _*_, _<_}
+use mathlib.Core.List.{List, map}
+use Prim.Native.Nat.{ℕ, _*_, _≤_, _<_}
 use native.Mathlib.Omega.{arith}
 use lib.Dec.{eqb, ltb}
 use lib.ListN.{length, getD}
@@ -14,6 +14,7 @@ use Rattle.theory.specs.Counting.{count, Order}
 use Rattle.theory.proofs.Bools.{and-left, and-right, and-both, iff-eq, lt-or-le}
 use Rattle.theory.proofs.Lists.{isIn-getD, every-isIn, isIn-every, getD-indexOf, indexOf-lt}
 use Rattle.theory.proofs.Ranges.{isIn-below, below-isIn, length-upFrom, getD-map-below, map-ext-upFrom}
+use Rattle.theory.proofs.Sums.{total-less}
 use Rattle.theory.proofs.Counting.{unit, count-all, count-ext, same-members, same-length, count-every, count-once, count-twice, count-values}
 
 module _ (n : ℕ) (order : List ℕ) (once : Order n order) where
@@ -107,3 +108,22 @@ module _ (n : ℕ) (order : List ℕ) (h : eachOnce n order ≡ true) where
   -- what passes check 15's test holds each node once
   pub passes-order : Order n order
   passes-order p = sym (only-below p order order-below) ∙ alike p ∙ only-below p (below n) range-below
+
+-- ---- a list of numbers below its own length
+
+-- where none stands twice, each stands once
+pub once-each : (l : List ℕ) → ((x : ℕ) → isIn x l ≡ true → x < length l) → ((v : ℕ) → v < length l → occurrences v l ≤ 1) → eachOnce (length l) l ≡ true
+unfolding eachOnce
+once-each l inside few = and-both (eqb n n) _ (eq-eqb n n refl) (isIn-every (λ v. eqb (occurrences v l) 1) (below n) (λ v m. eq-eqb (occurrences v l) 1 (one v (isIn-below n v m))))
+  where
+    n : ℕ
+    n = length l
+
+    f : ℕ → ℕ
+    f v = 1 * occurrences v l
+
+    full : total (map f (below n)) ≡ n
+    full = sym (count-values (λ x. true) n l) ∙ count-ext (λ x. true && ltb x n) (λ x. true) l (λ x m. lt-ltb x n (inside x m)) ∙ count-all l
+
+    one : (v : ℕ) → v < n → occurrences v l ≡ 1
+    one v lt = omega (arith, few v lt, full, total-less f n 0 (λ v l m. omega (arith, few v (omega arith))) v (omega arith) (omega arith))

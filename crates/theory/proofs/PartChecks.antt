@@ -2,6 +2,7 @@
 use mathlib.Core.Path.{_≡_, sym, _∙_, ap}
 use mathlib.Core.Logic.{_≢_, _⊎_, inl, inr}
 use mathlib.Core.Bool.{not, Bool, true, false, _&&_, _||_}
+use mathlib.Core.List.{List}
 use Prim.Native.Nat.{ℕ, _<_}
 use native.Mathlib.Omega.{arith}
 use lib.Dec.{eqb, ltb}
@@ -53,33 +54,35 @@ may-be p q r h = elim (or-cases (eqb r noParent) (ltb q r && ltb r p) h) [
   | inr t ↦ inr (ltb-true q r (and-left (ltb q r) _ t), ltb-true r p (and-right (ltb q r) _ t))
 ]
 
+-- parents that keep the rule: a part's parent, where it has one, is a later part, and one of them
+pub parent-is : (parents : List ℕ) → ((q : ℕ) → q < length parents → mayBeParent (length parents) q (getD parents q 0) ≡ true)
+    → (q : ℕ) → parentOf parents q ≢ noParent → (q < parentOf parents q) × (parentOf parents q < length parents)
+unfolding parentOf
+parent-is parents good q has = elim (lt-or-le q (length parents)) [
+  | inl l ↦ elim (may-be (length parents) q (parentOf parents q) (ap (mayBeParent (length parents) q) (getD-default parents q noParent 0 l) ∙ good q l)) [
+    | inl e ↦ absurd (has e)
+    | inr r ↦ r
+  ]
+  | inr l ↦ absurd (has (List·getD-eq-default parents noParent l))
+]
+
 module _ (c : Contents) (good : badParts c ≡ false) (many : length (c .parents) ≡ c .parts) where
-  parent-may : (q : ℕ) → q < c .parts → mayBeParent (c .parts) q (parentOf (c .parents) q) ≡ true
-  unfolding badParts parentOf
-  parent-may q h =
+  -- parents that pass check 16 keep it
+  pub parents-may : (q : ℕ) → q < length (c .parents) → mayBeParent (length (c .parents)) q (getD (c .parents) q 0) ≡ true
+  unfolding badParts
+  parents-may q h =
       let bad : ℕ → Bool = λ q. not (mayBeParent (c .parts) q (getD (c .parents) q 0)) in
       let none : exists bad (below (c .parts)) ≡ false = or-false-right (isIn 0 (c .sizes) || not (eqb (total (c .sizes)) (c .nodes))) _ good in
-      ap (mayBeParent (c .parts) q) (getD-default (c .parents) q noParent 0 (omega arith))
-      ∙ not-false _ (exists-none bad (below (c .parts)) none q (below-isIn (c .parts) q h))
-
-  -- a part's parent, where it has one, is a later part below p
-  parent-is : (q : ℕ) → parentOf (c .parents) q ≢ noParent → (q < parentOf (c .parents) q) × (parentOf (c .parents) q < c .parts)
-  unfolding parentOf
-  parent-is q has = elim (lt-or-le q (c .parts)) [
-    | inl l ↦ elim (may-be (c .parts) q (parentOf (c .parents) q) (parent-may q l)) [
-      | inl e ↦ absurd (has e)
-      | inr r ↦ r
-    ]
-    | inr l ↦ absurd (has (List·getD-eq-default (c .parents) noParent (omega arith)))
-  ]
+      ap (λ (p : ℕ). mayBeParent p q (getD (c .parents) q 0)) many
+      ∙ not-false _ (exists-none bad (below (c .parts)) none q (below-isIn (c .parts) q (omega arith)))
 
   -- so a parent is a later part
   pub parents-later : (q : ℕ) → parentOf (c .parents) q ≢ noParent → q < parentOf (c .parents) q
-  parents-later q has = parent-is q has .0
+  parents-later q has = parent-is (c .parents) parents-may q has .0
 
-  -- below p
+  -- and one of them
   pub parents-known : (q : ℕ) → parentOf (c .parents) q ≢ noParent → parentOf (c .parents) q < length (c .parents)
-  parents-known q has = omega (arith, parent-is q has .1)
+  parents-known q has = parent-is (c .parents) parents-may q has .1
 
   -- sizes and parents that pass check 16 make a tree of parts
   pub passes-tree : length (c .sizes) ≡ c .parts → PartTree (c .nodes) (c .sizes) (c .parents)

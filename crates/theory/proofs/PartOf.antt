@@ -3,11 +3,11 @@ use mathlib.Core.Path.{_≡_, sym, ap, _∙_}
 use mathlib.Core.Logic.{inl, inr}
 use mathlib.Core.Bool.{cond}
 use mathlib.Core.List.{List, [], _∷_, _++_}
-use Prim.Native.Nat.{ℕ, suc, _+_, _-_, _≤_, _<_}
+use Prim.Native.Nat.{ℕ, zero, suc, _+_, _-_, _≤_, _<_}
 use native.Mathlib.Nat.{zero-add, add-assoc}
 use native.Mathlib.Omega.{arith}
 use lib.Dec.{ltb}
-use lib.ListN.{length}
+use lib.ListN.{length, take, getD}
 use borrow.Author.Tests.{lt-ltb, le-ltb}
 use Rattle.plan.specs.Lists.{total}
 use Rattle.plan.specs.Parts.{partOf}
@@ -31,6 +31,12 @@ part-mono (s ∷ ss) a b h = elim (lt-or-le a s) [
   | inl l ↦ rw (part-first s ss a l) (omega arith)
   | inr l ↦ rw (part-next s ss a l, part-next s ss b (omega arith)) (omega (arith, part-mono ss (a - s) (b - s) (omega arith)))
 ]
+
+-- the positions behind those of the parts before q, as many as q's size, are its own
+pub part-here : (ss : List ℕ) (q i : ℕ) → q < length ss → total (take q ss) ≤ i → i < total (take q ss) + getD ss q 0 → partOf ss i ≡ q
+part-here [] q i h low high = absurd (omega arith)
+part-here (s ∷ ss) zero i h low high = part-first s ss i (omega arith)
+part-here (s ∷ ss) (suc q) i h low high = part-next s ss i (omega arith) ∙ ap suc (part-here ss q (i - s) (omega arith) (omega arith) (omega arith))
 
 -- the end of a position's part: the first position after it
 abbrev pub endOf : List ℕ → ℕ → ℕ

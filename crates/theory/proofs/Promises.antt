@@ -18,7 +18,7 @@ use Rattle.plan.specs.Writing.{used, writeChecks, WriteOutcome, writeOut, writi
 use Rattle.plan.specs.RoundTrips.{acceptedWriting, lentBack, WroteThenFilled, FilledThenWrote, PlannedThenWrote, Sound}
 use Rattle.theory.proofs.Written.{front-written}
 use Rattle.theory.proofs.FileFields.{Whole, encode-length}
-use Rattle.theory.proofs.Fitting.{good-rows, sound-fits}
+use Rattle.theory.proofs.Fitting.{sound-fits}
 use Rattle.theory.proofs.Planned.{hand-number, handed-planned}
 use Rattle.theory.proofs.RoundTrips.{used-long, write-says, read-says, handed-read, written-then-read, read-then-written, planned-is-sound, planned-is-writable}
 
@@ -54,7 +54,6 @@ filled-used : (c : Contents) (p : Plan) (lent left : Buffers) → Sound c → Fi
 unfolding used handOut fill
 filled-used c p lent left sound h =
     let whole : Whole c = sound-fits c sound .whole in
-    let starts : length (c .columnStarts) ≡ c .nodes + 1 = good-rows c (sound .rows) .starts .many in
     let value : (k : ℕ) → getD (planReply (Accepted p) .values) k 0 ≡ getD (handOut 0 c .reply .values) k 0 = λ k. ap (λ (r : Reply). getD (r .values) k 0) (h .reply) in
     let nodes : p .nodes ≡ c .nodes = value 0 in
     let parts : p .parts ≡ c .parts = value 1 in
@@ -66,7 +65,7 @@ filled-used c p lent left sound h =
       front-written (c .nodes) (c .order) (lent .order) (left .order) (h .order) (whole .order),
       front-written (c .parts) (c .sizes) (lent .sizes) (left .sizes) (h .sizes) (whole .sizes),
       front-written (c .parts) (c .parents) (lent .parents) (left .parents) (h .parents) (whole .parents),
-      front-written (c .nodes + 1) (c .columnStarts) (lent .columnStarts) (left .columnStarts) (h .columnStarts) starts,
+      front-written (c .nodes + 1) (c .columnStarts) (lent .columnStarts) (left .columnStarts) (h .columnStarts) (whole .columnStarts),
       front-written (c .slots) (c .rows) (lent .rows) (left .rows) (h .rows) (whole .rows),
     )
 
@@ -96,7 +95,7 @@ filled-then-wrote bytes found after p lent left answer small filled fits wrote =
     let c : Contents = lentBack p left in
     let h : reading bytes room .reply .number ≡ 0 = sym (ap (λ (r : Reply). r .number) (filled .reply)) in
     let e : used c ≡ parse bytes =
-    filled-used (parse bytes) p lent left (read-says bytes room h .sound) (handed-out (firstFault (readChecks bytes room)) (parse bytes) p lent left filled) in
+    filled-used (parse bytes) p lent left (read-says bytes room h .1) (handed-out (firstFault (readChecks bytes room)) (parse bytes) p lent left filled) in
     wrote-bytes c bytes found after answer (read-then-written bytes room c (length found) small h (e ∙ sym (handed-read bytes room h)) fits) wrote
 
 -- ---- what was planned, then written

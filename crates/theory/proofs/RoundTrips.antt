@@ -2,7 +2,7 @@
 use mathlib.Core.Path.{_≡_, refl, sym, ap, subst, _∙_}
 use mathlib.Core.Bool.{Bool, false, not, _||_}
 use mathlib.Core.List.{List, [], _∷_, _++_}
-use Prim.Native.Nat.{ℕ, zero, suc, _+_, _≤_}
+use Prim.Native.Nat.{ℕ, zero, suc, _+_, _*_, _≤_}
 use native.Mathlib.Omega.{arith}
 use lib.Dec.{ltb, eqb}
 use lib.ListN.{length, take, length-take}
@@ -12,17 +12,20 @@ use Rattle.plan.specs.Lists.{same}
 use Rattle.plan.specs.Refusals.{Checks, firstFault}
 use Rattle.plan.specs.Mesh.{Mesh, meshChecks}
 use Rattle.plan.specs.Planning.{Contents, planBy, planOf, Capacity, buffersTooShort, rowsTooShort, planChecks, handOut, planning}
-use Rattle.plan.specs.File.{encode16, decode16, magic, version, lengthAt, fileLength, encode, parseAt, parse, badHeader, contentsChecks}
+use Rattle.plan.specs.File.{encode16, decode16, decode16s, magic, version, lengthAt, fileLength, encode, parseAt, parse, badHeader, contentsChecks}
 use Rattle.plan.specs.Reading.{tooFewBytes, badMagic, badVersion, badLength, headerChecks, readChecks, reading}
 use Rattle.plan.specs.Writing.{badSupply, used, suppliedChecks, outputTooShort, writeChecks, WriteOutcome, writeOut, writing}
 use Rattle.plan.specs.RoundTrips.{handed, acceptedWriting, WrittenIsFile, WrittenThenRead, ReadThenWritten, PlannedIsWritable, PlannedThenRead, OtherVersions, Sound, ReadIsSound}
 use Rattle.theory.proofs.Bools.{or-false-left, or-false-right, or-neither}
 use Rattle.theory.proofs.Lists.{same-equal}
 use Rattle.theory.proofs.Coding.{decode16s-length}
+use Rattle.theory.proofs.Checked.{good-starts}
 use Rattle.theory.proofs.Refusals.{no-fault, fault-here, fault-later, first-nil, no-fault-first, first-none}
 use Rattle.theory.proofs.Orders.{order-length}
+use Rattle.theory.proofs.Compressed.{sums-length}
 use Rattle.theory.proofs.FileFields.{Whole, Fits, encode-fields, encode-length, parse-encode, encode-parse}
-use Rattle.theory.proofs.Fitting.{passes-sound, sound-passes, good-rows, sound-fits}
+use Rattle.theory.proofs.Fitting.{passes-sound, sound-passes, sound-fits}
+use Rattle.theory.proofs.Eliminated.{columns-starts}
 use Rattle.theory.proofs.Planned.{planned-once, planned-sizes, planned-parents, planned-nodes, hand-number, handed-accepted, handed-planned}
 use Rattle.theory.proofs.Readable.{planned-header, planned-readable}
 
@@ -64,7 +67,7 @@ module _ (c : Contents) where
   used-long = refl
 
   -- 13 of slices: the header's limits, and the used entries are as many as the counts
-  supply-says : badSupply c ≡ false → (badHeader (used c) ≡ false) × Whole (used c)
+  pub supply-says : badSupply c ≡ false → (badHeader (used c) ≡ false) × Whole (used c)
   unfolding badSupply used
   supply-says h =
       let bad : Bool = badHeader c in
@@ -77,24 +80,24 @@ module _ (c : Contents) where
           order = exactly (c .nodes) (c .order) (or-false-right bad shortOrder two);
           sizes = exactly (c .parts) (c .sizes) (or-false-right (bad || shortOrder) shortSizes three);
           parents = exactly (c .parts) (c .parents) (or-false-right (bad || shortOrder || shortSizes) shortParents four);
+          columnStarts = exactly (c .nodes + 1) (c .columnStarts) (or-false-right (bad || shortOrder || shortSizes || shortParents) shortStarts five);
           rows = exactly (c .slots) (c .rows) (or-false-right (bad || shortOrder || shortSizes || shortParents || shortStarts) shortRows h);
         },
       )
 
   -- and the other way round
-  supply-good : Sound (used c) → Whole (used c) → badSupply c ≡ false
+  supply-good : badHeader (used c) ≡ false → Whole (used c) → badSupply c ≡ false
   unfolding badSupply used
-  supply-good sound whole =
+  supply-good header whole =
       let bad : Bool = badHeader c in
-      let starts : length (take (c .nodes + 1) (c .columnStarts)) ≡ c .nodes + 1 = good-rows (used c) (sound .rows) .starts .many in
       or-neither (bad || shortOrder || shortSizes || shortParents || shortStarts) shortRows
       (or-neither (bad || shortOrder || shortSizes || shortParents) shortStarts
       (or-neither (bad || shortOrder || shortSizes) shortParents
       (or-neither (bad || shortOrder) shortSizes
-      (or-neither bad shortOrder (sym used-header ∙ sound .header) (enough (c .nodes) (c .order) (whole .order)))
+      (or-neither bad shortOrder (sym used-header ∙ header) (enough (c .nodes) (c .order) (whole .order)))
       (enough (c .parts) (c .sizes) (whole .sizes)))
       (enough (c .parts) (c .parents) (whole .parents)))
-      (enough (c .nodes + 1) (c .columnStarts) starts))
+      (enough (c .nodes + 1) (c .columnStarts) (whole .columnStarts)))
       (enough (c .slots) (c .rows) (whole .rows))
 
 -- ---- writing
@@ -122,7 +125,7 @@ write-accepts c output sound fits =
     let whole : Whole (used c) = sound-fits (used c) sound .whole in
     let eight : Checks = (8, outputTooShort c output) ∷ [] in
     let none : firstFault (writeChecks c output) ≡ 0 =
-    fault-later 13 (badSupply c) (contentsChecks (used c) ++ eight) (supply-good c sound whole) ∙ sound-passes (used c) eight sound
+    fault-later 13 (badSupply c) (contentsChecks (used c) ++ eight) (supply-good c (sound .header) whole) ∙ sound-passes (used c) eight sound
     ∙ fault-later 8 (outputTooShort c output) [] (le-ltb output (fileLength c) fits) ∙ first-nil in
     let long : fileLength c ≡ length (encode (used c)) = sym (encode-length (used c) whole ∙ used-long c) in
     rw (none, long)
@@ -144,26 +147,29 @@ written-is-file c output h =
 -- what is read is as many entries as the counts
 pub read-whole : (bytes : List ℕ) → Whole (parse bytes)
 unfolding parse parseAt
-read-whole bytes = record {
-  order = decode16s-length bytes _ 2 _;
-  sizes = decode16s-length bytes _ 4 _;
-  parents = decode16s-length bytes _ 4 _;
-  rows = decode16s-length bytes _ 2 _;
-}
+read-whole bytes =
+    let n : ℕ = parse bytes .nodes in
+    let at : ℕ = 17 + 2 * n + 4 * parse bytes .parts in
+    record {
+      order = decode16s-length bytes _ 2 _;
+      sizes = decode16s-length bytes _ 4 _;
+      parents = decode16s-length bytes _ 4 _;
+      columnStarts = sums-length 0 (decode16s bytes at 2 n) ∙ ap (λ (k : ℕ). k + 1) (decode16s-length bytes at 2 n);
+      rows = decode16s-length bytes _ 2 _;
+    }
 
--- what an accepted reading tells of the bytes and of the plan
-pub record Read (bytes : List ℕ) : Type 0 where
+-- what checks 10 to 14 tell of the bytes where they find no fault
+pub record Header (bytes : List ℕ) : Type 0 where
   pub mark : take 3 bytes ≡ magic
   pub known : decode16 bytes 3 ≡ version
+  pub good : badHeader (parse bytes) ≡ false
   pub long : length bytes ≡ fileLength (parse bytes)
-  pub sound : Sound (parse bytes)
 
--- an accepted reading tells them
-pub read-says : (bytes : List ℕ) (room : Capacity) → reading bytes room .reply .number ≡ 0 → Read bytes
-unfolding reading readChecks headerChecks badMagic badVersion badLength
-read-says bytes room h =
-    let none : firstFault (readChecks bytes room) ≡ 0 = sym (hand-number (firstFault (readChecks bytes room)) (parse bytes)) ∙ h in
-    let c10 = no-fault 10 (tooFewBytes bytes) _ (omega arith) none in
+-- they tell it
+pub header-says : (bytes : List ℕ) → firstFault (headerChecks bytes) ≡ 0 → Header bytes
+unfolding headerChecks badMagic badVersion badLength
+header-says bytes h =
+    let c10 = no-fault 10 (tooFewBytes bytes) _ (omega arith) h in
     let c11 = no-fault 11 (badMagic bytes) _ (omega arith) (c10 .1) in
     let c12 = no-fault 12 (badVersion bytes) _ (omega arith) (c11 .1) in
     let c13 = no-fault 13 (badHeader (parse bytes)) _ (omega arith) (c12 .1) in
@@ -171,9 +177,18 @@ read-says bytes room h =
     record {
       mark = same-equal (take 3 bytes) magic (not-false (same (take 3 bytes) magic) (c11 .0));
       known = eqb-true (decode16 bytes 3) version (not-false (eqb (decode16 bytes 3) version) (c12 .0));
+      good = c13 .0;
       long = eqb-true (length bytes) (fileLength (parse bytes)) (not-false (eqb (length bytes) (fileLength (parse bytes))) (c14 .0));
-      sound = passes-sound (parse bytes) (read-whole bytes) (c13 .0) (no-fault-first (contentsChecks (parse bytes)) _ (c14 .1));
     }
+
+-- an accepted reading: checks 10 to 14 find no fault in the bytes, nor 13 and 15 to 19 in the plan
+pub read-says : (bytes : List ℕ) (room : Capacity) → reading bytes room .reply .number ≡ 0 → Header bytes × Sound (parse bytes)
+unfolding reading readChecks headerChecks
+read-says bytes room h =
+    let none : firstFault (readChecks bytes room) ≡ 0 = sym (hand-number (firstFault (readChecks bytes room)) (parse bytes)) ∙ h in
+    let first : firstFault (headerChecks bytes) ≡ 0 = no-fault-first (headerChecks bytes) _ none in
+    let header : Header bytes = header-says bytes first in
+    (header, passes-sound (parse bytes) (read-whole bytes) (header .good) (no-fault-first (contentsChecks (parse bytes)) _ (sym (first-none (headerChecks bytes) _ refl first) ∙ none)))
 
 -- what an accepted reading hands out
 pub handed-read : (bytes : List ℕ) (room : Capacity) → reading bytes room .reply .number ≡ 0 → handed (reading bytes room) ≡ parse bytes
@@ -233,11 +248,11 @@ written-then-read c output room h eight nine =
 -- Read, then written: the bytes.
 pub read-then-written : ReadThenWritten
 read-then-written bytes room c output small h same-plan fits =
-    let r : Read bytes = read-says bytes room h in
+    let r = read-says bytes room h in
     let e : used c ≡ parse bytes = same-plan ∙ handed-read bytes room h in
-    let again : encode (used c) ≡ bytes = ap encode e ∙ encode-parse bytes small (r .mark) (r .known) (r .long) in
-    let long : fileLength c ≡ length bytes = sym (used-long c) ∙ ap fileLength e ∙ sym (r .long) in
-    write-accepts c output (subst Sound (sym e) (r .sound)) (omega arith) ∙ ap acceptedWriting again
+    let again : encode (used c) ≡ bytes = ap encode e ∙ encode-parse bytes small (r .0 .mark) (r .0 .known) (r .0 .long) in
+    let long : fileLength c ≡ length bytes = sym (used-long c) ∙ ap fileLength e ∙ sym (r .0 .long) in
+    write-accepts c output (subst Sound (sym e) (r .1)) (omega arith) ∙ ap acceptedWriting again
 
 -- what an accepted planning tells of the mesh and of the buffers
 record Accepted (m : Mesh) (room : Capacity) : Type 0 where
@@ -264,7 +279,7 @@ plan-says m room h =
 -- a planned plan has lists as long as their counts
 planned-whole : (m : Mesh) → Whole (planOf m)
 unfolding planOf planBy
-planned-whole m = record { order = order-length (m .nodes) (planOf m .order) (planned-once m); sizes = planned-sizes m; parents = planned-parents m; rows = refl }
+planned-whole m = record { order = order-length (m .nodes) (planOf m .order) (planned-once m); sizes = planned-sizes m; parents = planned-parents m; columnStarts = good-starts (m .nodes) _ (columns-starts m (planOf m .order)) .many; rows = refl }
 
 -- and none of the faults
 planned-sound : (m : Mesh) → firstFault (meshChecks m) ≡ 0 → Sound (planOf m)
@@ -290,4 +305,4 @@ planned-then-read m room c output h same-plan fits =
 
 -- What reading hands out has none of the faults.
 pub read-is-sound : ReadIsSound
-read-is-sound bytes room h = subst Sound (sym (handed-read bytes room h)) (read-says bytes room h .sound)
+read-is-sound bytes room h = subst Sound (sym (handed-read bytes room h)) (read-says bytes room h .1)

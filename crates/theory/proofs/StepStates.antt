@@ -1,7 +1,7 @@
 -- The dissection's state is balanced after any number of steps: the pending and the chosen nodes are all nodes, each once, and parents are chosen before their children.
 use mathlib.Core.Path.{_≡_, refl, ap, subst, _∙_}
 use mathlib.Core.Logic.{_⊎_, inl, inr}
-use mathlib.Core.Bool.{Bool, true, false≢true, false}
+use mathlib.Core.Bool.{Bool, true, false≢true}
 use mathlib.Core.List.{map-append, List, [], _∷_, _++_, map, reverse, reverseAux, flatten, append-nil}
 use Prim.Native.Nat.{ℕ, zero, suc, _+_, _-_, _≤_, _<_}
 use native.Mathlib.Omega.{arith}

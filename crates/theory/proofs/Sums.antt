@@ -5,8 +5,10 @@ use mathlib.Core.Bool.{true, false, false≢true}
 use mathlib.Core.List.{List, [], _∷_, _++_, map}
 use Prim.Native.Nat.{ℕ, _+_, _<_, _≤_, zero, suc, _-_, _*_, _/_}
 use native.Mathlib.Nat.{add-zero, suc-add, add-suc}
+use native.Mathlib.Numerals.{add-one}
 use native.Mathlib.Omega.{arith}
-use lib.ListN.{length, getD}
+use lib.ListN.{length, getD, take}
+use lib.Seq.{take-suc}
 use Rattle.plan.specs.Lists.{upFrom, total, isIn}
 use Rattle.theory.proofs.Bools.{clash, refuted, eq-or-ne}
 use Rattle.theory.proofs.Lists.{isIn-cons, isIn-getD, getD-indexOf, indexOf-lt}
@@ -14,6 +16,16 @@ use Rattle.theory.proofs.Lists.{isIn-cons, isIn-getD, getD-indexOf, ind
 pub total-append : (xs ys : List ℕ) → total (xs ++ ys) ≡ total xs + total ys
 total-append [] ys = omega arith
 total-append (x ∷ xs) ys = omega (arith, total-append xs ys)
+
+-- one more of a list's numbers
+pub total-more : (l : List ℕ) (i : ℕ) → i < length l → total (take (i + 1) l) ≡ total (take i l) + getD l i 0
+total-more l i h = let t = total-append (take i l) (getD l i 0 ∷ []) in rw (add-one, take-suc l i 0 h) (omega arith)
+
+-- no more than all of them together
+pub total-within : (l : List ℕ) (i : ℕ) → i < length l → total (take i l) + getD l i 0 ≤ total l
+total-within [] i h = absurd (omega arith)
+total-within (x ∷ l) zero h = omega arith
+total-within (x ∷ l) (suc i) h = omega (arith, total-within l i (omega arith))
 
 -- no element of a list of positive numbers is 0
 pub no-zero : (l : List ℕ) → ((q : ℕ) → q < length l → 0 < getD l q 0) → isIn 0 l ≡ false
@@ -46,6 +58,29 @@ positive-append (x ∷ xs) ys f g (suc p) h = positive-append xs ys (λ q l. f (
 pub positive-cons : (x : ℕ) (xs : List ℕ) → 0 < x → ((p : ℕ) → p < length xs → 0 < getD xs p 0) → (p : ℕ) → p < length (x ∷ xs) → 0 < getD (x ∷ xs) p 0
 positive-cons x xs h f zero l = h
 positive-cons x xs h f (suc p) l = f p (omega arith)
+
+-- positive numbers are no more than their sum
+pub positive-few : (l : List ℕ) → ((p : ℕ) → p < length l → 0 < getD l p 0) → length l ≤ total l
+positive-few [] f = omega arith
+positive-few (x ∷ l) f = omega (arith, f 0 (omega arith), positive-few l (λ p h. f (suc p) (omega arith)))
+
+-- ---- numbers of which none is above 1
+
+module _ (f : ℕ → ℕ) where
+  -- their sum is at most how many they are
+  total-few : (k a : ℕ) → ((v : ℕ) → a ≤ v → v < a + k → f v ≤ 1) → total (map f (upFrom a k)) ≤ k
+  total-few zero a h = omega arith
+  total-few (suc k) a h = omega (arith, h a (omega arith) (omega arith), total-few k (suc a) (λ v l m. h v (omega arith) (omega arith)))
+
+  -- and it is less where any of them is 0
+  pub total-less : (k a : ℕ) → ((v : ℕ) → a ≤ v → v < a + k → f v ≤ 1) → (v : ℕ) → a ≤ v → v < a + k → total (map f (upFrom a k)) < f v + k
+  total-less zero a h v l m = absurd (omega arith)
+  total-less (suc k) a h v l m =
+      let later : (w : ℕ) → suc a ≤ w → w < suc a + k → f w ≤ 1 = λ w l m. h w (omega arith) (omega arith) in
+      elim (eq-or-ne v a) [
+        | inl e ↦ omega (arith, ap f e, total-few k (suc a) later)
+        | inr e ↦ omega (arith, e, h a (omega arith) (omega arith), total-less k (suc a) later v (omega arith) (omega arith))
+      ]
 
 -- ---- the triangle
 

@@ -6,10 +6,11 @@ use Prim.Native.Nat.{ℕ, suc, _+_, _-_, _≤_, _<_}
 use native.Mathlib.Numerals.{add-one}
 use native.Mathlib.Nat.{zero-add}
 use native.Mathlib.Omega.{arith}
-use lib.ListN.{length, take, drop, set, getD, length-append, length-drop, drop-of-length-le, List·getD-append}
+use lib.ListN.{length, take, drop, set, getD, length-append, length-take, length-drop, drop-of-length-le, List·getD-append}
 use lib.Seq.{length-take-le, take-all, take-at, take-suc, drop-cons, drop-set-lt, drop-drop, take-append-seam, drop-append-seam, set-append-seam, append-snoc, getD-take, getD-drop, getD-append-add, ext-getD}
 use Rattle.plan.specs.Lists.{written}
 use Rattle.theory.proofs.Bools.{lt-or-le}
+use Rattle.theory.proofs.Segments.{segment-front}
 
 module _ {A : Type 0} where
   -- ---- one entry after the other
@@ -68,6 +69,27 @@ module _ {A : Type 0} where
       → take at buffer ++ (last ++ drop (length buffer - at) (drop at buffer)) ≡ written (l ++ new) found
   written-grow found buffer l new last at e f g =
       rw (g, e) (written-part l new found at (length (written l found) - at) (sym f) (rw length-drop (omega arith)))
+
+  -- ---- a buffer that holds k entries at its front
+
+  module _ (k : ℕ) (entries buffer : List A) (many : k ≡ length entries) (front : take k buffer ≡ entries) where
+    -- it is at least k long
+    pub front-within : k ≤ length buffer
+    front-within = omega (arith, many, ap length front, length-take k buffer)
+
+    -- and k entries stand at its front
+    pub front-long : k ≡ length (take k buffer)
+    front-long = many ∙ sym (ap length front)
+
+    -- they are the entries
+    pub front-entry : (i : ℕ) (d : A) → i < k → getD buffer i d ≡ getD entries i d
+    front-entry i d lt = sym (getD-take k buffer i d lt) ∙ ap (λ (l : List A). getD l i d) front
+
+    -- those behind the first too
+    pub front-others : 1 ≤ k → take (k - 1) (drop 1 buffer) ≡ drop 1 entries
+    front-others some =
+        segment-front buffer entries 1 k k some (omega arith) (front ∙ sym (take-all k entries (omega (arith, many))))
+        ∙ take-all (k - 1) (drop 1 entries) (omega (arith, many, length-drop 1 entries))
 
   -- ---- place by place
 
@@ -128,3 +150,31 @@ module _ {A : Type 0} where
       (λ i l. ap (λ (k : ℕ). getD left k d) (zero-add i) ∙ front i l)
       (λ i c. rest i (elim c [ inl l ↦ absurd (omega arith) | inr l ↦ omega arith ]))
       ∙ ap (λ (k : ℕ). entries ++ drop k found) (zero-add (length entries))
+
+-- ---- a buffer that is filled from its front on
+
+-- it held `found` and has `entries` at its front, which reach up to place `at`
+pub record Reached (found entries buffer : List ℕ) (at : ℕ) : Type 0 where
+  pub front : buffer ≡ written entries found
+  pub many : length entries ≡ at
+
+-- the buffer after a call that was lent its part from place `at` on and left `last` there
+abbrev pub lentFrom : ℕ → List ℕ → List ℕ → List ℕ
+lentFrom at buffer last = take at buffer ++ (last ++ drop (length buffer - at) (drop at buffer))
+
+module _ (found entries buffer : List ℕ) (at : ℕ) (r : Reached found entries buffer at) where
+  -- it is as long as it was
+  pub reached-long : at ≤ length found → length buffer ≡ length found
+  reached-long h = ap length (r .front) ∙ written-length entries found (omega (arith, r .many))
+
+  -- there is room behind the entries
+  pub reached-room : (k : ℕ) → at + k ≤ length found → k ≤ length (take (length buffer - at) (drop at buffer))
+  reached-room k h = simp (length-take, length-drop) (omega (arith, reached-long (omega arith)))
+
+  -- more of them, by a call that was lent the part behind them
+  pub reached-more : (more last : List ℕ) (next : ℕ) → last ≡ written more (take (length buffer - at) (drop at buffer)) → at + length more ≡ next
+      → Reached found (entries ++ more) (lentFrom at buffer last) next
+  reached-more more last next e place = record {
+    front = written-grow found buffer entries more last at (r .front) (sym (r .many)) e;
+    many = length-append entries more ∙ omega (arith, r .many);
+  }

@@ -5,7 +5,7 @@ use native.Mathlib.Omega.{arith}
 use lib.ListN.{drop}
 use borrow.Author.Needs.{needs}
 use Rattle.plan.specs.File.{badColumn}
-use Rattle.layout.proofs.ColumnRule.{scan-low, scan-high, scan-next, scan-end}
+use Rattle.layout.proofs.ColumnScan.{scan-low, scan-high, scan-next, scan-end}
 use Rattle.layout.proofs.checks.bad_column.Statement.{statement}
 use Rattle.layout.proofs.checks.bad_column.Tie as tie
 

@@ -8,7 +8,7 @@ use borrow.Author.Needs.{needs}
 use Rattle.plan.specs.Lists.{listAt}
 use Rattle.plan.specs.File.{badColumn, badColumns}
 use Rattle.mesh.proofs.Scans.{Clear, clear-more, found-below, none-below}
-use Rattle.layout.proofs.ColumnRule.{column-within}
+use Rattle.mesh.proofs.Lists.{good-starts-within}
 use Rattle.layout.proofs.checks.bad_columns.Statement.{statement}
 use Rattle.layout.proofs.checks.bad_columns.Tie as tie
 
@@ -37,7 +37,7 @@ answer c =
 list-requires : tie.Need-list-requires Inv-loop μ-loop
 list-requires c κs =
     let s = c .before .before .before .before in
-    column-within (s .args .n) (s .args .columnStarts .now) (s .args .rows .now) (s .pre .0) (s .pre .1) (c .before .loop .j) (c .loop-test .taken)
+    good-starts-within (s .args .n) (s .args .columnStarts .now) (s .args .rows .now) (s .pre .0) (s .pre .1) (c .before .loop .j) (c .loop-test .taken)
 
 returns : tie.Need-returns Inv-loop μ-loop
 unfolding badColumns

@@ -13,7 +13,8 @@ use Rattle.theory.proofs.Orders.{order-length, order-inside}
 use Rattle.mesh.specs.Lent.{lent}
 use Rattle.mesh.proofs.Lists.{checked-within, entry-node}
 use Rattle.layout.specs.Arrays.{Marked, neighbourPosition}
-use Rattle.layout.proofs.Marks.{marked-more, position-below}
+use Rattle.layout.proofs.Inverse.{inverse-inside}
+use Rattle.layout.proofs.Marks.{marked-more}
 use Rattle.layout.proofs.columns.mark_neighbours.Statement.{statement}
 use Rattle.layout.proofs.columns.mark_neighbours.Tie as tie
 
@@ -54,7 +55,7 @@ inside : (c : tie.After-node3 Inv-loop μ-loop) → c .node3 .result < length (c
 inside c =
     let l = c .before .before .before .before .before in
     let s = start l in
-    let lt = position-below (mesh s) (s .args .order .now) (s .args .positions .now) (s .pre .0) (c .before .before .node2 .result) (known (c .before .before)) in
+    let lt = inverse-inside (mesh s) (s .args .order .now) (s .args .positions .now) (s .pre .0) (c .before .before .node2 .result) (known (c .before .before)) in
     omega (arith, lt, c .node3 .ensures)
 
 list-requires : tie.Need-list-requires Inv-loop μ-loop

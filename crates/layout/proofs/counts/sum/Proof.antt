@@ -7,7 +7,8 @@ use borrow.Author.Needs.{needs}
 use lib.ListN.{length, take, getD}
 use Rattle.plan.specs.Lists.{total}
 use Rattle.plan.specs.Elimination.{multiplications}
-use Rattle.layout.proofs.Totals.{work, product-few, total-more, multiplications-more}
+use Rattle.theory.proofs.Sums.{total-more}
+use Rattle.layout.proofs.Totals.{work, product-few, multiplications-more}
 use Rattle.layout.proofs.counts.sum.Statement.{statement}
 use Rattle.layout.proofs.counts.sum.Tie as tie
 

@@ -9,7 +9,8 @@ use lib.Seq.{length-take-le}
 use Rattle.plan.specs.Lists.{total, runningSums, written}
 use Rattle.theory.proofs.Compressed.{sums-length}
 use Rattle.theory.proofs.Written.{written-push, written-set}
-use Rattle.layout.proofs.Totals.{total-more, sums-more}
+use Rattle.theory.proofs.Sums.{total-more}
+use Rattle.layout.proofs.Totals.{sums-more}
 use Rattle.layout.proofs.counts.write_starts.Statement.{statement}
 use Rattle.layout.proofs.counts.write_starts.Tie as tie
 

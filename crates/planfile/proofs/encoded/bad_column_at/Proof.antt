@@ -5,17 +5,18 @@ use lib.ListN.{length}
 use borrow.Author.Needs.{needs}
 use Rattle.plan.specs.Lists.{listAt}
 use Rattle.plan.specs.File.{badColumn}
+use Rattle.theory.proofs.Written.{front-within, front-long}
+use Rattle.theory.proofs.ColumnRule.{column-many}
 use Rattle.mesh.specs.Lent.{ListWithin}
 use Rattle.mesh.proofs.Lists.{list-long}
-use Rattle.layout.proofs.ColumnRule.{column-within}
 use Rattle.planfile.specs.Supplied.{rowsIn}
-use Rattle.planfile.proofs.Loaded.{column-many, front-within, front-long}
+use Rattle.planfile.proofs.Nesting.{started-within}
 use Rattle.planfile.proofs.encoded.bad_column_at.Statement.{statement}
 use Rattle.planfile.proofs.encoded.bad_column_at.Tie as tie
 
 -- the column lies within the rows
 within : (s : tie.Start) → ListWithin (s .args .columnStarts .now) (rowsIn (s .args .bytes .now)) (s .args .j)
-within s = column-within (s .args .n) (s .args .columnStarts .now) (rowsIn (s .args .bytes .now)) (s .pre .0 .starts) (omega (arith, s .pre .0 .last)) (s .args .j) (s .pre .1)
+within s = started-within (s .args .n) (s .args .columnStarts .now) (rowsIn (s .args .bytes .now)) (s .pre .0) (s .args .j) (s .pre .1)
 
 count-requires : tie.Need-count-requires
 count-requires c κs = let w = within (c .before .before .before) in (w .started, w .ordered)

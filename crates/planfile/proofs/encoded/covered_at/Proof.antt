@@ -6,10 +6,10 @@ use native.Mathlib.Omega.{arith}
 use lib.ListN.{length, take, drop, getD}
 use borrow.Author.Needs.{needs}
 use Rattle.plan.specs.Lists.{listAt, ascending}
+use Rattle.theory.proofs.Written.{front-within, front-long, front-entry, front-others}
 use Rattle.mesh.specs.Lent.{ListWithin}
 use Rattle.mesh.proofs.Lists.{list-long}
 use Rattle.planfile.specs.Supplied.{rowsIn}
-use Rattle.planfile.proofs.Loaded.{front-within, front-long, front-entry, front-others}
 use Rattle.planfile.proofs.Nesting.{laid-within, laid-ascending, laid-row, laid-few, laid-others, covered-few, covered-is}
 use Rattle.planfile.proofs.encoded.covered_at.Statement.{statement}
 use Rattle.planfile.proofs.encoded.covered_at.Tie as tie
@@ -52,7 +52,7 @@ many c = omega (arith, c .load .ensures .0, counted (c .before .before .before),
 first : (c : tie.After-node) → let s = c .before .before .before .before .before .before .before .before .before .before .before .before in c .node .result ≡ getD (rowsOf s (s .args .j)) 0 0
 first c =
     let l = c .before .before .before .before in
-    c .node .ensures ∙ front-entry _ _ _ (l .load .ensures .0) (l .load .ensures .1) 0 (omega (arith, many l))
+    c .node .ensures ∙ front-entry _ _ _ (l .load .ensures .0) (l .load .ensures .1) 0 0 (omega (arith, many l))
 
 -- is a position
 below-n : (c : tie.After-node) → c .node .result < c .before .before .before .before .before .before .before .before .before .before .before .before .args .n

@@ -3,15 +3,15 @@ use native.Mathlib.Omega.{arith}
 use borrow.Author.Needs.{needs}
 use Rattle.mesh.specs.Lent.{ListWithin}
 use Rattle.mesh.proofs.Lists.{list-long}
-use Rattle.layout.proofs.ColumnRule.{column-within}
 use Rattle.planfile.specs.Supplied.{rowsIn}
+use Rattle.planfile.proofs.Nesting.{started-within}
 use Rattle.planfile.proofs.Loaded.{bytes-within, column-loaded}
 use Rattle.planfile.proofs.encoded.load.Statement.{statement}
 use Rattle.planfile.proofs.encoded.load.Tie as tie
 
 -- the column lies within the rows
 within : (s : tie.Start) → ListWithin (s .args .columnStarts .now) (rowsIn (s .args .bytes .now)) (s .args .j)
-within s = column-within (s .args .n) (s .args .columnStarts .now) (rowsIn (s .args .bytes .now)) (s .pre .0 .starts) (omega (arith, s .pre .0 .last)) (s .args .j) (s .pre .1)
+within s = started-within (s .args .n) (s .args .columnStarts .now) (rowsIn (s .args .bytes .now)) (s .pre .0) (s .args .j) (s .pre .1)
 
 shared-slice-read-index : tie.Need-shared-slice-read-index
 shared-slice-read-index c = omega (arith, within (c .before .before .before .before) .started)

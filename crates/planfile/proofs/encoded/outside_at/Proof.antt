@@ -3,8 +3,8 @@ use mathlib.Core.Path.{ap, _∙_}
 use native.Mathlib.Omega.{arith}
 use borrow.Author.Needs.{needs}
 use Rattle.plan.specs.File.{badColumn}
+use Rattle.theory.proofs.Written.{front-within, front-long}
 use Rattle.planfile.specs.Supplied.{rowsIn, outside}
-use Rattle.planfile.proofs.Loaded.{front-within, front-long}
 use Rattle.planfile.proofs.Nesting.{laid-good, laid-few}
 use Rattle.planfile.proofs.encoded.outside_at.Statement.{statement}
 use Rattle.planfile.proofs.encoded.outside_at.Tie as tie

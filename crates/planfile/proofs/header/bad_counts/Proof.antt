@@ -8,7 +8,7 @@ use borrow.Author.Needs.{needs}
 use Rattle.plan.specs.Mesh.{badNodeCount}
 use Rattle.plan.specs.File.{badHeader}
 use Rattle.theory.proofs.Checked.{node-count}
-use Rattle.planfile.proofs.Counts.{pairs-few}
+use Rattle.theory.proofs.Fitting.{pairs-few}
 use Rattle.planfile.proofs.header.bad_counts.Statement.{statement}
 use Rattle.planfile.proofs.header.bad_counts.Tie as tie
 

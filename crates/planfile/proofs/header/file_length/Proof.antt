@@ -3,8 +3,8 @@ use mathlib.Core.Path.{refl}
 use Prim.Native.Nat.{_≤_}
 use native.Mathlib.Omega.{arith}
 use Rattle.plan.specs.File.{lengthAt}
+use Rattle.theory.proofs.Fitting.{counts-few}
 use Rattle.planfile.specs.Supplied.{countsOnly}
-use Rattle.planfile.proofs.Counts.{counts-few}
 use Rattle.planfile.proofs.header.file_length.Statement.{statement}
 use Rattle.planfile.proofs.header.file_length.Tie as tie
 

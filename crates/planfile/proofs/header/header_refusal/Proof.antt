@@ -7,7 +7,7 @@ use Rattle.plan.specs.Refusals.{firstFault}
 use Rattle.plan.specs.File.{fileLength, parse, badHeader}
 use Rattle.plan.specs.Reading.{tooFewBytes, badMagic, badVersion, badLength, headerChecks}
 use Rattle.planfile.specs.Supplied.{countsOnly}
-use Rattle.planfile.proofs.Counts.{header-counts}
+use Rattle.planfile.proofs.Passing.{header-counts}
 use Rattle.planfile.proofs.header.header_refusal.Statement.{statement}
 use Rattle.planfile.proofs.header.header_refusal.Tie as tie
 

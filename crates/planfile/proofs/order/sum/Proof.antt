@@ -7,7 +7,7 @@ use lib.ListN.{take}
 use lib.Seq.{take-all}
 use borrow.Author.Needs.{needs}
 use Rattle.plan.specs.Lists.{total}
-use Rattle.layout.proofs.Totals.{total-more}
+use Rattle.theory.proofs.Sums.{total-more}
 use Rattle.planfile.proofs.order.sum.Statement.{statement}
 use Rattle.planfile.proofs.order.sum.Tie as tie
 

@@ -6,9 +6,10 @@ use lib.ListN.{getD}
 use borrow.Author.Needs.{needs}
 use Rattle.plan.specs.Refusals.{firstFault}
 use Rattle.plan.specs.Planning.{Contents}
-use Rattle.plan.specs.File.{parse, badOrder, badParts, badRows, notNested, notCovered, contentsChecks}
-use Rattle.planfile.specs.Supplied.{LaidOut, rowsIn}
-use Rattle.planfile.proofs.Headed.{Sizes, headed-sizes, behind, order-few, order-refused, order-passed, file-parted, starts-long, rows-apart, rows-started, rows-columns, file-nested, file-covered}
+use Rattle.plan.specs.File.{parse, badRows, notNested, notCovered}
+use Rattle.planfile.specs.Supplied.{orderChecks, LaidOut, rowsIn}
+use Rattle.planfile.proofs.Passing.{order-fault, fault-17, fault-18, fault-19, all-passed}
+use Rattle.planfile.proofs.Headed.{Sizes, headed-sizes, behind, order-few, file-ordered, file-parted, starts-long, rows-apart, rows-started, rows-columns, file-nested, file-covered}
 use Rattle.planfile.proofs.reader.contents_refusal.Statement.{statement}
 use Rattle.planfile.proofs.reader.contents_refusal.Tie as tie
 
@@ -28,20 +29,22 @@ order-refusal-requires c κs =
 -- ---- 15 and 16
 
 -- where the function begins
+abbrev start : tie.After-order-refusal → tie.Start
+start o = o .before .before .before .before .before .before
+
 abbrev begin : tie.Else1 → tie.Start
-begin e = e .before .before .before .before .before .before .before
+begin e = start (e .before)
+
+-- they are the code's
+order : (o : tie.After-order-refusal) → firstFault (orderChecks (file (start o))) ≡ o .order-refusal .result
+order o = let s = start o in sym (o .order-refusal .ensures ∙ file-ordered _ _ _ _ (s .pre .0) _ _ _ _ (s .pre .1))
 
 returns : tie.Need-returns
-returns c =
-    let o = c .before in
-    let s = o .before .before .before .before .before .before in
-    order-refused _ _ _ _ (s .pre .0) _ _ _ _ (s .pre .1) (o .order-refusal .result) (o .order-refusal .ensures) (c .if1 .taken)
+returns c = let e = order (c .before) in sym (order-fault (file (start (c .before))) (λ z. c .if1 .taken (sym e ∙ z)) ∙ e)
 
 -- neither found a fault
-passed : (e : tie.Else1) → (badOrder (file (begin e)) ≡ false) × (badParts (file (begin e)) ≡ false)
-passed e =
-    let s = begin e in
-    order-passed _ _ _ _ (s .pre .0) _ _ _ _ (s .pre .1) (sym (e .before .order-refusal .ensures) ∙ e .if1 .left)
+ordered : (e : tie.Else1) → firstFault (orderChecks (file (begin e))) ≡ 0
+ordered e = order (e .before) ∙ e .if1 .left
 
 -- ---- 17
 
@@ -54,12 +57,11 @@ shared-slice-read-index c =
     omega (arith, starts-long _ _ _ _ (s .pre .0) _ _ _ _ (s .pre .1))
 
 returns-2 : tie.Need-returns-2
-unfolding contentsChecks firstFault
 returns-2 c =
     let i = c .before in
     let e = i .before .before in
     let s = begin e in
-    rw (passed e .0, passed e .1, rows-apart _ _ _ _ (s .pre .0) _ _ _ _ (s .pre .1) (λ z. c .if2 .taken (i .index .ensures ∙ z)))
+    sym (fault-17 (file s) (ordered e) (rows-apart _ _ _ _ (s .pre .0) _ _ _ _ (s .pre .1) (λ z. c .if2 .taken (i .index .ensures ∙ z))))
 
 -- the last start is s
 ends : (c : tie.Else2) → let a = begin (c .before .before .before) .args in getD (a .columnStarts .now) (a .n) 0 ≡ a .s
@@ -97,11 +99,10 @@ rows b =
     rows-columns _ _ _ _ (s .pre .0) _ _ _ _ (s .pre .1) (ends e) ∙ sym (b .bad-columns .ensures)
 
 returns-3 : tie.Need-returns-3
-unfolding contentsChecks firstFault
 returns-3 c =
     let b = c .before in
-    let o = passed (b .before .before .before .before .before) in
-    rw (o .0, o .1, rows b ∙ c .if3 .taken)
+    let e = b .before .before .before .before .before in
+    sym (fault-17 (file (begin e)) (ordered e) (rows b ∙ c .if3 .taken))
 
 -- ---- 18 and 19
 
@@ -117,11 +118,11 @@ not-nested-requires : tie.Need-not-nested-requires
 not-nested-requires c κs =
     let o = c .before .before .before .before .before .before in
     let s = begin o in
-    (file-parted _ _ _ _ (s .pre .0) _ _ _ _ (s .pre .1) (passed o .1), laid-out c)
+    (file-parted _ _ _ _ (s .pre .0) _ _ _ _ (s .pre .1) (ordered o), laid-out c)
 
--- checks 15 to 17 found no fault
-before-nested : (c : tie.Else3) → let f = file (begin (c .before .before .before .before .before .before)) in (badOrder f ≡ false) × (badParts f ≡ false) × (badRows f ≡ false)
-before-nested c = let o = passed (c .before .before .before .before .before .before) in (o .0, o .1, rows (c .before) ∙ c .if3 .left)
+-- check 17 found no fault
+laid : (c : tie.Else3) → badRows (file (begin (c .before .before .before .before .before .before))) ≡ false
+laid c = rows (c .before) ∙ c .if3 .left
 
 -- check 18 is the code's
 nested : (r : tie.After-not-nested) → notNested (file (begin (r .before .before .before .before .before .before .before))) ≡ r .not-nested .result
@@ -130,11 +131,10 @@ nested r =
     sym (r .not-nested .ensures ∙ file-nested _ _ _ _ (s .pre .0) _ _ _ _ (s .pre .1))
 
 returns-4 : tie.Need-returns-4
-unfolding contentsChecks firstFault
 returns-4 c =
-    let r = c .before in
-    let e = before-nested (r .before) in
-    rw (e .0, e .1, e .2, nested r ∙ c .if4 .taken)
+    let e = c .before .before in
+    let o = e .before .before .before .before .before .before in
+    sym (fault-18 (file (begin o)) (ordered o) (laid e) (nested (c .before) ∙ c .if4 .taken))
 
 not-covered-requires : tie.Need-not-covered-requires
 not-covered-requires c κs = laid-out (c .before .before)
@@ -146,18 +146,18 @@ covered r =
     sym (r .not-covered .ensures ∙ file-covered _ _ _ _ (s .pre .0) _ _ _ _ (s .pre .1))
 
 returns-5 : tie.Need-returns-5
-unfolding contentsChecks firstFault
 returns-5 c =
     let d = c .before .before in
-    let e = before-nested (d .before .before) in
-    rw (e .0, e .1, e .2, nested (d .before) ∙ d .if4 .left, covered (c .before) ∙ c .if5 .taken)
+    let e = d .before .before in
+    let o = e .before .before .before .before .before .before in
+    sym (fault-19 (file (begin o)) (ordered o) (laid e) (nested (d .before) ∙ d .if4 .left) (covered (c .before) ∙ c .if5 .taken))
 
 returns-6 : tie.Need-returns-6
-unfolding contentsChecks firstFault
 returns-6 c =
     let d = c .before .before in
-    let e = before-nested (d .before .before) in
-    rw (e .0, e .1, e .2, nested (d .before) ∙ d .if4 .left, covered (c .before) ∙ c .if5 .left)
+    let e = d .before .before in
+    let o = e .before .before .before .before .before .before in
+    sym (all-passed (file (begin o)) (ordered o) (laid e) (nested (d .before) ∙ d .if4 .left) (covered (c .before) ∙ c .if5 .left))
 
 pub contents-refusal-spec : {M : Type 1} → statement M
 contents-refusal-spec =

@@ -1,6 +1,6 @@
 -- `planfile::rules::climb` meets its contract: part `to` is at or above the part reached exactly where it is at or above the first one.
 use mathlib.Core.Path.{_≡_, refl, sym, _∙_}
-use Prim.Native.Nat.{ℕ, _-_}
+use Prim.Native.Nat.{_-_}
 use native.Mathlib.Omega.{arith}
 use borrow.Author.Needs.{needs}
 use Rattle.plan.specs.Parts.{atOrAbove}

@@ -11,9 +11,8 @@ use borrow.Author.Needs.{needs}
 use Rattle.plan.specs.Lists.{isIn}
 use Rattle.theory.proofs.Ascending.{ascending-getD}
 use Rattle.mesh.specs.Lent.{LowerBound}
-use Rattle.mesh.proofs.Scans.{Clear, clear-more, elementAt}
+use Rattle.mesh.proofs.Scans.{Clear, clear-more, elementAt, fails, one-fails, none-fails}
 use Rattle.mesh.proofs.Bisection.{place-none, place-in}
-use Rattle.planfile.proofs.Every.{fails, one-fails, none-fails}
 use Rattle.planfile.proofs.rules.contains_all.Statement.{statement}
 use Rattle.planfile.proofs.rules.contains_all.Tie as tie
 

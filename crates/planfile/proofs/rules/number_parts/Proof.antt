@@ -10,8 +10,8 @@ use lib.Seq.{take-all}
 use Rattle.plan.specs.Lists.{total}
 use Rattle.plan.specs.Parts.{partOf}
 use Rattle.theory.proofs.Bools.{lt-or-le}
-use Rattle.layout.proofs.Totals.{total-more}
-use Rattle.planfile.proofs.Numbering.{part-within, part-here}
+use Rattle.theory.proofs.Sums.{total-more, total-within}
+use Rattle.theory.proofs.PartOf.{part-here}
 use Rattle.planfile.proofs.rules.number_parts.Statement.{statement}
 use Rattle.planfile.proofs.rules.number_parts.Tie as tie
 
@@ -38,7 +38,7 @@ ends : (c : tie.After-node Inv-loop μ-loop) →
 ends c =
     let l = c .before .before .before in
     let s = l .before .before .before in
-    omega (arith, l .loop .inv .reached, l .loop .inv .long, c .node .ensures, s .pre .1, part-within (s .args .sizes .now) (l .loop .q) (omega arith))
+    omega (arith, l .loop .inv .reached, l .loop .inv .long, c .node .ensures, s .pre .1, total-within (s .args .sizes .now) (l .loop .q) (omega arith))
 
 fill-requires : tie.Need-fill-requires Inv-loop μ-loop
 fill-requires c κs = ends (c .before)

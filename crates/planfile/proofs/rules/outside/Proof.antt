@@ -12,8 +12,8 @@ use Rattle.plan.specs.Parts.{atOrAbove}
 use Rattle.theory.proofs.Lists.{isIn-getD}
 use Rattle.theory.proofs.Ascending.{ascending-getD}
 use Rattle.theory.proofs.PartAncestors.{Under, here, under-trans, under-of-test}
+use Rattle.theory.proofs.ColumnRule.{good-column}
 use Rattle.mesh.proofs.Scans.{Clear, clear-more, elementAt, found-in, none-in}
-use Rattle.layout.proofs.ColumnRule.{good-column}
 use Rattle.planfile.proofs.Climbs.{above-same}
 use Rattle.planfile.proofs.rules.outside.Statement.{statement}
 use Rattle.planfile.proofs.rules.outside.Tie as tie

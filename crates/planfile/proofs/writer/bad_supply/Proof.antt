@@ -10,7 +10,7 @@ use Rattle.plan.specs.Planning.{Contents}
 use Rattle.plan.specs.File.{badHeader}
 use Rattle.plan.specs.Writing.{badSupply}
 use Rattle.planfile.specs.Supplied.{supplied}
-use Rattle.planfile.proofs.Counts.{header-counts}
+use Rattle.planfile.proofs.Passing.{header-counts}
 use Rattle.planfile.proofs.writer.bad_supply.Statement.{statement}
 use Rattle.planfile.proofs.writer.bad_supply.Tie as tie
 

@@ -7,8 +7,8 @@ use native.Mathlib.Omega.{arith}
 use borrow.Author.Needs.{needs}
 use Rattle.plan.specs.Planning.{Contents}
 use Rattle.plan.specs.Writing.{badSupply, used}
+use Rattle.theory.proofs.Fitting.{counts-few}
 use Rattle.planfile.specs.Supplied.{supplied, Exact}
-use Rattle.planfile.proofs.WrittenFile.{small-counts}
 use Rattle.planfile.proofs.WriteAnswers.{exact-used, exact-fronts, refused-supply, wrote-fronts}
 use Rattle.planfile.proofs.writer.write.Statement.{statement}
 use Rattle.planfile.proofs.writer.write.Tie as tie
@@ -52,7 +52,7 @@ write-spec =
     (tie.spec
     (λ c κs. search needs)
     returns
-    (λ c. omega (arith, small-counts (used (plan (start (c .before)))) (exact c .header) .0))
+    (λ c. omega (arith, counts-few (used (plan (start (c .before)))) (exact c .header) .0))
     (λ c. sym (exact (c .before) .order))
     (λ c. sym (exact (c .before .before) .sizes))
     (λ c. sym (exact (c .before .before .before) .parents))

@@ -1,21 +1,25 @@
 -- `planfile::writer::write_counts` meets its contract: the loop writes the row counts one after the other.
 use mathlib.Core.Path.{_≡_, sym, ap, _∙_}
-use mathlib.Core.List.{List, []}
+use mathlib.Core.List.{List}
 use Prim.Native.Nat.{ℕ, _+_, _-_, _*_, _≤_}
 use native.Mathlib.Omega.{arith}
 use lib.ListN.{length, getD}
 use borrow.Author.Needs.{needs}
 use Rattle.plan.specs.Lists.{written}
+use Rattle.plan.specs.Planning.{rowCounts}
 use Rattle.plan.specs.File.{encode16}
-use Rattle.theory.proofs.Coding.{encode16-length}
-use Rattle.planfile.specs.Supplied.{partsAndRows}
-use Rattle.planfile.proofs.WrittenFile.{blocks, Blocks, blocks-none, blocks-next, blocks-all, counts-blocks, reached-long, reached-room, reached-more}
+use Rattle.theory.proofs.Written.{reached-long, reached-room, reached-more}
+use Rattle.theory.proofs.Coding.{encode16-length, blocks, made-blocks, Blocks, blocks-none, blocks-next, blocks-all}
 use Rattle.planfile.proofs.writer.write_counts.Statement.{statement}
 use Rattle.planfile.proofs.writer.write_counts.Tie as tie
 
--- the bytes of column j's row count
+-- column j's row count
+abbrev many : List ℕ → ℕ → ℕ
+many starts j = getD starts (j + 1) 0 - getD starts j 0
+
+-- its bytes
 abbrev count : List ℕ → ℕ → List ℕ
-count starts j = encode16 (getD starts (j + 1) 0 - getD starts j 0)
+count starts j = encode16 (many starts j)
 
 abbrev Inv-loop : tie.InvT-loop
 Inv-loop n columnStarts bytes₀ j₀ bytes j = Blocks (count columnStarts) 2 n bytes₀ bytes j
@@ -51,11 +55,12 @@ loop-again c =
     (ap (λ (k : ℕ). 2 * j + k) (encode16-length _)))
 
 returns : tie.Need-returns Inv-loop μ-loop
+unfolding rowCounts
 returns c =
     let l = c .before in
     let a = l .before .before .before .args in
     blocks-all (count (a .columnStarts .now)) 2 (a .n) (a .bytes .now) (l .loop .bytes) (l .loop .j) (c .loop-test .left) (l .loop .inv)
-    ∙ ap (λ (l : List ℕ). written l (a .bytes .now)) (sym (counts-blocks (partsAndRows (a .n) [] [] (a .columnStarts .now) [])))
+    ∙ ap (λ (l : List ℕ). written l (a .bytes .now)) (sym (made-blocks (many (a .columnStarts .now)) (a .n)))
 
 pub write-counts-spec : {M : Type 1} → statement M
 write-counts-spec =

@@ -7,11 +7,12 @@ use lib.ListN.{length, set, length-set}
 use borrow.Author.Needs.{needs}
 use Rattle.plan.specs.Lists.{written}
 use Rattle.plan.specs.File.{encode16, encode32, magic, version}
-use Rattle.theory.proofs.Written.{written-push}
+use Rattle.theory.proofs.Written.{written-push, Reached, lentFrom, reached-long, reached-room, reached-more}
 use Rattle.theory.proofs.Coding.{encode16-length}
 use Rattle.theory.proofs.FileFields.{word-length}
+use Rattle.theory.proofs.Fitting.{counts-few}
 use Rattle.planfile.specs.Supplied.{countsOnly}
-use Rattle.planfile.proofs.WrittenFile.{Reached, lentFrom, reached-long, reached-room, reached-more, small-counts, header-fields}
+use Rattle.planfile.proofs.WrittenFile.{header-fields}
 use Rattle.planfile.proofs.writer.write_header.Statement.{statement}
 use Rattle.planfile.proofs.writer.write_header.Tie as tie
 
@@ -20,7 +21,7 @@ found s = s .args .bytes .now
 
 -- the counts are numbers of 32 bits
 small : (s : tie.Start) → let a = s .args in (a .n ≤ 4096) × (a .p ≤ 4096) × (a .s ≤ 8386560)
-small s = let a = s .args in small-counts (countsOnly (a .n) (a .p) (a .s)) (s .pre .0)
+small s = let a = s .args in counts-few (countsOnly (a .n) (a .p) (a .s)) (s .pre .0)
 
 -- ---- the mark
 

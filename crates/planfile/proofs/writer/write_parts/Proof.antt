@@ -6,8 +6,8 @@ use native.Mathlib.Omega.{arith}
 use lib.ListN.{length, getD}
 use borrow.Author.Needs.{needs}
 use Rattle.plan.specs.File.{encode16, encodeParts}
-use Rattle.theory.proofs.Coding.{encode16-length}
-use Rattle.planfile.proofs.WrittenFile.{Reached, lentFrom, reached-long, reached-room, reached-more, blocks, Blocks, blocks-none, blocks-next, blocks-all}
+use Rattle.theory.proofs.Written.{Reached, lentFrom, reached-long, reached-room, reached-more}
+use Rattle.theory.proofs.Coding.{encode16-length, blocks, Blocks, blocks-none, blocks-next, blocks-all}
 use Rattle.planfile.proofs.writer.write_parts.Statement.{statement}
 use Rattle.planfile.proofs.writer.write_parts.Tie as tie
 

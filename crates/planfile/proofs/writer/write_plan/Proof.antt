@@ -8,10 +8,12 @@ use borrow.Author.Needs.{needs}
 use Rattle.plan.specs.Lists.{written}
 use Rattle.plan.specs.Planning.{Contents, rowCounts}
 use Rattle.plan.specs.File.{encode16s, lengthAt, fileLength, encodeParts, badHeader}
+use Rattle.theory.proofs.Written.{Reached, lentFrom, reached-long, reached-room, reached-more}
 use Rattle.theory.proofs.Coding.{encode16s-length}
 use Rattle.theory.proofs.FileFields.{parts-length, counts-length}
+use Rattle.theory.proofs.Fitting.{counts-few}
 use Rattle.planfile.specs.Supplied.{supplied, headerOf}
-use Rattle.planfile.proofs.WrittenFile.{Reached, lentFrom, reached-long, reached-room, reached-more, small-counts, header-length, file-fields}
+use Rattle.planfile.proofs.WrittenFile.{header-length, file-fields}
 use Rattle.planfile.proofs.writer.write_plan.Statement.{statement}
 use Rattle.planfile.proofs.writer.write_plan.Tie as tie
 
@@ -42,7 +44,7 @@ rowsAt s = countsAt s + 2 * plan s .nodes
 
 -- numbers of 64 bits, since the counts are small
 small : (s : tie.Start) → (plan s .nodes ≤ 4096) × (plan s .parts ≤ 4096) × (plan s .slots ≤ 8386560)
-small s = small-counts (plan s) (s .pre .0 .0 .header)
+small s = counts-few (plan s) (s .pre .0 .0 .header)
 
 -- before the first call
 abbrev start : tie.After-slice-known → tie.Start
