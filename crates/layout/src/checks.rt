@@ -10,7 +10,7 @@ ghost use Rattle.plan.specs.Planning.{buffersTooShort, lengths};
 ghost use Rattle.plan.specs.File.{badColumn, badColumns};
 
 // Check 8: a lent result other than the rows is too short. O(1).
-pub fn too_short(
+pub fn buffers_too_short(
     n: usize,
     order: usize,
     positions: usize,

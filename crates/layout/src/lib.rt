@@ -7,14 +7,13 @@ mod questions;
 
 pub use checks::bad_column;
 pub use checks::bad_columns;
-pub use checks::too_short;
+pub use checks::buffers_too_short;
 pub use columns::write_columns;
 pub use counts::Totals;
 pub use counts::count_rows;
 pub use counts::sum;
 pub use counts::write_starts;
 pub use positions::invert;
-pub use questions::Span;
 pub use questions::column_refusal;
 pub use questions::column_rows;
 pub use questions::column_span;

@@ -7,6 +7,7 @@ use mesh::list;
 use mesh::lower_bound;
 use mesh::node;
 use plan::PairAnswer;
+use plan::Span;
 ghost use mathlib.Core.Path.{_≡_};
 ghost use mathlib.Core.Bool.{true, false};
 ghost use Rattle.plan.specs.Lists.{ascending, listAt};
@@ -96,15 +97,9 @@ pub fn column_refusal(n: usize, columnStarts: &[u32], rows: &[u16], j: usize) ->
     0
 }
 
-// A part of the rows: where it starts, and how many rows it has.
-pub struct Span {
-    pub start: usize,
-    pub count: usize,
-}
-
-// Where column j's rows stand in the rows; none from 0 on where the question is refused. O(n + slots).
+// Where column j's rows stand in the rows buffer; start 0 and count 0 where the question is refused. O(n + slots).
 pub fn column_span(n: usize, columnStarts: &[u32], rows: &[u16], j: usize) -> Span
-    ensures { λ r. ⌜ (r .start ≡ columnSpan n (now (columnStarts .entry)) (now (rows .entry)) j .start) × (r .count ≡ columnSpan n (now (columnStarts .entry)) (now (rows .entry)) j .count) ⌝ }
+    ensures { λ r. ⌜ r ≡ columnSpan n (now (columnStarts .entry)) (now (rows .entry)) j ⌝ }
 {
     if column_refusal(n, columnStarts, rows, j) != 0 {
         return Span { start: 0, count: 0 };

@@ -41,9 +41,9 @@ module _ (parents : List ℕ) (passed : Parents parents) where
   above-later r to lt = refuted (atOrAbove parents r to) (λ t. omega (arith, under-le parents later (under-of-test parents r to t)))
 
   -- a later part is at or above r exactly where it is at or above r's parent
-  pub climb-step : (r to : ℕ) → r < to → to < length parents → atOrAbove parents r to ≡ atOrAbove parents (getD parents r 0) to
+  pub reaches-step : (r to : ℕ) → r < to → to < length parents → atOrAbove parents r to ≡ atOrAbove parents (getD parents r 0) to
   unfolding parentOf
-  climb-step r to lt within =
+  reaches-step r to lt within =
       iff-eq (atOrAbove parents r to) (atOrAbove parents (parentOf parents r) to)
       (λ t. there (omega arith) (under-of-test parents r to t))
       (λ t. above-test r to (back (under-of-test parents (parentOf parents r) to t)))
@@ -60,18 +60,18 @@ module _ (parents : List ℕ) (passed : Parents parents) where
       ]
 
   -- a step goes up
-  pub climb-up : (r : ℕ) → r < length parents → r < getD parents r 0
+  pub reaches-up : (r : ℕ) → r < length parents → r < getD parents r 0
   unfolding parentOf
-  climb-up r lt =
+  reaches-up r lt =
       let same : parentOf parents r ≡ getD parents r 0 = getD-default parents r noParent 0 lt in
       elim (eq-or-ne (parentOf parents r) noParent) [
         | inl e ↦ omega (arith, passed .few)
         | inr has ↦ omega (arith, later r has)
       ]
 
-  -- a climb that is no longer before `to` stands on it exactly where `to` is at or above
-  pub climb-end : (r to : ℕ) → to ≤ r → eqb r to ≡ atOrAbove parents r to
-  climb-end r to le = elim (eq-or-ne r to) [
+  -- a reaches that is no longer before `to` stands on it exactly where `to` is at or above
+  pub reaches-end : (r to : ℕ) → to ≤ r → eqb r to ≡ atOrAbove parents r to
+  reaches-end r to le = elim (eq-or-ne r to) [
     | inl e ↦ eq-eqb r to e ∙ sym (rw e (above-test to to here))
     | inr e ↦ ne-eqb r to e ∙ sym (above-later r to (omega (arith, e)))
   ]

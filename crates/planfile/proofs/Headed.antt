@@ -21,7 +21,7 @@ use Rattle.theory.proofs.Compressed.{sums-starts}
 use Rattle.theory.proofs.Coding.{decode16s-length, decode16s-drop}
 use Rattle.theory.proofs.Fitting.{Limits, header-limits, counts-few}
 use Rattle.theory.proofs.RoundTrips.{Header, header-says, read-whole}
-use Rattle.planfile.specs.Supplied.{orderAndParts, orderChecks, partsAndRows, Exact, Parted, Started, rowsIn, countsIn, Headed}
+use Rattle.planfile.specs.Supplied.{orderAndParts, orderAndPartsChecks, partsAndRows, Exact, Parted, Started, rowsIn, rowCountsIn, Headed}
 use Rattle.planfile.proofs.Passing.{order-checks, exact-whole, exact-few, passed-parted}
 
 -- ---- the counts and the length
@@ -73,7 +73,7 @@ module _ (bytes : List ℕ) (n p s : ℕ) (h : Headed bytes n p s) where
       let place : 17 + 2 * n + 2 ≡ 19 + 2 * n = omega arith in
       rw (place, h .nodes, h .parts)
 
-  pub counts-field : countsIn bytes ≡ decode16s bytes (17 + 2 * n + 4 * p) 2 n
+  pub counts-field : rowCountsIn bytes ≡ decode16s bytes (17 + 2 * n + 4 * p) 2 n
   counts-field = rw (← h .nodes, ← h .parts)
 
   pub rows-field : parse bytes .rows ≡ decode16s bytes (17 + 4 * n + 4 * p) 2 s
@@ -81,7 +81,7 @@ module _ (bytes : List ℕ) (n p s : ℕ) (h : Headed bytes n p s) where
   rows-field = rw (h .nodes, h .parts, h .slots)
 
   -- the column starts are the running sums of the counts
-  starts-field : parse bytes .columnStarts ≡ runningSums 0 (countsIn bytes)
+  starts-field : parse bytes .columnStarts ≡ runningSums 0 (rowCountsIn bytes)
   unfolding parse parseAt
   starts-field = refl
 
@@ -95,7 +95,7 @@ module _ (bytes : List ℕ) (n p s : ℕ) (h : Headed bytes n p s) where
   pub parents-many : length (parse bytes .parents) ≡ p
   parents-many = read-whole bytes .parents ∙ sym (h .parts)
 
-  pub counts-many : length (countsIn bytes) ≡ n
+  pub counts-many : length (rowCountsIn bytes) ≡ n
   counts-many = decode16s-length bytes _ 2 _ ∙ sym (h .nodes)
 
   pub starts-many : length (parse bytes .columnStarts) ≡ n + 1
@@ -105,7 +105,7 @@ module _ (bytes : List ℕ) (n p s : ℕ) (h : Headed bytes n p s) where
   rows-many = read-whole bytes .rows ∙ sym (h .slots)
 
   -- row counts that are the file's give its column starts
-  pub starts-written : (counts found left : List ℕ) → take n counts ≡ countsIn bytes → left ≡ written (runningSums 0 (take n counts)) found → left ≡ written (parse bytes .columnStarts) found
+  pub starts-written : (counts found left : List ℕ) → take n counts ≡ rowCountsIn bytes → left ≡ written (runningSums 0 (take n counts)) found → left ≡ written (parse bytes .columnStarts) found
   starts-written counts found left same e = rw starts-field (rw same at e)
 
   -- the bytes behind the counts say the rows
@@ -145,11 +145,11 @@ module _ (bytes : List ℕ) (n p s : ℕ) (h : Headed bytes n p s) where
     order-few = rw (own .0, own .1, own .2) (exact-few file exact)
 
     -- 15 and 16 look at the order and the parts
-    pub file-ordered : firstFault (orderChecks (orderAndParts (length order) order sizes parents)) ≡ firstFault (orderChecks file)
+    pub file-ordered : firstFault (orderAndPartsChecks (orderAndParts (length order) order sizes parents)) ≡ firstFault (orderAndPartsChecks file)
     file-ordered = rw (own .0, own .1, own .2) (order-checks file exact)
 
     -- the parts have passed 16
-    pub file-parted : firstFault (orderChecks file) ≡ 0 → Parted n sizes parents
+    pub file-parted : firstFault (orderAndPartsChecks file) ≡ 0 → Parted n sizes parents
     file-parted ordered = rw (own .1, own .2, h .nodes) (passed-parted file exact ordered)
 
     -- a start for each column, and one more
@@ -158,7 +158,7 @@ module _ (bytes : List ℕ) (n p s : ℕ) (h : Headed bytes n p s) where
 
     -- running sums have no fault as starts
     starts-good : badStarts n columnStarts ≡ false
-    starts-good = rw (own .3, starts-field) (sums-starts n (countsIn bytes) counts-many)
+    starts-good = rw (own .3, starts-field) (sums-starts n (rowCountsIn bytes) counts-many)
 
     -- 17 finds a fault where the last start is not s
     pub rows-apart : (getD columnStarts n 0 ≡ s → ⊥) → badRows file ≡ true

@@ -11,8 +11,8 @@ use Rattle.plan.specs.Planning.{Contents}
 use Rattle.plan.specs.File.{badHeader, badOrder, badParts, badRows, notNested, notCovered, contentsChecks}
 use Rattle.theory.proofs.Refusals.{no-fault, first-some, first-none}
 use Rattle.theory.proofs.FileFields.{Whole}
-use Rattle.theory.proofs.Fitting.{header-limits, counts-few, Rows, good-rows}
-use Rattle.planfile.specs.Supplied.{countsOnly, orderAndParts, orderChecks, partsAndRows, Exact, Parted, LaidOut}
+use Rattle.theory.proofs.Fitting.{header-limits, counts-few, GoodRows, good-rows}
+use Rattle.planfile.specs.Supplied.{countsOnly, orderAndParts, orderAndPartsChecks, partsAndRows, Exact, Parted, LaidOut}
 
 -- ---- the first fault
 
@@ -21,15 +21,15 @@ abbrev rowChecks : Contents → Checks
 rowChecks c = (17, badRows c) ∷ (18, notNested c) ∷ (19, notCovered c) ∷ []
 
 -- a fault of checks 15 and 16 is the plan's
-pub order-fault : (c : Contents) → (firstFault (orderChecks c) ≡ 0 → ⊥) → firstFault (contentsChecks c) ≡ firstFault (orderChecks c)
+pub order-fault : (c : Contents) → (firstFault (orderAndPartsChecks c) ≡ 0 → ⊥) → firstFault (contentsChecks c) ≡ firstFault (orderAndPartsChecks c)
 unfolding contentsChecks
-order-fault c some = first-some (orderChecks c) (rowChecks c) some
+order-fault c some = first-some (orderAndPartsChecks c) (rowChecks c) some
 
 -- where they found none, it is that of 17 to 19
-module _ (c : Contents) (ordered : firstFault (orderChecks c) ≡ 0) where
+module _ (c : Contents) (ordered : firstFault (orderAndPartsChecks c) ≡ 0) where
   row-fault : firstFault (contentsChecks c) ≡ firstFault (rowChecks c)
   unfolding contentsChecks
-  row-fault = first-none (orderChecks c) (rowChecks c) refl ordered
+  row-fault = first-none (orderAndPartsChecks c) (rowChecks c) refl ordered
 
   pub fault-17 : badRows c ≡ true → firstFault (contentsChecks c) ≡ 17
   unfolding firstFault
@@ -55,7 +55,7 @@ unfolding badHeader
 header-counts c = refl
 
 -- 15 and 16 at the order and the parts
-pub order-checks : (c : Contents) → Exact c → firstFault (orderChecks (orderAndParts (length (c .order)) (c .order) (c .sizes) (c .parents))) ≡ firstFault (orderChecks c)
+pub order-checks : (c : Contents) → Exact c → firstFault (orderAndPartsChecks (orderAndParts (length (c .order)) (c .order) (c .sizes) (c .parents))) ≡ firstFault (orderAndPartsChecks c)
 unfolding badOrder badParts
 order-checks c h = rw (h .order, h .sizes)
 
@@ -93,7 +93,7 @@ module _ (c : Contents) (h : Exact c) where
       (omega (arith, few, h .order), omega (arith, few, h .sizes), h .parents ∙ sym (h .sizes))
 
   -- 15 and 16: the sizes and the parents are those of parts
-  pub passed-parted : firstFault (orderChecks c) ≡ 0 → Parted (c .nodes) (c .sizes) (c .parents)
+  pub passed-parted : firstFault (orderAndPartsChecks c) ≡ 0 → Parted (c .nodes) (c .sizes) (c .parents)
   unfolding badParts
   passed-parted ordered =
       let parts : badParts c ≡ false = no-fault 16 (badParts c) [] (omega arith) (no-fault 15 (badOrder c) ((16, badParts c) ∷ []) (omega arith) ordered .1) .0 in
@@ -102,5 +102,5 @@ module _ (c : Contents) (h : Exact c) where
   -- 17: the rows are laid out
   pub passed-laid : badRows c ≡ false → LaidOut (c .nodes) (c .columnStarts) (c .rows)
   passed-laid good =
-      let r : Rows c = good-rows c good in
+      let r : GoodRows c = good-rows c good in
       record { started = record { few = header-limits c (h .header) .nodesFew; starts = r .starts; last = r .last ∙ sym (h .rows) }; good = r .columns }

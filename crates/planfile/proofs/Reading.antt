@@ -18,7 +18,7 @@ use Rattle.plan.specs.Reading.{headerChecks, readChecks, reading}
 use Rattle.theory.proofs.Refusals.{fault-here, fault-later, first-nil, first-some, first-none}
 use Rattle.theory.proofs.FileFields.{counts-read}
 use Rattle.theory.proofs.Handed.{lengthsOf, filled-refused}
-use Rattle.planfile.specs.Supplied.{countsIn, Headed}
+use Rattle.planfile.specs.Supplied.{rowCountsIn, Headed}
 
 -- checks 8 and 9, behind those of the file
 abbrev late : List ℕ → Capacity → Checks
@@ -82,7 +82,7 @@ module _ (bytes : List ℕ) (found : Buffers) where
             outcome 0 answer left (buffers-passed ∙ fault-later 9 _ [] (le-ltb (length (found .rows)) (parse bytes .slots) (omega (arith, h .slots))) ∙ first-nil) filled
 
 -- the answer is the plan's
-pub read-reply : (bytes : List ℕ) (n p s : ℕ) → Headed bytes n p s → (counts : List ℕ) (products : ℕ) (plan : Plan) → take n counts ≡ countsIn bytes
+pub read-reply : (bytes : List ℕ) (n p s : ℕ) → Headed bytes n p s → (counts : List ℕ) (products : ℕ) (plan : Plan) → take n counts ≡ rowCountsIn bytes
     → products ≡ multiplications (take n counts) → plan ≡ record { nodes = n; parts = p; slots = s; multiplications = products }
     → planReply (Accepted plan) ≡ handOut 0 (parse bytes) .reply
 unfolding handOut

@@ -12,7 +12,7 @@ use Rattle.plan.specs.declared.WriteAnswer.the-variants.{Written, Refused}
 use Rattle.plan.specs.Lists.{written}
 use Rattle.plan.specs.Refusals.{firstFault}
 use Rattle.plan.specs.Answers.{refused}
-use Rattle.plan.specs.Planning.{Contents, rowCounts}
+use Rattle.plan.specs.Planning.{Contents, rowCounts, contents}
 use Rattle.plan.specs.File.{fileLength, encode, contentsChecks}
 use Rattle.plan.specs.Writing.{badSupply, used, suppliedChecks, outputTooShort, writeChecks, WriteOutcome, writeOut, writing, Wrote}
 use Rattle.plan.specs.RoundTrips.{Sound}
@@ -24,7 +24,7 @@ use Rattle.theory.proofs.Compressed.{start-next}
 use Rattle.theory.proofs.FileFields.{counts-length}
 use Rattle.theory.proofs.Fitting.{passes-sound, sound-passes, good-rows, sound-fits}
 use Rattle.theory.proofs.RoundTrips.{used-long, supply-says}
-use Rattle.planfile.specs.Supplied.{supplied, Exact, Narrow, lateChecks, WroteExact}
+use Rattle.planfile.specs.Supplied.{Exact, NarrowColumns, lateChecks, WroteExact}
 use Rattle.planfile.proofs.Passing.{exact-whole}
 
 -- ---- slices that are as long as their counts say
@@ -49,7 +49,7 @@ abbrev pub fronts : Contents → Contents
 fronts c =
     let sizes : List ℕ = take (c .parts) (c .sizes) in
     let rows : List ℕ = take (c .slots) (c .rows) in
-    supplied (c .nodes) (length sizes) (length rows) (take (c .nodes) (c .order)) sizes (take (c .parts) (c .parents)) (take (c .nodes + 1) (c .columnStarts)) rows
+    contents (c .nodes) (length sizes) (length rows) (take (c .nodes) (c .order)) sizes (take (c .parts) (c .parents)) (take (c .nodes + 1) (c .columnStarts)) rows
 
 -- are the used entries
 fronts-used : (c : Contents) → Exact (used c) → fronts c ≡ used c
@@ -60,14 +60,18 @@ fronts-used c x = rw (x .sizes, x .rows)
 pub exact-fronts : (c : Contents) → badSupply c ≡ false → Exact (fronts c)
 exact-fronts c h = subst Exact (sym (fronts-used c (exact-used c h))) (exact-used c h)
 
--- where 13 and 15 to 19 find no fault, each column has a number of rows that fits 16 bits
-pub passes-narrow : (c : Contents) → Exact c → firstFault (contentsChecks c) ≡ 0 → Narrow (c .nodes) (c .columnStarts)
+-- where 13 and 15 to 19 find no fault, the plan has none
+exact-sound : (c : Contents) → Exact c → firstFault (contentsChecks c) ≡ 0 → Sound c
+exact-sound c x h = passes-sound c (record { order = x .order; sizes = x .sizes; parents = x .parents; columnStarts = x .columnStarts; rows = x .rows }) (x .header) h
+
+-- so each column has a number of rows that fits 16 bits
+pub passes-narrow : (c : Contents) → Exact c → firstFault (contentsChecks c) ≡ 0 → NarrowColumns (c .nodes) (c .columnStarts)
 unfolding rowCounts
 passes-narrow c x h =
-    let sound : Sound c = passes-sound c (x .header) h in
+    let sound : Sound c = exact-sound c x h in
     let starts : List ℕ = c .columnStarts in
     let count : ℕ → ℕ = λ j. getD starts (j + 1) 0 - getD starts j 0 in
-    let fits = sound-fits c sound (x .sizes) (x .parents) (x .rows) in
+    let fits = sound-fits c sound in
     record {
       rising = start-next (c .nodes) starts (good-starts (c .nodes) starts (good-rows c (sound .rows) .starts));
       narrow = λ j lt. omega (
@@ -98,7 +102,7 @@ module _ (c : Contents) (found : List ℕ) where
 
   -- none of them: 8 is left
   late-eight : Exact c → firstFault (contentsChecks c) ≡ 0 → firstFault (lateChecks c (length found)) ≡ firstFault ((8, outputTooShort c (length found)) ∷ [])
-  late-eight x e = sound-passes c ((8, outputTooShort c (length found)) ∷ []) (passes-sound c (x .header) e)
+  late-eight x e = sound-passes c ((8, outputTooShort c (length found)) ∷ []) (exact-sound c x e)
 
   -- too little room
   pub refused-room : Exact c → firstFault (contentsChecks c) ≡ 0 → length found < fileLength c → WroteExact c (Refused 8) found found

@@ -10,30 +10,25 @@ use Rattle.plan.specs.Refusals.{Checks, firstFault}
 use Rattle.plan.specs.Answers.{writeReply}
 use Rattle.plan.specs.Mesh.{badStarts}
 use Rattle.plan.specs.Parts.{atOrAbove}
-use Rattle.plan.specs.Planning.{Contents}
+use Rattle.plan.specs.Planning.{Contents, contents}
 use Rattle.plan.specs.File.{encode16, encode32, decode16s, magic, version, parse, badHeader, mayBeParent, badOrder, badParts, badColumns, contentsChecks}
 use Rattle.plan.specs.Reading.{headerChecks}
 use Rattle.plan.specs.Writing.{outputTooShort, writeOut}
 
--- a plan of its parts
-abbrev pub supplied : ℕ → ℕ → ℕ → List ℕ → List ℕ → List ℕ → List ℕ → List ℕ → Contents
-supplied n p s order sizes parents columnStarts rows =
-    record { nodes = n; parts = p; slots = s; order = order; sizes = sizes; parents = parents; columnStarts = columnStarts; rows = rows }
-
 -- a plan of its three counts alone: what check 13 looks at
 abbrev pub countsOnly : ℕ → ℕ → ℕ → Contents
-countsOnly n p s = supplied n p s [] [] [] [] []
+countsOnly n p s = contents n p s [] [] [] [] []
 
 -- a plan of its order and its tree of parts: what checks 15 and 16 look at
 abbrev pub orderAndParts : ℕ → List ℕ → List ℕ → List ℕ → Contents
-orderAndParts n order sizes parents = supplied n (length sizes) 0 order sizes parents [] []
+orderAndParts n order sizes parents = contents n (length sizes) 0 order sizes parents [] []
 
-abbrev pub orderChecks : Contents → Checks
-orderChecks c = (15, badOrder c) ∷ (16, badParts c) ∷ []
+abbrev pub orderAndPartsChecks : Contents → Checks
+orderAndPartsChecks c = (15, badOrder c) ∷ (16, badParts c) ∷ []
 
 -- a plan of its tree of parts and its layout: what checks 17 to 19 look at
 abbrev pub partsAndRows : ℕ → List ℕ → List ℕ → List ℕ → List ℕ → Contents
-partsAndRows n sizes parents columnStarts rows = supplied n (length sizes) (length rows) [] sizes parents columnStarts rows
+partsAndRows n sizes parents columnStarts rows = contents n (length sizes) (length rows) [] sizes parents columnStarts rows
 
 -- a plan with counts that passed check 13, each list as long as its count says
 pub record Exact (c : Contents) : Type 0 where
@@ -81,13 +76,13 @@ abbrev pub rowsIn : List ℕ → List ℕ
 rowsIn bytes = decode16s bytes 0 2 (length bytes / 2)
 
 -- each of n columns has a number of rows that fits 16 bits
-pub record Narrow (n : ℕ) (columnStarts : List ℕ) : Type 0 where
+pub record NarrowColumns (n : ℕ) (columnStarts : List ℕ) : Type 0 where
   pub rising : (j : ℕ) → j < n → getD columnStarts j 0 ≤ getD columnStarts (j + 1) 0
   pub narrow : (j : ℕ) → j < n → getD columnStarts (j + 1) 0 - getD columnStarts j 0 < 65536
 
 -- the row counts in a file
-abbrev pub countsIn : List ℕ → List ℕ
-countsIn bytes =
+abbrev pub rowCountsIn : List ℕ → List ℕ
+rowCountsIn bytes =
     let n : ℕ = parse bytes .nodes in
     decode16s bytes (17 + 2 * n + 4 * parse bytes .parts) 2 n
 

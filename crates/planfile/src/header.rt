@@ -68,7 +68,7 @@ fn bad_version(bytes: &[u8]) -> bool
 }
 
 // Check 13: n is not 1 to 4,096, p not 1 to n, or s above n(n − 1)/2. O(1).
-pub(crate) fn bad_counts(n: usize, p: usize, s: usize) -> bool
+pub(crate) fn bad_header(n: usize, p: usize, s: usize) -> bool
     ensures { λ r. ⌜ r ≡ badHeader (countsOnly n p s) ⌝ }
 {
     if bad_node_count(n) {
@@ -105,7 +105,7 @@ pub(crate) fn header_refusal(bytes: &[u8]) -> u32
         return 12;
     }
     let counts = read_counts(bytes);
-    if bad_counts(counts.nodes, counts.parts, counts.slots) {
+    if bad_header(counts.nodes, counts.parts, counts.slots) {
         return 13;
     }
     if bytes.len() != file_length(counts.nodes, counts.parts, counts.slots) {

@@ -1,10 +1,10 @@
 // The plan file, version 1: reading it into lent buffers, and writing it from lent slices.
 mod encoded;
 mod header;
-mod lent;
 mod order;
 mod reader;
 mod rules;
+mod slices;
 mod writer;
 
 pub use reader::read;

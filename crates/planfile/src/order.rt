@@ -10,7 +10,7 @@ ghost use lib.ListN.{length, getD};
 ghost use Rattle.plan.specs.Lists.{exists, below, eachOnce, total};
 ghost use Rattle.plan.specs.Refusals.{firstFault};
 ghost use Rattle.plan.specs.File.{mayBeParent, badParts};
-ghost use Rattle.planfile.specs.Supplied.{orderAndParts, orderChecks};
+ghost use Rattle.planfile.specs.Supplied.{orderAndParts, orderAndPartsChecks};
 
 // A mark for each of 4,096 nodes, none set. O(4,096).
 fn no_marks() -> [u8; 4096]
@@ -39,7 +39,7 @@ fn bad_order(order: &[u16]) -> bool
 }
 
 // The sum of some sizes. O(length).
-fn sum(sizes: &[u16]) -> usize
+fn sum_sizes(sizes: &[u16]) -> usize
     requires { ⌜ length (now sizes) ≤ 4096 ⌝ }
     ensures { λ r. ⌜ r ≡ total (now (sizes .entry)) ⌝ }
 {
@@ -83,16 +83,16 @@ fn bad_parts(n: usize, sizes: &[u16], parents: &[u16]) -> bool
     if contains(sizes, 0) {
         return true;
     }
-    if sum(sizes) != n {
+    if sum_sizes(sizes) != n {
         return true;
     }
     bad_parents(parents)
 }
 
 // The first refusal of checks 15 and 16, 0 for none. O(4,096 + n).
-pub(crate) fn order_refusal(order: &[u16], sizes: &[u16], parents: &[u16]) -> u32
+pub(crate) fn order_and_parts_refusal(order: &[u16], sizes: &[u16], parents: &[u16]) -> u32
     requires { ⌜ (length (now order) ≤ 4096) × (length (now sizes) ≤ 4096) × (length (now parents) ≡ length (now sizes)) ⌝ }
-    ensures { λ r. ⌜ r ≡ firstFault (orderChecks (orderAndParts (length (now (order .entry))) (now (order .entry)) (now (sizes .entry)) (now (parents .entry)))) ⌝ }
+    ensures { λ r. ⌜ r ≡ firstFault (orderAndPartsChecks (orderAndParts (length (now (order .entry))) (now (order .entry)) (now (sizes .entry)) (now (parents .entry)))) ⌝ }
 {
     if bad_order(order) {
         return 15;

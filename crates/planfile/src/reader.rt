@@ -5,12 +5,12 @@ use crate::encoded::not_nested;
 use crate::header::HEADER;
 use crate::header::header_refusal;
 use crate::header::read_counts;
-use crate::order::order_refusal;
+use crate::order::order_and_parts_refusal;
 use crate::rules::no_numbers;
 use coding::read16s;
+use layout::buffers_too_short;
 use layout::invert;
 use layout::sum;
-use layout::too_short;
 use layout::write_starts;
 use mesh::index;
 use plan::Plan;
@@ -24,7 +24,7 @@ ghost use Rattle.plan.specs.Refusals.{firstFault};
 ghost use Rattle.plan.specs.Planning.{buffers, lengths, capacity, buffersTooShort, rowsTooShort, handOut, Filled};
 ghost use Rattle.plan.specs.File.{parse, contentsChecks};
 ghost use Rattle.plan.specs.Reading.{headerChecks, reading};
-ghost use Rattle.planfile.specs.Supplied.{Headed, countsIn};
+ghost use Rattle.planfile.specs.Supplied.{Headed, rowCountsIn};
 
 // 4,097 zeros. O(4,097).
 fn no_starts() -> [u32; 4097]
@@ -34,7 +34,7 @@ fn no_starts() -> [u32; 4097]
 }
 
 // The first refusal of checks 15 to 19, 0 for none; order, sizes, parents and column starts are those of the file. O(4,096 + slots + the ancestors of each column's part + the first rows' columns).
-fn contents_refusal(
+fn decoded_refusal(
     bytes: &[u8],
     n: usize,
     p: usize,
@@ -48,7 +48,7 @@ fn contents_refusal(
     requires { ⌜ (now order ≡ parse (now bytes) .order) × (now sizes ≡ parse (now bytes) .sizes) × (now parents ≡ parse (now bytes) .parents) × (now columnStarts ≡ parse (now bytes) .columnStarts) ⌝ }
     ensures { λ r. ⌜ r ≡ firstFault (contentsChecks (parse (now (bytes .entry)))) ⌝ }
 {
-    let fault = order_refusal(order, sizes, parents);
+    let fault = order_and_parts_refusal(order, sizes, parents);
     if fault != 0 {
         return fault;
     }
@@ -70,7 +70,7 @@ fn contents_refusal(
 }
 
 // The order, the sizes and the parents to the front of three buffers. s is for the contract alone. O(n).
-fn read_order(
+fn read_order_and_parts(
     bytes: &[u8],
     n: usize,
     p: usize,
@@ -90,28 +90,28 @@ fn read_order(
 // The row counts to the front of a buffer. s is for the contract alone. O(n).
 fn read_row_counts(bytes: &[u8], n: usize, p: usize, s: usize, counts: &mut [u16])
     requires { ⌜ Headed (now bytes) n p s × (n ≤ length (now counts)) ⌝ }
-    ensures { λ _. ⌜ now (counts .exit) ≡ written (countsIn (now (bytes .entry))) (now (counts .entry)) ⌝ }
+    ensures { λ _. ⌜ now (counts .exit) ≡ written (rowCountsIn (now (bytes .entry))) (now (counts .entry)) ⌝ }
 {
     read16s(bytes, HEADER + 2 * n + 4 * p, 2, n, counts);
 }
 
 // Checks 15 to 19 of a file: its fields but the rows are read into working memory. O(4,096 + slots + the ancestors of each column's part + the first rows' columns).
-fn file_refusal(bytes: &[u8], n: usize, p: usize, s: usize, counts: &[u16]) -> u32
-    requires { ⌜ Headed (now bytes) n p s × (n ≤ length (now counts)) × (take n (now counts) ≡ countsIn (now bytes)) ⌝ }
+fn contents_refusal(bytes: &[u8], n: usize, p: usize, s: usize, counts: &[u16]) -> u32
+    requires { ⌜ Headed (now bytes) n p s × (n ≤ length (now counts)) × (take n (now counts) ≡ rowCountsIn (now bytes)) ⌝ }
     ensures { λ r. ⌜ r ≡ firstFault (contentsChecks (parse (now (bytes .entry)))) ⌝ }
 {
     let mut order = no_numbers();
     let mut sizes = no_numbers();
     let mut parents = no_numbers();
     let mut columnStarts = no_starts();
-    read_order(bytes, n, p, s, &mut order, &mut sizes, &mut parents);
+    read_order_and_parts(bytes, n, p, s, &mut order, &mut sizes, &mut parents);
     write_starts(n, counts, &mut columnStarts);
     let orderAll = &order[..];
     let sizesAll = &sizes[..];
     let parentsAll = &parents[..];
     let startsAll = &columnStarts[..];
     let end = n + 1;
-    contents_refusal(
+    decoded_refusal(
         bytes,
         n,
         p,
@@ -137,13 +137,13 @@ fn hand_out(
     columnStarts: &mut [u32],
     rows: &mut [u16],
 ) -> PlanAnswer
-    requires { ⌜ Headed (now bytes) n p s × (n ≤ length (now counts)) × (take n (now counts) ≡ countsIn (now bytes)) × (firstFault (contentsChecks (parse (now bytes))) ≡ 0) ⌝ }
+    requires { ⌜ Headed (now bytes) n p s × (n ≤ length (now counts)) × (take n (now counts) ≡ rowCountsIn (now bytes)) × (firstFault (contentsChecks (parse (now bytes))) ≡ 0) ⌝ }
     requires { ⌜ (buffersTooShort n (lengths (length (now order)) (length (now positions)) (length (now sizes)) (length (now parents)) (length (now columnStarts)) 0) ≡ false) × (s ≤ length (now rows)) ⌝ }
     ensures { λ r. ⌜ Filled (handOut 0 (parse (now (bytes .entry)))) r
         (buffers (now (order .entry)) (now (positions .entry)) (now (sizes .entry)) (now (parents .entry)) (now (columnStarts .entry)) (now (rows .entry)))
         (buffers (now (order .exit)) (now (positions .exit)) (now (sizes .exit)) (now (parents .exit)) (now (columnStarts .exit)) (now (rows .exit))) ⌝ }
 {
-    read_order(bytes, n, p, s, order, sizes, parents);
+    read_order_and_parts(bytes, n, p, s, order, sizes, parents);
     invert(&order[..n], positions);
     write_starts(n, counts, columnStarts);
     read16s(bytes, HEADER + 4 * n + 4 * p, 2, s, rows);
@@ -172,11 +172,11 @@ fn read_headed(
     let s = c.slots;
     let mut counts = no_numbers();
     read_row_counts(bytes, n, p, s, &mut counts);
-    let fault = file_refusal(bytes, n, p, s, &counts);
+    let fault = contents_refusal(bytes, n, p, s, &counts);
     if fault != 0 {
         return PlanAnswer::Refused(fault);
     }
-    if too_short(
+    if buffers_too_short(
         n,
         order.len(),
         positions.len(),

@@ -3,7 +3,6 @@ use mesh::node;
 ghost use mathlib.Core.Path.{_≡_};
 ghost use mathlib.Core.Bool.{true, false};
 ghost use Prim.Native.Nat.{ℕ, _+_, _≤_, _<_};
-ghost use lib.Dec.{eqb};
 ghost use lib.ListN.{length, getD};
 ghost use Rattle.plan.specs.Lists.{every, isIn, ascending, total};
 ghost use Rattle.plan.specs.Parts.{partOf, atOrAbove};
@@ -41,16 +40,16 @@ pub(crate) fn number_parts(sizes: &[u16], numbers: &mut [u16])
     }
 }
 
-// The first part at or above `part` that is not before part `to`; no parent where there is none. Parents are later, so it ends. O(parts passed).
-fn climb(parents: &[u16], part: u16, to: u16) -> u16
+// Whether part `to` is `part` or an ancestor of it: up the parents, which are later parts, until one that is not before `to`. O(parts passed).
+fn reaches(parents: &[u16], part: u16, to: u16) -> bool
     requires { ⌜ Parents (now parents) × (part < length (now parents)) × (to < length (now parents)) ⌝ }
-    ensures { λ r. ⌜ eqb r to ≡ atOrAbove (now (parents .entry)) part to ⌝ }
+    ensures { λ r. ⌜ r ≡ atOrAbove (now (parents .entry)) part to ⌝ }
 {
     let mut r = part;
     while r < to {
         r = parents[node(r)];
     }
-    r
+    r == to
 }
 
 // Whether rows of column j break 18's rule: one lies outside the column's part and its ancestors (document 01: forefathers). The rows and the chain of ancestors are walked together. n is for the contract alone. O(rows + ancestors).
@@ -61,10 +60,10 @@ pub(crate) fn outside(n: usize, numbers: &[u16], parents: &[u16], j: usize, colu
     let mut part = numbers[j];
     for k in 0..column.len() {
         let to = numbers[node(column[k])];
-        part = climb(parents, part, to);
-        if part != to {
+        if !reaches(parents, part, to) {
             return true;
         }
+        part = to;
     }
     false
 }

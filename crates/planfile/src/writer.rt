@@ -4,9 +4,9 @@ use crate::header::HEADER;
 use crate::header::N;
 use crate::header::P;
 use crate::header::VERSION;
-use crate::header::bad_counts;
+use crate::header::bad_header;
 use crate::header::file_length;
-use crate::lent::contents_refusal;
+use crate::slices::contents_refusal;
 use coding::write16;
 use coding::write16s;
 use coding::write32;
@@ -18,10 +18,10 @@ ghost use Prim.Native.Nat.{_+_, _*_, _≤_, _<_};
 ghost use lib.ListN.{length};
 ghost use Rattle.plan.specs.Lists.{written};
 ghost use Rattle.plan.specs.Refusals.{firstFault};
-ghost use Rattle.plan.specs.Planning.{rowCounts};
+ghost use Rattle.plan.specs.Planning.{rowCounts, contents};
 ghost use Rattle.plan.specs.File.{fileLength, encode, encodeParts, encode16s, badHeader, contentsChecks};
 ghost use Rattle.plan.specs.Writing.{badSupply, Wrote};
-ghost use Rattle.planfile.specs.Supplied.{supplied, countsOnly, orderAndParts, partsAndRows, Exact, Narrow, headerOf, WroteExact};
+ghost use Rattle.planfile.specs.Supplied.{countsOnly, orderAndParts, partsAndRows, Exact, NarrowColumns, headerOf, WroteExact};
 
 // Check 13: the counts are out of their limits, or a slice is shorter than its count says. O(1).
 fn bad_supply(
@@ -34,9 +34,9 @@ fn bad_supply(
     columnStarts: &[u32],
     rows: &[u16],
 ) -> bool
-    ensures { λ r. ⌜ r ≡ badSupply (supplied n p s (now (order .entry)) (now (sizes .entry)) (now (parents .entry)) (now (columnStarts .entry)) (now (rows .entry))) ⌝ }
+    ensures { λ r. ⌜ r ≡ badSupply (contents n p s (now (order .entry)) (now (sizes .entry)) (now (parents .entry)) (now (columnStarts .entry)) (now (rows .entry))) ⌝ }
 {
-    if bad_counts(n, p, s) {
+    if bad_header(n, p, s) {
         return true;
     }
     if order.len() < n {
@@ -82,8 +82,8 @@ fn write_parts(sizes: &[u16], parents: &[u16], bytes: &mut [u8])
 }
 
 // The row count of each column. O(n).
-fn write_counts(n: usize, columnStarts: &[u32], bytes: &mut [u8])
-    requires { ⌜ (length (now columnStarts) ≡ n + 1) × Narrow n (now columnStarts) × (2 * n ≤ length (now bytes)) ⌝ }
+fn write_row_counts(n: usize, columnStarts: &[u32], bytes: &mut [u8])
+    requires { ⌜ (length (now columnStarts) ≡ n + 1) × NarrowColumns n (now columnStarts) × (2 * n ≤ length (now bytes)) ⌝ }
     ensures { λ _. ⌜ now (bytes .exit) ≡ written (encode16s (rowCounts (partsAndRows n [] [] (now (columnStarts .entry)) []))) (now (bytes .entry)) ⌝ }
 {
     for j in 0..n {
@@ -103,9 +103,9 @@ fn write_plan(
     rows: &[u16],
     bytes: &mut [u8],
 )
-    requires { ⌜ Exact (supplied n (length (now sizes)) (length (now rows)) (now order) (now sizes) (now parents) (now columnStarts) (now rows)) × Narrow n (now columnStarts) ⌝ }
-    requires { ⌜ fileLength (supplied n (length (now sizes)) (length (now rows)) (now order) (now sizes) (now parents) (now columnStarts) (now rows)) ≤ length (now bytes) ⌝ }
-    ensures { λ _. ⌜ now (bytes .exit) ≡ written (encode (supplied n (length (now (sizes .entry))) (length (now (rows .entry))) (now (order .entry)) (now (sizes .entry)) (now (parents .entry)) (now (columnStarts .entry)) (now (rows .entry)))) (now (bytes .entry)) ⌝ }
+    requires { ⌜ Exact (contents n (length (now sizes)) (length (now rows)) (now order) (now sizes) (now parents) (now columnStarts) (now rows)) × NarrowColumns n (now columnStarts) ⌝ }
+    requires { ⌜ fileLength (contents n (length (now sizes)) (length (now rows)) (now order) (now sizes) (now parents) (now columnStarts) (now rows)) ≤ length (now bytes) ⌝ }
+    ensures { λ _. ⌜ now (bytes .exit) ≡ written (encode (contents n (length (now (sizes .entry))) (length (now (rows .entry))) (now (order .entry)) (now (sizes .entry)) (now (parents .entry)) (now (columnStarts .entry)) (now (rows .entry)))) (now (bytes .entry)) ⌝ }
 {
     let partsAt = HEADER + 2 * n;
     let countsAt = partsAt + 4 * sizes.len();
@@ -113,7 +113,7 @@ fn write_plan(
     write_header(n, sizes.len(), rows.len(), bytes);
     write16s(order, &mut bytes[HEADER..]);
     write_parts(sizes, parents, &mut bytes[partsAt..]);
-    write_counts(n, columnStarts, &mut bytes[countsAt..]);
+    write_row_counts(n, columnStarts, &mut bytes[countsAt..]);
     write16s(rows, &mut bytes[rowsAt..]);
 }
 
@@ -127,8 +127,8 @@ fn write_exact(
     rows: &[u16],
     bytes: &mut [u8],
 ) -> WriteAnswer
-    requires { ⌜ Exact (supplied n (length (now sizes)) (length (now rows)) (now order) (now sizes) (now parents) (now columnStarts) (now rows)) ⌝ }
-    ensures { λ r. ⌜ WroteExact (supplied n (length (now (sizes .entry))) (length (now (rows .entry))) (now (order .entry)) (now (sizes .entry)) (now (parents .entry)) (now (columnStarts .entry)) (now (rows .entry))) r (now (bytes .entry)) (now (bytes .exit)) ⌝ }
+    requires { ⌜ Exact (contents n (length (now sizes)) (length (now rows)) (now order) (now sizes) (now parents) (now columnStarts) (now rows)) ⌝ }
+    ensures { λ r. ⌜ WroteExact (contents n (length (now (sizes .entry))) (length (now (rows .entry))) (now (order .entry)) (now (sizes .entry)) (now (parents .entry)) (now (columnStarts .entry)) (now (rows .entry))) r (now (bytes .entry)) (now (bytes .exit)) ⌝ }
 {
     let fault = contents_refusal(n, order, sizes, parents, columnStarts, rows);
     if fault != 0 {
@@ -154,7 +154,7 @@ pub fn write(
     rows: &[u16],
     bytes: &mut [u8],
 ) -> WriteAnswer
-    ensures { λ r. ⌜ Wrote (supplied n p s (now (order .entry)) (now (sizes .entry)) (now (parents .entry)) (now (columnStarts .entry)) (now (rows .entry))) r (now (bytes .entry)) (now (bytes .exit)) ⌝ }
+    ensures { λ r. ⌜ Wrote (contents n p s (now (order .entry)) (now (sizes .entry)) (now (parents .entry)) (now (columnStarts .entry)) (now (rows .entry))) r (now (bytes .entry)) (now (bytes .exit)) ⌝ }
 {
     if bad_supply(n, p, s, order, sizes, parents, columnStarts, rows) {
         return WriteAnswer::Refused(13);

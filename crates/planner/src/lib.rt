@@ -2,10 +2,10 @@
 use dissection::dissect;
 use dissection::write_order;
 use dissection::write_parts;
+use layout::buffers_too_short;
 use layout::count_rows;
 use layout::invert;
 use layout::sum;
-use layout::too_short;
 use layout::write_columns;
 use layout::write_starts;
 use mesh::check;
@@ -45,7 +45,7 @@ fn refusal(
     if fault != 0 {
         return fault;
     }
-    if too_short(n, order, positions, sizes, parents, columnStarts) {
+    if buffers_too_short(n, order, positions, sizes, parents, columnStarts) {
         return 8;
     }
     0

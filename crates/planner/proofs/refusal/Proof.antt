@@ -30,11 +30,11 @@ passed : (c : tie.Else1) → let s = c .before .before .before .before in firstF
 passed c = let s = c .before .before .before .before in mesh-passed (mesh s) (eighth s) (sym (c .before .check .ensures) ∙ c .if1 .left)
 
 returns-2 : tie.Need-returns-2
-returns-2 c = sym (passed (c .before .before) ∙ fault-here 8 _ [] (sym (c .before .too-short .ensures) ∙ c .if2 .taken))
+returns-2 c = sym (passed (c .before .before) ∙ fault-here 8 _ [] (sym (c .before .buffers-too-short .ensures) ∙ c .if2 .taken))
 
 returns-3 : tie.Need-returns-3
 unfolding firstFault
-returns-3 c = sym (passed (c .before .before) ∙ fault-later 8 _ [] (sym (c .before .too-short .ensures) ∙ c .if2 .left))
+returns-3 c = sym (passed (c .before .before) ∙ fault-later 8 _ [] (sym (c .before .buffers-too-short .ensures) ∙ c .if2 .left))
 
 pub refusal-spec : {M : Type 1} → statement M
 refusal-spec = tie.close (tie.spec (λ c κs. search needs) returns (λ c κs. search needs) returns-2 returns-3)

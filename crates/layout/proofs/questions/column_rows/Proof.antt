@@ -13,7 +13,7 @@ use Rattle.layout.proofs.questions.column_rows.Tie as tie
 within : (c : tie.After-struct-known) → c .before .column-span .result .start + c .before .column-span .result .count ≤ length (c .before .before .before .before .args .rows .now)
 within c =
     let s = c .before .before .before .before .args in
-    rw (c .before .column-span .ensures .0, c .before .column-span .ensures .1) (span-within (s .n) (s .columnStarts .now) (s .rows .now) (s .j))
+    rw (c .before .column-span .ensures) (span-within (s .n) (s .columnStarts .now) (s .rows .now) (s .j))
 
 add-e : tie.Need-add-e
 add-e c = omega (arith, within c)
@@ -29,7 +29,7 @@ unfolding columnRows
 returns c =
     let r = c .before .before .column-span in
     let whole : r .result .start + r .result .count - r .result .start ≡ r .result .count = omega arith in
-    rw (whole, r .ensures .0, r .ensures .1)
+    rw (whole, r .ensures)
 
 pub column-rows-spec : {M : Type 1} → statement M
 column-rows-spec =

@@ -1,5 +1,5 @@
 -- `layout::questions::column_span` meets its contract: where the question is not refused, the column's two starts make up the stretch.
-use mathlib.Core.Path.{_≡_, refl, sym, _∙_}
+use mathlib.Core.Path.{_≡_, sym, _∙_}
 use Prim.Native.Nat.{_<_}
 use native.Mathlib.Omega.{arith}
 use borrow.Author.Needs.{needs}
@@ -31,7 +31,7 @@ within c =
 returns : tie.Need-returns
 returns c =
     let s = c .before .before .before .before .args in
-    rw (span-refused (s .n) (s .columnStarts .now) (s .rows .now) (s .j) (λ e. c .if1 .taken (c .before .column-refusal .ensures ∙ e))) (refl, refl)
+    sym (span-refused (s .n) (s .columnStarts .now) (s .rows .now) (s .j) (λ e. c .if1 .taken (c .before .column-refusal .ensures ∙ e)))
 
 mul-index : tie.Need-mul-index
 mul-index c = omega (arith, small c)
@@ -55,7 +55,7 @@ returns-2 : tie.Need-returns-2
 returns-2 c =
     let e = c .before .before .before .before in
     let s = e .before .before .before .before .args in
-    rw (c .index2 .ensures, c .before .before .index .ensures, span-found (s .n) (s .columnStarts .now) (s .rows .now) (s .j) (answered e)) (refl, refl)
+    rw (c .index2 .ensures, c .before .before .index .ensures, span-found (s .n) (s .columnStarts .now) (s .rows .now) (s .j) (answered e))
 
 pub column-span-spec : {M : Type 1} → statement M
 column-span-spec =

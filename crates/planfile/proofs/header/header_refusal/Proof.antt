@@ -42,7 +42,7 @@ long c =
 header : (c : tie.Else4) → badHeader (parse (c .before .before .before .before .before .before .before .before .before .args .bytes .now)) ≡ false
 header c =
     let k = c .before in
-    sym (of-counts (k .before)) ∙ sym (k .bad-counts .ensures) ∙ c .if4 .left
+    sym (of-counts (k .before)) ∙ sym (k .bad-header .ensures) ∙ c .if4 .left
 
 -- behind checks 10 to 13 the first fault is check 14's
 first : (c : tie.Else4) → let l = c .before .before .before .before .before .before .before .before .before .args .bytes .now in
@@ -73,10 +73,10 @@ returns-4 c =
     let k = c .before in
     let three = k .before .before in
     let two = three .before .before in
-    rw (enough (two .before .before), magic two, version three, sym (of-counts (k .before)) ∙ sym (k .bad-counts .ensures) ∙ c .if4 .taken)
+    rw (enough (two .before .before), magic two, version three, sym (of-counts (k .before)) ∙ sym (k .bad-header .ensures) ∙ c .if4 .taken)
 
 file-length-requires : tie.Need-file-length-requires
-file-length-requires c κs = sym (c .before .bad-counts .ensures) ∙ c .if4 .left
+file-length-requires c κs = sym (c .before .bad-header .ensures) ∙ c .if4 .left
 
 returns-5 : tie.Need-returns-5
 unfolding badLength

@@ -20,7 +20,7 @@ returns-2 : tie.Need-returns-2
 unfolding badParts
 returns-2 c =
     let n = c .before in
-    rw (some (n .before), ne-eqb _ _ (rw (n .sum .ensures) at (c .if2 .taken)))
+    rw (some (n .before), ne-eqb _ _ (rw (n .sum-sizes .ensures) at (c .if2 .taken)))
 
 returns-3 : tie.Need-returns-3
 unfolding badParts
@@ -28,7 +28,7 @@ returns-3 c =
     let e = c .before in
     let n = e .before in
     let s = n .before .before .before .before .before in
-    rw (some (n .before), eq-eqb _ _ (rw (n .sum .ensures) at (e .if2 .left)), ← s .pre .1) (c .bad-parents .ensures)
+    rw (some (n .before), eq-eqb _ _ (rw (n .sum-sizes .ensures) at (e .if2 .left)), ← s .pre .1) (c .bad-parents .ensures)
 
 pub bad-parts-spec : {M : Type 1} → statement M
 bad-parts-spec =

@@ -24,25 +24,25 @@ found s = let a = s .args in buffers (a .order .now) (a .positions .now) (a .siz
 room : (s : tie.Start) → Room (s .args .n) (lengthsOf (found s))
 room s = enough-room (s .args .n) (lengthsOf (found s)) (s .pre .1 .0)
 
-read-order-requires : tie.Need-read-order-requires
-read-order-requires c κs =
+read-order-and-parts-requires : tie.Need-read-order-and-parts-requires
+read-order-and-parts-requires c κs =
     let s = c .before .before .before .before .before .before .before .before .before .before .before in
     (s .pre .0 .0, room s .order, room s .sizes, room s .parents)
 
 -- ---- the order
 
 -- where the function begins
-abbrev begin : tie.After-read-order → tie.Start
+abbrev begin : tie.After-read-order-and-parts → tie.Start
 begin r = r .before .before .before .before .before .before .before .before .before .before .before .before
 
 -- it stands at the front of its buffer
-order-front : (r : tie.After-read-order) → take (begin r .args .n) (r .read-order .last .1 .1 .1 .1 .0) ≡ parse (begin r .args .bytes .now) .order
-order-front r = front-written _ _ _ _ (r .read-order .ensures .0) (order-many _ _ _ _ (begin r .pre .0 .0))
+order-front : (r : tie.After-read-order-and-parts) → take (begin r .args .n) (r .read-order-and-parts .last .1 .1 .1 .1 .0) ≡ parse (begin r .args .bytes .now) .order
+order-front r = front-written _ _ _ _ (r .read-order-and-parts .ensures .0) (order-many _ _ _ _ (begin r .pre .0 .0))
 
 slice-reshare-prefix-invert : tie.Need-slice-reshare-prefix-invert
 slice-reshare-prefix-invert c =
     let r = c .before .before .before .before .before .before in
-    omega (arith, room (begin r) .order, r .read-order .kept)
+    omega (arith, room (begin r) .order, r .read-order-and-parts .kept)
 
 slice-aggregate-invert : tie.Need-slice-aggregate-invert
 slice-aggregate-invert c =
@@ -105,10 +105,10 @@ returns c =
     let h = s .pre .0 .0 in
     record {
       reply = read-reply _ _ _ _ h _ (c .before .sum .result .multiplications) (c .new .result) (s .pre .0 .2) (c .before .sum .ensures .1) (c .new .ensures);
-      order = order .read-order .ensures .0;
+      order = order .read-order-and-parts .ensures .0;
       positions = positions-written _ _ _ _ h _ _ _ (order-front order) (inverse .invert .ensures);
-      sizes = order .read-order .ensures .1;
-      parents = order .read-order .ensures .2;
+      sizes = order .read-order-and-parts .ensures .1;
+      parents = order .read-order-and-parts .ensures .2;
       columnStarts = starts-written _ _ _ _ h _ _ _ (s .pre .0 .2) (starts .write-starts .ensures);
       rows = rw (rows-field _ _ _ _ h) (rows .read16s .ensures);
     }
@@ -117,7 +117,7 @@ pub hand-out-spec : {M : Type 1} → statement M
 hand-out-spec =
     tie.close
     (tie.spec
-    read-order-requires
+    read-order-and-parts-requires
     slice-reshare-prefix-invert
     slice-aggregate-invert
     invert-requires

@@ -10,7 +10,7 @@ use Rattle.plan.specs.Planning.{Buffers, buffers, buffersTooShort}
 use Rattle.plan.specs.File.{parse, contentsChecks}
 use Rattle.theory.proofs.Written.{front-written}
 use Rattle.theory.proofs.Handed.{lengthsOf}
-use Rattle.planfile.specs.Supplied.{Headed, countsIn}
+use Rattle.planfile.specs.Supplied.{Headed, rowCountsIn}
 use Rattle.planfile.proofs.Headed.{header-long, headed-sizes, counts-many}
 use Rattle.planfile.proofs.Reading.{contents-refused, buffers-refused, rows-refused, read-accepted}
 use Rattle.planfile.proofs.reader.read_headed.Statement.{statement}
@@ -50,11 +50,11 @@ counted k = k .before .before .before
 counts-long : (k : tie.After-read-row-counts) → counted k .read-counts .result .nodes ≤ length (k .read-row-counts .last .1 .1 .1 .1 .0)
 counts-long k = omega (arith, headed-sizes _ _ _ _ (headed (counted k)) .few, k .read-row-counts .kept, k .before .before .no-numbers .ensures)
 
-counts-front : (k : tie.After-read-row-counts) → let r = counted k in take (r .read-counts .result .nodes) (k .read-row-counts .last .1 .1 .1 .1 .0) ≡ countsIn (begin r .args .bytes .now)
+counts-front : (k : tie.After-read-row-counts) → let r = counted k in take (r .read-counts .result .nodes) (k .read-row-counts .last .1 .1 .1 .1 .0) ≡ rowCountsIn (begin r .args .bytes .now)
 counts-front k = front-written _ _ _ _ (k .read-row-counts .ensures) (counts-many _ _ _ _ (headed (counted k)))
 
-file-refusal-requires : tie.Need-file-refusal-requires
-file-refusal-requires c κs = let k = c .before .before in (headed (counted k), counts-long k, counts-front k)
+contents-refusal-requires : tie.Need-contents-refusal-requires
+contents-refusal-requires c κs = let k = c .before .before in (headed (counted k), counts-long k, counts-front k)
 
 -- ---- checks 15 to 19, 8 and 9
 
@@ -66,21 +66,21 @@ returns : tie.Need-returns
 returns c =
     let f = c .before in
     let r = counted (f .before .before .before) in
-    contents-refused _ (found (begin r)) _ _ _ (headed r) (f .file-refusal .result) (f .file-refusal .ensures) (c .if1 .taken)
+    contents-refused _ (found (begin r)) _ _ _ (headed r) (f .contents-refusal .result) (f .contents-refusal .ensures) (c .if1 .taken)
 
 -- checks 15 to 19 found no fault
 good : (e : tie.Else1) → firstFault (contentsChecks (parse (begin (counted (rowed e)) .args .bytes .now))) ≡ 0
-good e = sym (e .before .file-refusal .ensures) ∙ e .if1 .left
+good e = sym (e .before .contents-refusal .ensures) ∙ e .if1 .left
 
 returns-2 : tie.Need-returns-2
 returns-2 c =
     let e = c .before .before in
     let r = counted (rowed e) in
-    buffers-refused _ (found (begin r)) _ _ _ (headed r) (good e) (sym (c .before .too-short .ensures) ∙ c .if2 .taken)
+    buffers-refused _ (found (begin r)) _ _ _ (headed r) (good e) (sym (c .before .buffers-too-short .ensures) ∙ c .if2 .taken)
 
 -- check 8 found none
 enough : (c : tie.Else2) → let r = counted (rowed (c .before .before)) in buffersTooShort (r .read-counts .result .nodes) (lengthsOf (found (begin r))) ≡ false
-enough c = sym (c .before .too-short .ensures) ∙ c .if2 .left
+enough c = sym (c .before .buffers-too-short .ensures) ∙ c .if2 .left
 
 returns-3 : tie.Need-returns-3
 returns-3 c =
@@ -117,7 +117,7 @@ read-headed-spec =
     (λ c. search needs)
     read-row-counts-requires
     (λ c. search needs)
-    file-refusal-requires
+    contents-refusal-requires
     returns
     (λ c κs. search needs)
     returns-2

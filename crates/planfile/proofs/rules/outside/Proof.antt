@@ -4,9 +4,8 @@ use mathlib.Core.Bool.{Bool, not}
 use mathlib.Core.List.{List}
 use Prim.Native.Nat.{ℕ, _-_, _≤_, _<_}
 use native.Mathlib.Omega.{arith}
-use lib.Dec.{eqb}
 use lib.ListN.{length, getD}
-use borrow.Author.Tests.{eq-eqb, ne-eqb}
+use borrow.Author.Tests.{not-false}
 use borrow.Author.Needs.{needs}
 use Rattle.plan.specs.Parts.{atOrAbove}
 use Rattle.theory.proofs.Lists.{isIn-getD}
@@ -79,38 +78,37 @@ mul-to c = omega (arith, position c, start (c .before .before .before) .pre .1 .
 shared-slice-read-to : tie.Need-shared-slice-read-to Inv-loop μ-loop
 shared-slice-read-to c = omega (arith, position (c .before), start (c .before .before .before .before) .pre .1 .long)
 
-climb-requires : tie.Need-climb-requires Inv-loop μ-loop
-climb-requires c κs =
+reaches-requires : tie.Need-reaches-requires Inv-loop μ-loop
+reaches-requires c κs =
     let l = c .before .before .before .before in
     let s = start l in
     (s .pre .0, l .loop .inv .known, s .pre .1 .inside (c .before .node .result) (position (c .before)))
 
--- what `climb` answers, from `part`
-climbed : (c : tie.After-climb Inv-loop μ-loop) →
+-- what `reaches` answers, from `part`
+reached : (c : tie.After-reaches Inv-loop μ-loop) →
     let l = c .before .before .before .before .before in
     let s = start l in
-    eqb (c .climb .result) (partAt s (l .loop .k)) ≡ atOrAbove (s .args .parents .now) (l .loop .part) (partAt s (l .loop .k))
-climbed c = rw (c .before .before .node .ensures) at (c .climb .ensures)
+    c .reaches .result ≡ atOrAbove (s .args .parents .now) (l .loop .part) (partAt s (l .loop .k))
+reached c = rw (c .before .before .node .ensures) at (c .reaches .ensures)
 
 -- so from the column's part
-answer : (c : tie.After-climb Inv-loop μ-loop) →
+answer : (c : tie.After-reaches Inv-loop μ-loop) →
     let l = c .before .before .before .before .before in
     let s = start l in
-    elementAt (test s) (rows s) (l .loop .k) ≡ not (eqb (c .climb .result) (partAt s (l .loop .k)))
+    elementAt (test s) (rows s) (l .loop .k) ≡ not (c .reaches .result)
 answer c =
     let l = c .before .before .before .before .before in
     let s = start l in
     let column : ℕ = getD (s .args .numbers .now) (s .args .j) 0 in
     ap not
     (above-same (s .args .parents .now) (s .pre .0) column (l .loop .part) (partAt s (l .loop .k)) (l .loop .inv .above) (l .loop .inv .early (l .loop .k) (omega arith) (omega arith))
-    ∙ sym (climbed c))
+    ∙ sym (reached c))
 
 returns : tie.Need-returns Inv-loop μ-loop
 returns c =
     let l = c .before .before .before .before .before .before in
     let s = start l in
-    let e = rw (c .before .before .before .node .ensures) at (c .if1 .taken) in
-    sym (found-in (test s) (rows s) (l .loop .k) (omega arith) (answer (c .before) ∙ ap not (ne-eqb (c .before .climb .result) (partAt s (l .loop .k)) e)))
+    sym (found-in (test s) (rows s) (l .loop .k) (omega arith) (answer (c .before) ∙ c .if1 .taken))
 
 loop-again : tie.Need-loop-again Inv-loop μ-loop
 loop-again c =
@@ -118,14 +116,14 @@ loop-again c =
     let s = start l in
     let k : ℕ = l .loop .k in
     let to : ℕ = partAt s k in
-    let e : c .before .climb .result ≡ to = rw (c .before .before .before .node .ensures) at (c .if1 .left) in
-    let met = eq-eqb (c .before .climb .result) to e in
+    let e = c .before .before .before .node .ensures in
+    let met = not-false (c .before .reaches .result) (c .if1 .left) in
     let up = ascending-getD (rows s) (good-column (s .args .n) (s .args .j) (rows s) (s .pre .3) .0) k in
     record {
-      above = rw e (under-trans (l .loop .inv .above) (under-of-test (s .args .parents .now) (l .loop .part) to (sym (climbed (c .before)) ∙ met)));
+      above = rw e (under-trans (l .loop .inv .above) (under-of-test (s .args .parents .now) (l .loop .part) to (sym (reached (c .before)) ∙ met)));
       known = rw e (s .pre .1 .inside (getD (rows s) k 0) (row s k (omega arith) .1));
       early = λ i low lt. rw e (s .pre .1 .rising (getD (rows s) k 0) (getD (rows s) i 0) (omega (arith, up i (omega arith) lt)) (row s i lt .1));
-      clear = clear-more (elementAt (test s) (rows s)) k (l .loop .inv .clear) (answer (c .before) ∙ ap not met);
+      clear = clear-more (elementAt (test s) (rows s)) k (l .loop .inv .clear) (answer (c .before) ∙ c .if1 .left);
     }
 
 returns-2 : tie.Need-returns-2 Inv-loop μ-loop
@@ -148,7 +146,7 @@ outside-spec =
     (λ c κs. search needs)
     mul-to
     shared-slice-read-to
-    climb-requires
+    reaches-requires
     returns
     (λ c. search needs)
     (λ c. search needs)

@@ -6,29 +6,28 @@ use native.Mathlib.Omega.{arith}
 use lib.ListN.{length}
 use borrow.Author.Tests.{lt-ltb, le-ltb}
 use borrow.Author.Needs.{needs}
-use Rattle.plan.specs.Planning.{Contents}
+use Rattle.plan.specs.Planning.{Contents, contents}
 use Rattle.plan.specs.File.{badHeader}
 use Rattle.plan.specs.Writing.{badSupply}
-use Rattle.planfile.specs.Supplied.{supplied}
 use Rattle.planfile.proofs.Passing.{header-counts}
 use Rattle.planfile.proofs.writer.bad_supply.Statement.{statement}
 use Rattle.planfile.proofs.writer.bad_supply.Tie as tie
 
 -- the plan
 abbrev plan : tie.Start → Contents
-plan s = let a = s .args in supplied (a .n) (a .p) (a .s) (a .order .now) (a .sizes .now) (a .parents .now) (a .columnStarts .now) (a .rows .now)
+plan s = let a = s .args in contents (a .n) (a .p) (a .s) (a .order .now) (a .sizes .now) (a .parents .now) (a .columnStarts .now) (a .rows .now)
 
 returns : tie.Need-returns
 unfolding badSupply
 returns c =
     let s = c .before .before .before .before .before .before .before in
-    rw (sym (header-counts (plan s)) ∙ sym (c .before .bad-counts .ensures) ∙ c .if1 .taken)
+    rw (sym (header-counts (plan s)) ∙ sym (c .before .bad-header .ensures) ∙ c .if1 .taken)
 
 -- check 13 of a file finds no fault
 headed : (c : tie.Else1) → badHeader (plan (c .before .before .before .before .before .before .before)) ≡ false
 headed c =
     let s = c .before .before .before .before .before .before .before in
-    sym (header-counts (plan s)) ∙ sym (c .before .bad-counts .ensures) ∙ c .if1 .left
+    sym (header-counts (plan s)) ∙ sym (c .before .bad-header .ensures) ∙ c .if1 .left
 
 returns-2 : tie.Need-returns-2
 unfolding badSupply

@@ -5,17 +5,17 @@ use mathlib.Core.List.{List}
 use Prim.Native.Nat.{ℕ}
 use native.Mathlib.Omega.{arith}
 use borrow.Author.Needs.{needs}
-use Rattle.plan.specs.Planning.{Contents}
+use Rattle.plan.specs.Planning.{Contents, contents}
 use Rattle.plan.specs.Writing.{badSupply, used}
 use Rattle.theory.proofs.Fitting.{counts-few}
-use Rattle.planfile.specs.Supplied.{supplied, Exact}
+use Rattle.planfile.specs.Supplied.{Exact}
 use Rattle.planfile.proofs.WriteAnswers.{exact-used, exact-fronts, refused-supply, wrote-fronts}
 use Rattle.planfile.proofs.writer.write.Statement.{statement}
 use Rattle.planfile.proofs.writer.write.Tie as tie
 
 -- the plan as lent, and the buffer as found
 abbrev plan : tie.Start → Contents
-plan s = let a = s .args in supplied (a .n) (a .p) (a .s) (a .order .now) (a .sizes .now) (a .parents .now) (a .columnStarts .now) (a .rows .now)
+plan s = let a = s .args in contents (a .n) (a .p) (a .s) (a .order .now) (a .sizes .now) (a .parents .now) (a .columnStarts .now) (a .rows .now)
 
 abbrev found : tie.Start → List ℕ
 found s = s .args .bytes .now

@@ -6,9 +6,8 @@ use native.Mathlib.Omega.{arith}
 use lib.ListN.{length}
 use borrow.Author.Needs.{needs}
 use Rattle.plan.specs.Refusals.{firstFault}
-use Rattle.plan.specs.Planning.{Contents}
+use Rattle.plan.specs.Planning.{Contents, contents}
 use Rattle.plan.specs.File.{fileLength, badHeader, contentsChecks}
-use Rattle.planfile.specs.Supplied.{supplied}
 use Rattle.planfile.proofs.WriteAnswers.{passes-narrow, refused-contents, refused-room, accepted-exact}
 use Rattle.planfile.proofs.writer.write_exact.Statement.{statement}
 use Rattle.planfile.proofs.writer.write_exact.Tie as tie
@@ -17,7 +16,7 @@ use Rattle.planfile.proofs.writer.write_exact.Tie as tie
 abbrev plan : tie.Start → Contents
 plan s =
     let a = s .args in
-    supplied (a .n) (length (a .sizes .now)) (length (a .rows .now)) (a .order .now) (a .sizes .now) (a .parents .now) (a .columnStarts .now) (a .rows .now)
+    contents (a .n) (length (a .sizes .now)) (length (a .rows .now)) (a .order .now) (a .sizes .now) (a .parents .now) (a .columnStarts .now) (a .rows .now)
 
 abbrev found : tie.Start → List ℕ
 found s = s .args .bytes .now

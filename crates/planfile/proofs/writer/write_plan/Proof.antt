@@ -6,13 +6,13 @@ use native.Mathlib.Omega.{arith}
 use lib.ListN.{length}
 use borrow.Author.Needs.{needs}
 use Rattle.plan.specs.Lists.{written}
-use Rattle.plan.specs.Planning.{Contents, rowCounts}
+use Rattle.plan.specs.Planning.{Contents, rowCounts, contents}
 use Rattle.plan.specs.File.{encode16s, lengthAt, fileLength, encodeParts, badHeader}
 use Rattle.theory.proofs.Written.{Reached, lentFrom, reached-long, reached-room, reached-more}
 use Rattle.theory.proofs.Coding.{encode16s-length}
 use Rattle.theory.proofs.FileFields.{parts-length, counts-length}
 use Rattle.theory.proofs.Fitting.{counts-few}
-use Rattle.planfile.specs.Supplied.{supplied, headerOf}
+use Rattle.planfile.specs.Supplied.{headerOf}
 use Rattle.planfile.proofs.WrittenFile.{header-length, file-fields}
 use Rattle.planfile.proofs.writer.write_plan.Statement.{statement}
 use Rattle.planfile.proofs.writer.write_plan.Tie as tie
@@ -21,7 +21,7 @@ use Rattle.planfile.proofs.writer.write_plan.Tie as tie
 abbrev plan : tie.Start → Contents
 plan s =
     let a = s .args in
-    supplied (a .n) (length (a .sizes .now)) (length (a .rows .now)) (a .order .now) (a .sizes .now) (a .parents .now) (a .columnStarts .now) (a .rows .now)
+    contents (a .n) (length (a .sizes .now)) (length (a .rows .now)) (a .order .now) (a .sizes .now) (a .parents .now) (a .columnStarts .now) (a .rows .now)
 
 abbrev found : tie.Start → List ℕ
 found s = s .args .bytes .now
@@ -131,31 +131,31 @@ long2 c = let s = start2 c in reached-long (found s) (upToParts s) (parted c) (c
 
 -- ---- the row counts behind them
 
-write-counts-requires : tie.Need-write-counts-requires
-write-counts-requires c κs =
+write-row-counts-requires : tie.Need-write-row-counts-requires
+write-row-counts-requires c κs =
     let w = c .before .before .before in
     let s = start2 w in
     (s .pre .0 .0 .columnStarts, s .pre .0 .1, reached-room (found s) (upToParts s) (parted w) (countsAt s) (parts-behind w) (2 * plan s .nodes) (omega (arith, room s)))
 
-abbrev call2 : tie.After-write-counts → tie.After-write-parts
+abbrev call2 : tie.After-write-row-counts → tie.After-write-parts
 call2 c = c .before .before .before .before
 
-abbrev start3 : tie.After-write-counts → tie.Start
+abbrev start3 : tie.After-write-row-counts → tie.Start
 start3 c = start2 (call2 c)
 
-abbrev counted : tie.After-write-counts → List ℕ
-counted c = lentFrom (countsAt (start3 c)) (parted (call2 c)) (c .write-counts .last .1 .1 .0)
+abbrev counted : tie.After-write-row-counts → List ℕ
+counted c = lentFrom (countsAt (start3 c)) (parted (call2 c)) (c .write-row-counts .last .1 .1 .0)
 
 abbrev upToCounts : tie.Start → List ℕ
 upToCounts s = upToParts s ++ encode16s (rowCounts (plan s))
 
-counts-behind : (c : tie.After-write-counts) → let s = start3 c in Reached (found s) (upToCounts s) (counted c) (rowsAt s)
+counts-behind : (c : tie.After-write-row-counts) → let s = start3 c in Reached (found s) (upToCounts s) (counted c) (rowsAt s)
 counts-behind c =
     let s = start3 c in
-    reached-more (found s) (upToParts s) (parted (call2 c)) (countsAt s) (parts-behind (call2 c)) (encode16s (rowCounts (plan s))) (c .write-counts .last .1 .1 .0) (rowsAt s) (unfold rowCounts in c .write-counts .ensures)
+    reached-more (found s) (upToParts s) (parted (call2 c)) (countsAt s) (parts-behind (call2 c)) (encode16s (rowCounts (plan s))) (c .write-row-counts .last .1 .1 .0) (rowsAt s) (unfold rowCounts in c .write-row-counts .ensures)
     (omega (arith, encode16s-length (rowCounts (plan s)), counts-length (plan s)))
 
-long3 : (c : tie.After-write-counts) → length (counted c) ≡ length (found (start3 c))
+long3 : (c : tie.After-write-row-counts) → length (counted c) ≡ length (found (start3 c))
 long3 c = let s = start3 c in reached-long (found s) (upToCounts s) (counted c) (rowsAt s) (counts-behind c) (omega (arith, room s))
 
 -- ---- and the rows
@@ -166,7 +166,7 @@ write16s-requires-2 c κs =
     let s = start3 w in
     reached-room (found s) (upToCounts s) (counted w) (rowsAt s) (counts-behind w) (2 * plan s .slots) (omega (arith, room s))
 
-abbrev call3 : tie.After-write16s2 → tie.After-write-counts
+abbrev call3 : tie.After-write16s2 → tie.After-write-row-counts
 call3 c = c .before .before .before .before
 
 abbrev start4 : tie.After-write16s2 → tie.Start
@@ -214,7 +214,7 @@ write-plan-spec =
     (λ c. let w = c .before .before in omega (arith, long2 w, room (start2 w)))
     (λ c. let w = c .before .before in omega (arith, long2 w, room (start2 w)))
     (λ c. search needs)
-    write-counts-requires
+    write-row-counts-requires
     (λ c. let w = c .before .before in omega (arith, long3 w, room (start3 w)))
     (λ c. let w = c .before .before in omega (arith, long3 w, room (start3 w)))
     (λ c. search needs)

@@ -1,12 +1,12 @@
--- `planfile::rules::climb` meets its contract: part `to` is at or above the part reached exactly where it is at or above the first one.
+-- `planfile::rules::reaches` meets its contract: part `to` is at or above the part reached exactly where it is at or above the first one.
 use mathlib.Core.Path.{_≡_, refl, sym, _∙_}
 use Prim.Native.Nat.{_-_}
 use native.Mathlib.Omega.{arith}
 use borrow.Author.Needs.{needs}
 use Rattle.plan.specs.Parts.{atOrAbove}
-use Rattle.planfile.proofs.Climbs.{climb-step, climb-end, climb-up}
-use Rattle.planfile.proofs.rules.climb.Statement.{statement}
-use Rattle.planfile.proofs.rules.climb.Tie as tie
+use Rattle.planfile.proofs.Climbs.{reaches-step, reaches-end, reaches-up}
+use Rattle.planfile.proofs.rules.reaches.Statement.{statement}
+use Rattle.planfile.proofs.rules.reaches.Tie as tie
 
 abbrev Inv-loop : tie.InvT-loop
 Inv-loop parents part to r₀ r = atOrAbove parents part to ≡ atOrAbove parents r to
@@ -21,22 +21,22 @@ loop-less : tie.Need-loop-less Inv-loop μ-loop
 loop-less c =
     let l = c .before .before .before in
     let s = l .before .before in
-    rw (c .before .node .ensures) (omega (arith, climb-up (s .args .parents .now) (s .pre .0) (l .loop .r) (omega (arith, s .pre))))
+    rw (c .before .node .ensures) (omega (arith, reaches-up (s .args .parents .now) (s .pre .0) (l .loop .r) (omega (arith, s .pre))))
 
 loop-again : tie.Need-loop-again Inv-loop μ-loop
 loop-again c =
     let l = c .before .before .before in
     let s = l .before .before in
-    rw (c .before .node .ensures) (l .loop .inv ∙ climb-step (s .args .parents .now) (s .pre .0) (l .loop .r) (s .args .to) (omega arith) (s .pre .2))
+    rw (c .before .node .ensures) (l .loop .inv ∙ reaches-step (s .args .parents .now) (s .pre .0) (l .loop .r) (s .args .to) (omega arith) (s .pre .2))
 
 returns : tie.Need-returns Inv-loop μ-loop
 returns c =
     let l = c .before in
     let s = l .before .before in
-    climb-end (s .args .parents .now) (s .pre .0) (l .loop .r) (s .args .to) (omega arith) ∙ sym (l .loop .inv)
+    reaches-end (s .args .parents .now) (s .pre .0) (l .loop .r) (s .args .to) (omega arith) ∙ sym (l .loop .inv)
 
-pub climb-spec : {M : Type 1} → statement M
-climb-spec =
+pub reaches-spec : {M : Type 1} → statement M
+reaches-spec =
     tie.close
     (tie.spec
     Inv-loop

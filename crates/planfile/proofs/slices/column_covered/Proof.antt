@@ -1,4 +1,4 @@
--- `planfile::lent::column_covered` meets its contract: the rows behind the first are looked for in the first row's column, which lies in the layout.
+-- `planfile::slices::column_covered` meets its contract: the rows behind the first are looked for in the first row's column, which lies in the layout.
 use mathlib.Core.Path.{_≡_, sym, ap, _∙_}
 use mathlib.Core.List.{List}
 use Prim.Native.Nat.{ℕ, _-_, _<_}
@@ -8,8 +8,8 @@ use lib.Seq.{take-all}
 use borrow.Author.Needs.{needs}
 use Rattle.plan.specs.Lists.{listAt, ascending}
 use Rattle.planfile.proofs.Nesting.{laid-within, laid-ascending, laid-row, laid-others, covered-few, covered-is}
-use Rattle.planfile.proofs.lent.column_covered.Statement.{statement}
-use Rattle.planfile.proofs.lent.column_covered.Tie as tie
+use Rattle.planfile.proofs.slices.column_covered.Statement.{statement}
+use Rattle.planfile.proofs.slices.column_covered.Tie as tie
 
 -- the column's rows
 abbrev column : tie.Start → List ℕ

@@ -1,4 +1,4 @@
--- `planfile::order::sum` meets its contract: each turn adds one size, and the sum stays far below 64 bits.
+-- `planfile::order::sum_sizes` meets its contract: each turn adds one size, and the sum stays far below 64 bits.
 use mathlib.Core.Path.{_≡_, refl}
 use mathlib.Core.List.{List}
 use Prim.Native.Nat.{ℕ, _*_, _-_, _≤_, _<_}
@@ -8,8 +8,8 @@ use lib.Seq.{take-all}
 use borrow.Author.Needs.{needs}
 use Rattle.plan.specs.Lists.{total}
 use Rattle.theory.proofs.Sums.{total-more}
-use Rattle.planfile.proofs.order.sum.Statement.{statement}
-use Rattle.planfile.proofs.order.sum.Tie as tie
+use Rattle.planfile.proofs.order.sum_sizes.Statement.{statement}
+use Rattle.planfile.proofs.order.sum_sizes.Tie as tie
 
 -- the sum of the first q sizes
 record Summed (sizes : List ℕ) (sum q : ℕ) : Type 0 where
@@ -40,8 +40,8 @@ returns c =
     let k = c .before in
     rw (take-all (k .loop .q) (k .before .before .args .sizes .now) (omega arith)) at (k .loop .inv .whole)
 
-pub sum-spec : {M : Type 1} → statement M
-sum-spec =
+pub sum-sizes-spec : {M : Type 1} → statement M
+sum-sizes-spec =
     tie.close
     (tie.spec
     Inv-loop

@@ -1,4 +1,4 @@
--- `planfile::lent::not_covered` meets its contract: the loop tries each column.
+-- `planfile::slices::not_covered` meets its contract: the loop tries each column.
 use mathlib.Core.Path.{_≡_, refl, sym, ap, _∙_}
 use mathlib.Core.Bool.{Bool, not}
 use mathlib.Core.List.{List}
@@ -8,8 +8,8 @@ use borrow.Author.Needs.{needs}
 use Rattle.plan.specs.Lists.{listAt}
 use Rattle.plan.specs.File.{covered, notCovered}
 use Rattle.mesh.proofs.Scans.{Clear, clear-more, found-below, none-below}
-use Rattle.planfile.proofs.lent.not_covered.Statement.{statement}
-use Rattle.planfile.proofs.lent.not_covered.Tie as tie
+use Rattle.planfile.proofs.slices.not_covered.Statement.{statement}
+use Rattle.planfile.proofs.slices.not_covered.Tie as tie
 
 -- whether column j breaks the rule
 abbrev breaks : List ℕ → List ℕ → ℕ → Bool

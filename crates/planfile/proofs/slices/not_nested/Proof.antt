@@ -1,4 +1,4 @@
--- `planfile::lent::not_nested` meets its contract: the loop tries each column by the numbers of the parts.
+-- `planfile::slices::not_nested` meets its contract: the loop tries each column by the numbers of the parts.
 use mathlib.Core.Path.{_≡_, refl, sym, _∙_}
 use mathlib.Core.Bool.{Bool}
 use mathlib.Core.List.{List}
@@ -10,8 +10,8 @@ use Rattle.plan.specs.File.{outsideAncestors, notNested}
 use Rattle.mesh.proofs.Scans.{Clear, clear-more, found-below, none-below}
 use Rattle.planfile.specs.Supplied.{PartNumbers, outside}
 use Rattle.planfile.proofs.Nesting.{parted-total, parted-few, parted-parents, parted-numbers, outside-is, laid-within, laid-good, laid-between}
-use Rattle.planfile.proofs.lent.not_nested.Statement.{statement}
-use Rattle.planfile.proofs.lent.not_nested.Tie as tie
+use Rattle.planfile.proofs.slices.not_nested.Statement.{statement}
+use Rattle.planfile.proofs.slices.not_nested.Tie as tie
 
 -- whether column j breaks the rule
 abbrev breaks : List ℕ → List ℕ → List ℕ → List ℕ → ℕ → Bool

@@ -1,10 +1,10 @@
--- `layout::checks::too_short` meets its contract: it is the test of check 8, one length after the other.
+-- `layout::checks::buffers_too_short` meets its contract: it is the test of check 8, one length after the other.
 use native.Mathlib.Numerals.{add-one}
 use lib.Dec.{leb·suc-suc}
 use borrow.Author.Tests.{lt-ltb, le-ltb}
 use Rattle.plan.specs.Planning.{buffersTooShort}
-use Rattle.layout.proofs.checks.too_short.Statement.{statement}
-use Rattle.layout.proofs.checks.too_short.Tie as tie
+use Rattle.layout.proofs.checks.buffers_too_short.Statement.{statement}
+use Rattle.layout.proofs.checks.buffers_too_short.Tie as tie
 
 returns : tie.Need-returns
 unfolding buffersTooShort
@@ -26,5 +26,5 @@ returns-5 : tie.Need-returns-5
 unfolding buffersTooShort
 returns-5 c = rw (le-ltb _ _ (c .before .before .before .if1 .left), le-ltb _ _ (c .before .before .if2 .left), le-ltb _ _ (c .before .if3 .left), le-ltb _ _ (c .if4 .left), add-one, leb·suc-suc (c .before .before .before .before .args .columnStarts) (c .before .before .before .before .args .n))
 
-pub too-short-spec : {M : Type 1} → statement M
-too-short-spec = tie.close (tie.spec returns returns-2 returns-3 returns-4 returns-5)
+pub buffers-too-short-spec : {M : Type 1} → statement M
+buffers-too-short-spec = tie.close (tie.spec returns returns-2 returns-3 returns-4 returns-5)

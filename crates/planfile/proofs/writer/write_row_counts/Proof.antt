@@ -1,4 +1,4 @@
--- `planfile::writer::write_counts` meets its contract: the loop writes the row counts one after the other.
+-- `planfile::writer::write_row_counts` meets its contract: the loop writes the row counts one after the other.
 use mathlib.Core.Path.{_≡_, sym, ap, _∙_}
 use mathlib.Core.List.{List}
 use Prim.Native.Nat.{ℕ, _+_, _-_, _*_, _≤_}
@@ -10,8 +10,8 @@ use Rattle.plan.specs.Planning.{rowCounts}
 use Rattle.plan.specs.File.{encode16}
 use Rattle.theory.proofs.Written.{reached-long, reached-room, reached-more}
 use Rattle.theory.proofs.Coding.{encode16-length, blocks, made-blocks, Blocks, blocks-none, blocks-next, blocks-all}
-use Rattle.planfile.proofs.writer.write_counts.Statement.{statement}
-use Rattle.planfile.proofs.writer.write_counts.Tie as tie
+use Rattle.planfile.proofs.writer.write_row_counts.Statement.{statement}
+use Rattle.planfile.proofs.writer.write_row_counts.Tie as tie
 
 -- column j's row count
 abbrev many : List ℕ → ℕ → ℕ
@@ -62,8 +62,8 @@ returns c =
     blocks-all (count (a .columnStarts .now)) 2 (a .n) (a .bytes .now) (l .loop .bytes) (l .loop .j) (c .loop-test .left) (l .loop .inv)
     ∙ ap (λ (l : List ℕ). written l (a .bytes .now)) (sym (made-blocks (many (a .columnStarts .now)) (a .n)))
 
-pub write-counts-spec : {M : Type 1} → statement M
-write-counts-spec =
+pub write-row-counts-spec : {M : Type 1} → statement M
+write-row-counts-spec =
     tie.close
     (tie.spec
     Inv-loop

@@ -1,5 +1,5 @@
 // Checks 15 to 19 of a plan in lent slices, each as long as its count says: the writer's.
-use crate::order::order_refusal;
+use crate::order::order_and_parts_refusal;
 use crate::rules::contains_all;
 use crate::rules::no_numbers;
 use crate::rules::number_parts;
@@ -17,8 +17,9 @@ ghost use lib.ListN.{length};
 ghost use Rattle.plan.specs.Lists.{listAt};
 ghost use Rattle.plan.specs.Refusals.{firstFault};
 ghost use Rattle.plan.specs.Mesh.{badNodeCount};
+ghost use Rattle.plan.specs.Planning.{contents};
 ghost use Rattle.plan.specs.File.{badRows, notNested, covered, notCovered, contentsChecks};
-ghost use Rattle.planfile.specs.Supplied.{supplied, partsAndRows, Exact, Parted, LaidOut};
+ghost use Rattle.planfile.specs.Supplied.{partsAndRows, Exact, Parted, LaidOut};
 
 // Check 17: the column starts do not begin at 0, fall, or do not end at s, or a column breaks the rule. O(n + slots).
 fn bad_rows(n: usize, columnStarts: &[u32], rows: &[u16]) -> bool
@@ -84,10 +85,10 @@ pub(crate) fn contents_refusal(
     columnStarts: &[u32],
     rows: &[u16],
 ) -> u32
-    requires { ⌜ Exact (supplied n (length (now sizes)) (length (now rows)) (now order) (now sizes) (now parents) (now columnStarts) (now rows)) ⌝ }
-    ensures { λ r. ⌜ r ≡ firstFault (contentsChecks (supplied n (length (now (sizes .entry))) (length (now (rows .entry))) (now (order .entry)) (now (sizes .entry)) (now (parents .entry)) (now (columnStarts .entry)) (now (rows .entry)))) ⌝ }
+    requires { ⌜ Exact (contents n (length (now sizes)) (length (now rows)) (now order) (now sizes) (now parents) (now columnStarts) (now rows)) ⌝ }
+    ensures { λ r. ⌜ r ≡ firstFault (contentsChecks (contents n (length (now (sizes .entry))) (length (now (rows .entry))) (now (order .entry)) (now (sizes .entry)) (now (parents .entry)) (now (columnStarts .entry)) (now (rows .entry)))) ⌝ }
 {
-    let fault = order_refusal(order, sizes, parents);
+    let fault = order_and_parts_refusal(order, sizes, parents);
     if fault != 0 {
         return fault;
     }

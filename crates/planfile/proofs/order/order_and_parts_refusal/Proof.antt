@@ -1,10 +1,10 @@
--- `planfile::order::order_refusal` meets its contract: its tests are the two checks, in their order, and check 16 does not look at the order.
+-- `planfile::order::order_and_parts_refusal` meets its contract: its tests are the two checks, in their order, and check 16 does not look at the order.
 use mathlib.Core.Path.{sym, _∙_}
 use borrow.Author.Needs.{needs}
 use Rattle.plan.specs.Refusals.{firstFault}
 use Rattle.plan.specs.File.{badOrder, badParts}
-use Rattle.planfile.proofs.order.order_refusal.Statement.{statement}
-use Rattle.planfile.proofs.order.order_refusal.Tie as tie
+use Rattle.planfile.proofs.order.order_and_parts_refusal.Statement.{statement}
+use Rattle.planfile.proofs.order.order_and_parts_refusal.Tie as tie
 
 returns : tie.Need-returns
 unfolding firstFault badOrder
@@ -22,6 +22,6 @@ returns-3 c =
     let one = c .before .before in
     rw (sym (one .before .bad-order .ensures) ∙ one .if1 .left, sym (c .before .bad-parts .ensures) ∙ c .if2 .left)
 
-pub order-refusal-spec : {M : Type 1} → statement M
-order-refusal-spec =
+pub order-and-parts-refusal-spec : {M : Type 1} → statement M
+order-and-parts-refusal-spec =
     tie.close (tie.spec (λ c κs. search needs) returns (λ c κs. search needs) returns-2 returns-3)

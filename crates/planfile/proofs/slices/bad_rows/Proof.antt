@@ -1,4 +1,4 @@
--- `planfile::lent::bad_rows` meets its contract: the three tests are those of `badRows`.
+-- `planfile::slices::bad_rows` meets its contract: the three tests are those of `badRows`.
 use mathlib.Core.Path.{_≡_, sym, _∙_}
 use mathlib.Core.Bool.{false}
 use native.Mathlib.Omega.{arith}
@@ -7,8 +7,8 @@ use borrow.Author.Needs.{needs}
 use Rattle.plan.specs.Mesh.{badStarts}
 use Rattle.plan.specs.File.{badRows}
 use Rattle.theory.proofs.Checked.{node-count, good-starts}
-use Rattle.planfile.proofs.lent.bad_rows.Statement.{statement}
-use Rattle.planfile.proofs.lent.bad_rows.Tie as tie
+use Rattle.planfile.proofs.slices.bad_rows.Statement.{statement}
+use Rattle.planfile.proofs.slices.bad_rows.Tie as tie
 
 -- the starts have no fault
 started : (c : tie.Else1) → let a = c .before .before .before .before .args in badStarts (a .n) (a .columnStarts .now) ≡ false

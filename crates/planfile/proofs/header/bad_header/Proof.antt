@@ -1,4 +1,4 @@
--- `planfile::header::bad_counts` meets its contract: the four tests are those of `badHeader`, and the product of n and n - 1 is small.
+-- `planfile::header::bad_header` meets its contract: the four tests are those of `badHeader`, and the product of n and n - 1 is small.
 use mathlib.Core.Path.{_≡_, sym, _∙_}
 use mathlib.Core.Bool.{false}
 use Prim.Native.Nat.{ℕ}
@@ -9,8 +9,8 @@ use Rattle.plan.specs.Mesh.{badNodeCount}
 use Rattle.plan.specs.File.{badHeader}
 use Rattle.theory.proofs.Checked.{node-count}
 use Rattle.theory.proofs.Fitting.{pairs-few}
-use Rattle.planfile.proofs.header.bad_counts.Statement.{statement}
-use Rattle.planfile.proofs.header.bad_counts.Tie as tie
+use Rattle.planfile.proofs.header.bad_header.Statement.{statement}
+use Rattle.planfile.proofs.header.bad_header.Tie as tie
 
 -- n is 1 to 4,096
 counted : (c : tie.Else1) → badNodeCount (c .before .before .args .n) ≡ false
@@ -42,6 +42,6 @@ returns-4 c =
     let two = c .before in
     rw (counted (two .before), ne-eqb _ _ (two .if2 .left), le-ltb _ _ (c .if3 .left))
 
-pub bad-counts-spec : {M : Type 1} → statement M
-bad-counts-spec =
+pub bad-header-spec : {M : Type 1} → statement M
+bad-header-spec =
     tie.close (tie.spec (λ c κs. search needs) returns returns-2 returns-3 (λ c. search needs) mul-result returns-4)

@@ -1,29 +1,29 @@
--- `planfile::lent::contents_refusal` meets its contract: its tests are checks 15 to 19, in their order, and those passed tell what the next one requires.
+-- `planfile::slices::contents_refusal` meets its contract: its tests are checks 15 to 19, in their order, and those passed tell what the next one requires.
 use mathlib.Core.Path.{_≡_, sym, _∙_}
 use mathlib.Core.Bool.{false}
 use lib.ListN.{length}
 use Rattle.plan.specs.Refusals.{firstFault}
-use Rattle.plan.specs.Planning.{Contents}
+use Rattle.plan.specs.Planning.{Contents, contents}
 use Rattle.plan.specs.File.{badRows, notNested, notCovered}
-use Rattle.planfile.specs.Supplied.{supplied, orderChecks}
+use Rattle.planfile.specs.Supplied.{orderAndPartsChecks}
 use Rattle.planfile.proofs.Passing.{order-fault, fault-17, fault-18, fault-19, all-passed, order-checks, rows-check, nested-check, covered-check, exact-count, exact-few, passed-parted, passed-laid}
-use Rattle.planfile.proofs.lent.contents_refusal.Statement.{statement}
-use Rattle.planfile.proofs.lent.contents_refusal.Tie as tie
+use Rattle.planfile.proofs.slices.contents_refusal.Statement.{statement}
+use Rattle.planfile.proofs.slices.contents_refusal.Tie as tie
 
 -- the plan
 abbrev plan : tie.Start → Contents
 plan s =
     let a = s .args in
-    supplied (a .n) (length (a .sizes .now)) (length (a .rows .now)) (a .order .now) (a .sizes .now) (a .parents .now) (a .columnStarts .now) (a .rows .now)
+    contents (a .n) (length (a .sizes .now)) (length (a .rows .now)) (a .order .now) (a .sizes .now) (a .parents .now) (a .columnStarts .now) (a .rows .now)
 
 -- ---- what the checks answer
 
 -- the function's entry, seen from the first answer
-abbrev start : tie.After-order-refusal → tie.Start
+abbrev start : tie.After-order-and-parts-refusal → tie.Start
 start o = o .before .before .before .before .before .before
 
-order-answer : (o : tie.After-order-refusal) → firstFault (orderChecks (plan (start o))) ≡ o .order-refusal .result
-order-answer o = sym (o .order-refusal .ensures ∙ order-checks (plan (start o)) (start o .pre))
+order-answer : (o : tie.After-order-and-parts-refusal) → firstFault (orderAndPartsChecks (plan (start o))) ≡ o .order-and-parts-refusal .result
+order-answer o = sym (o .order-and-parts-refusal .ensures ∙ order-checks (plan (start o)) (start o .pre))
 
 rows-answer : (c : tie.After-bad-rows) → badRows (plan (start (c .before .before))) ≡ c .bad-rows .result
 rows-answer c = let s = start (c .before .before) in sym (c .bad-rows .ensures ∙ rows-check (plan s) (s .pre))
@@ -36,7 +36,7 @@ covered-answer c = sym (c .not-covered .ensures ∙ covered-check (plan (start (
 
 -- ---- where they found no fault
 
-ordered : (e : tie.Else1) → firstFault (orderChecks (plan (start (e .before)))) ≡ 0
+ordered : (e : tie.Else1) → firstFault (orderAndPartsChecks (plan (start (e .before)))) ≡ 0
 ordered e = order-answer (e .before) ∙ e .if1 .left
 
 laid : (e : tie.Else2) → badRows (plan (start (e .before .before .before))) ≡ false
@@ -47,8 +47,8 @@ nested e = nested-answer (e .before) ∙ e .if3 .left
 
 -- ---- the needs
 
-order-refusal-requires : tie.Need-order-refusal-requires
-order-refusal-requires c κs = let s = c .before .before .before .before .before in exact-few (plan s) (s .pre)
+order-and-parts-refusal-requires : tie.Need-order-and-parts-refusal-requires
+order-and-parts-refusal-requires c κs = let s = c .before .before .before .before .before in exact-few (plan s) (s .pre)
 
 returns : tie.Need-returns
 returns c =
@@ -100,7 +100,7 @@ pub contents-refusal-spec : {M : Type 1} → statement M
 contents-refusal-spec =
     tie.close
     (tie.spec
-    order-refusal-requires
+    order-and-parts-refusal-requires
     returns
     bad-rows-requires
     returns-2

@@ -1,9 +1,9 @@
--- `planfile::reader::read_order` meets its contract: the order stands behind the header and the parts behind it, each size two bytes before its parent.
+-- `planfile::reader::read_order_and_parts` meets its contract: the order stands behind the header and the parts behind it, each size two bytes before its parent.
 use native.Mathlib.Omega.{arith}
 use borrow.Author.Needs.{needs}
 use Rattle.planfile.proofs.Headed.{Sizes, headed-sizes, order-field, sizes-field, parents-field}
-use Rattle.planfile.proofs.reader.read_order.Statement.{statement}
-use Rattle.planfile.proofs.reader.read_order.Tie as tie
+use Rattle.planfile.proofs.reader.read_order_and_parts.Statement.{statement}
+use Rattle.planfile.proofs.reader.read_order_and_parts.Tie as tie
 
 -- the counts and the length of the file
 known : (s : tie.Start) → Sizes (s .args .bytes .now) (s .args .n) (s .args .p) (s .args .s)
@@ -35,8 +35,8 @@ returns c =
       rw (parents-field _ _ _ _ h) (third .read16s3 .ensures),
     )
 
-pub read-order-spec : {M : Type 1} → statement M
-read-order-spec =
+pub read-order-and-parts-spec : {M : Type 1} → statement M
+read-order-and-parts-spec =
     tie.close
     (tie.spec
     read16s-requires
