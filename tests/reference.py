@@ -1,4 +1,4 @@
-"""A third planner, in Python, from document 01: it makes the stored outputs of the programs `cases` and `listings`, and the latter's input.
+"""A third planner, reader, writer and answerer of questions, in Python, from document 01: it makes the stored outputs of the programs `cases` and `listings`, and the latter's input.
 
     python3 tests/reference.py
 
@@ -118,24 +118,132 @@ def joined(n, pairs):
     return mesh([sorted(entries) for entries in lists])
 
 
+# ---- plan files and questions
+
+def rows_break_17(n, columns):
+    return any(rows != sorted(set(rows)) or any(not j < i < n for i in rows) for j, rows in enumerate(columns))
+
+
+def contents_refusal(n, order, sizes, fathers, starts_break_17, columns):
+    """the first of checks 15 to 19 that fails, or 0; the columns are used only where their starts keep 17"""
+    if sorted(order) != list(range(n)):
+        return 15
+    later = lambda q, father: father == 65535 or q < father < len(sizes)
+    if 0 in sizes or sum(sizes) != n or not all(later(q, father) for q, father in enumerate(fathers)):
+        return 16
+    if starts_break_17 or rows_break_17(n, columns()):
+        return 17
+    part_of = [q for q, size in enumerate(sizes) for _ in range(size)]
+    allowed = lambda q: [q] + (allowed(fathers[q]) if fathers[q] != 65535 else [])
+    if any(part_of[i] not in allowed(part_of[j]) for j, rows in enumerate(columns()) for i in rows):
+        return 18
+    if any(not set(rows[1:]) <= set(columns()[rows[0]]) for rows in columns() if rows):
+        return 19
+    return 0
+
+
+def split(rows, starts):
+    return [rows[a:b] for a, b in zip(starts, starts[1:])]
+
+
+def header_refusal(n, p, s):
+    return 0 if 1 <= n <= 4096 and 1 <= p <= n and 2 * s <= n * (n - 1) else 13
+
+
+def read(data, lengths):
+    """the refusal, or 0 and what reading hands out in lent results of these lengths"""
+    if len(data) < 17:
+        return 10, []
+    mark, version, n, p, s = struct.unpack_from("<3sHIII", data)
+    if mark != b"NDP":
+        return 11, []
+    if version != 1:
+        return 12, []
+    if header_refusal(n, p, s):
+        return 13, []
+    if len(data) != 17 + 4 * n + 4 * p + 2 * s:
+        return 14, []
+    numbers = list(struct.unpack_from("<%dH" % ((len(data) - 17) // 2), data, 17))
+    order, parts, counts, rows = numbers[:n], numbers[n:n + 2 * p], numbers[n + 2 * p:2 * n + 2 * p], numbers[2 * n + 2 * p:]
+    sizes, fathers = parts[0::2], parts[1::2]
+    starts = [sum(counts[:j]) for j in range(n + 1)]
+    number = contents_refusal(n, order, sizes, fathers, sum(counts) != s, lambda: split(rows, starts))
+    if number:
+        return number, []
+    if any(length < needed for length, needed in zip(lengths, [n, n, n, n, n + 1])):
+        return 8, []
+    if lengths[5] < s:
+        return 9, []
+    return 0, [order, [order.index(v) for v in range(n)], sizes, fathers, starts, rows]
+
+
+def write(n, p, s, order, sizes, fathers, starts, rows, room):
+    """the refusal, or 0 and the file's bytes"""
+    if header_refusal(n, p, s) or len(order) < n or len(sizes) < p or len(fathers) < p or len(starts) < n + 1 or len(rows) < s:
+        return 13, b""
+    order, sizes, fathers, starts, rows = order[:n], sizes[:p], fathers[:p], starts[:n + 1], rows[:s]
+    unsound = starts[0] != 0 or starts != sorted(starts) or starts[n] != s
+    number = contents_refusal(n, order, sizes, fathers, unsound, lambda: split(rows, starts))
+    if number:
+        return number, b""
+    numbers = order + [x for part in zip(sizes, fathers) for x in part] + [len(rows) for rows in split(rows, starts)] + rows
+    data = struct.pack("<3sHIII", b"NDP", 1, n, p, s) + struct.pack("<%dH" % len(numbers), *numbers)
+    return (0, data) if len(data) <= room else (8, b"")
+
+
+def question_refusal(n, starts, rows, positions):
+    if n == 0 or n > 4096:
+        return 1
+    if len(starts) != n + 1 or starts[0] != 0 or starts != sorted(starts) or starts[n] > len(rows) or rows_break_17(n, split(rows, starts)):
+        return 22
+    return 21 if max(positions) >= n else 0
+
+
+def pair(n, starts, rows, a, b):
+    number = question_refusal(n, starts, rows, [a, b])
+    if number:
+        return "refused %d" % number
+    if a == b:
+        return "diagonal"
+    column = split(rows, starts)[min(a, b)]
+    return "slot %d" % (starts[min(a, b)] + column.index(max(a, b))) if max(a, b) in column else "no slot"
+
+
+def column(n, starts, rows, j):
+    """the companion's number and the rows"""
+    number = question_refusal(n, starts, rows, [j])
+    return number, [] if number else split(rows, starts)[j]
+
+
 # ---- the program `cases`
 
+def spaced(numbers):
+    return "".join(" %d" % x for x in numbers) + "\n"
+
+
+def lent(title, first, buffers, lengths):
+    """a title, the answer, and every lent buffer, which held 60,000"""
+    return "case %d\n%s\n" % (title, first) + "".join(spaced(entries + [60000] * (size - len(entries))) for entries, size in zip(buffers, lengths))
+
+
+def accepted(n, sizes, starts):
+    multiplications = sum((b - a) * (b - a + 3) // 2 for a, b in zip(starts, starts[1:]))
+    return "accepted %d %d %d %d" % (n, len(sizes), starts[n], multiplications)
+
+
 def case(title, n, starts, neighbours, length, rows_length):
-    lent = [length] * 4 + [length + 1, rows_length]
-    buffers, answer = [[]] * 6, refusal(n, starts, neighbours)
-    if not answer and length < n:
-        answer = 8
-    if not answer:
+    lengths = [length] * 4 + [length + 1, rows_length]
+    buffers, number = [[]] * 6, refusal(n, starts, neighbours)
+    if not number and length < n:
+        number = 8
+    if not number:
         order, parts, fathers, columns = plan(n, starts, neighbours)
         slots = [i for rows in columns for i in rows]
         if len(slots) > rows_length:
-            answer = 9
+            number = 9
         else:
-            multiplications = sum(len(c) * (len(c) + 3) // 2 for c in columns)
             buffers = [order, [order.index(v) for v in range(n)], [len(p) for p in parts], fathers, sums(columns), slots]
-    first = "refused %d" % answer if answer else "accepted %d %d %d %d" % (n, len(parts), len(slots), multiplications)
-    lines = ["".join(" %d" % x for x in entries + [60000] * (size - len(entries))) for entries, size in zip(buffers, lent)]
-    return "\n".join(["case %d" % title, first] + lines) + "\n"
+    return lent(title, "refused %d" % number if number else accepted(n, buffers[2], buffers[4]), buffers, lengths)
 
 
 def edges(title, n, text, rows_length):
@@ -150,6 +258,46 @@ def bare(title, n):
     return "case %d\naccepted 4096 4096 0 0\n 4094 4095 60000\n 4094 4095 60000\n 1 1 60000\n 65535 65535 60000\n 0 0 60000\n 60000\n" % title
 
 
+def file_case(title, data, lengths=(6, 6, 6, 6, 7, 6)):
+    number, buffers = read(data, lengths)
+    first = "refused %d" % number if number else accepted(len(buffers[0]), buffers[2], buffers[4])
+    return lent(title, first, buffers or [[]] * 6, lengths)
+
+
+def writer_case(title, room, order, sizes, fathers, starts, rows, n=5, p=3, s=5):
+    number, data = write(n, p, s, order, sizes, fathers, starts, rows, room)
+    return "case %d\n%s\n" % (title, "refused %d" % number if number else "written %d" % len(data)) + spaced(list(data) + [77] * (room - len(data)))
+
+
+def pair_case(title, *asked):
+    return "case %d\n%s\n" % (title, pair(*asked))
+
+
+def column_case(title, *asked):
+    number, rows = column(*asked)
+    return "case %d\n%d\n" % (title, number) + spaced(rows)
+
+
+def changed(data, at, x):
+    return data[:at] + struct.pack("<H", x) + data[at + 2:]
+
+
+# mesh 4 in a file, and its lists
+PATH_LISTS = [[0, 1, 3, 4, 2], [2, 2, 1], [2, 2, 65535], [0, 1, 2, 4, 5, 5], [1, 4, 3, 4, 4]]
+PATH_STARTS, PATH_ROWS = PATH_LISTS[3:]
+PATH_FILE = write(5, 3, 5, *PATH_LISTS, 59)[1]
+TOO_MANY = changed(changed(changed(changed(PATH_FILE, 43, 0), 45, 0), 39, 65535), 41, 6)
+APART = changed(changed(PATH_FILE, 39, 2), 41, 0)
+
+
+def numbers_file(version, n, p, s, *numbers):
+    return struct.pack("<3sHIII", b"NDP", version, n, p, s) + struct.pack("<%dH" % len(numbers), *numbers)
+
+
+def path_case(title, room, order=PATH_LISTS[0], starts=PATH_STARTS, rows=PATH_ROWS):
+    return writer_case(title, room, order, PATH_LISTS[1], PATH_LISTS[2], starts, rows)
+
+
 CASES = [
     edges(1, 1, "", 1), edges(2, 2, "", 1), edges(3, 3, "01 02 12", 2), edges(3, 3, "01 02 12", 3), edges(4, 5, "01 12 23 34", 6),
     edges(5, 4, "01 12 23 03", 6), edges(6, 4, "01 02 03", 4), case(7, 0, [0], [], 2, 1), case(8, 2, [0, 1, 1], [1], 3, 1),
@@ -159,6 +307,30 @@ CASES = [
     edges(29, 7, "01 02 03 12 13 24 25 34 35 46 56", 24), edges(30, 7, "01 12 23 34 45 56", 12),
     case(41, 0, [], [], 2, 1), case(42, 3, [0, 0, 0], [], 4, 1), case(43, 2, [0, 2, 2], [1, 0], 3, 1), case(44, 3, [0, 2, 2, 2], [2, 1], 4, 1),
     case(45, 2, [0, 1, 2], [0, 2], 3, 1), case(46, 2, [0, 1, 2], [1, 0], 1, 0), case(47, 2, [0, 1, 2], [1, 0], 2, 0),
+    path_case(4, 59), file_case(4, PATH_FILE),
+    file_case(10, numbers_file(2, 0, 0, 0), [1, 1, 1, 1, 2, 1]), file_case(10, numbers_file(2, 0, 0, 0)[:16], [1, 1, 1, 1, 2, 1]),
+    file_case(11, numbers_file(1, 3, 1, 2, 0, 1, 2, 3, 65535, 2, 0, 0, 1, 2), [4, 4, 4, 4, 5, 3]),
+    file_case(12, numbers_file(1, 2, 2, 1, 0, 1, 1, 65535, 1, 65535, 1, 0, 1), [3, 3, 3, 3, 4, 2]),
+    file_case(51, PATH_FILE, [5, 4, 5, 5, 6, 5]), file_case(52, PATH_FILE, [5, 5, 3, 5, 6, 5]), file_case(53, PATH_FILE, [5, 5, 4, 5, 6, 4]),
+    file_case(54, PATH_FILE, [5, 5, 5, 5, 6, 4]),
+    file_case(55, changed(PATH_FILE, 1, 0)[:16]), file_case(56, changed(changed(PATH_FILE, 1, 0), 3, 2)), file_case(57, changed(changed(PATH_FILE, 3, 2), 5, 0)),
+    file_case(58, changed(PATH_FILE, 3, 2)), file_case(59, changed(PATH_FILE, 7, 1)), file_case(60, changed(PATH_FILE, 5, 0)), file_case(61, PATH_FILE[:58]),
+    file_case(61, PATH_FILE + b"\0"),
+    file_case(62, changed(changed(PATH_FILE, 27, 65535), 31, 5)), file_case(63, TOO_MANY), file_case(64, changed(changed(PATH_FILE, 39, 2), 49, 3)),
+    file_case(65, changed(PATH_FILE, 49, 7)), file_case(66, changed(APART, 51, 3)), file_case(67, APART), file_case(68, changed(changed(PATH_FILE, 19, 0), 27, 0)),
+    file_case(69, changed(PATH_FILE, 33, 1)),
+    writer_case(71, 26, [0], [1], [65535], [0, 0], [], 1, 1, 0), path_case(72, 59, starts=PATH_STARTS[:5]), path_case(73, 59, rows=PATH_ROWS[:4]),
+    path_case(74, 61, PATH_LISTS[0] + [0], PATH_STARTS + [9], PATH_ROWS + [0]), path_case(75, 59, starts=[1, 1, 2, 4, 5, 5]), path_case(76, 59, starts=[0, 1, 2, 4, 5, 6]),
+    path_case(77, 59, starts=[0, 2, 1, 4, 5, 5]), path_case(78, 58), path_case(79, 0, [0, 1, 3, 4, 4]),
+    pair_case(81, 5, PATH_STARTS, PATH_ROWS, 0, 1), pair_case(81, 5, PATH_STARTS, PATH_ROWS, 4, 2), pair_case(81, 5, PATH_STARTS, PATH_ROWS, 4, 0),
+    pair_case(81, 5, PATH_STARTS, PATH_ROWS, 3, 3), column_case(82, 5, PATH_STARTS, PATH_ROWS, 1), column_case(82, 5, PATH_STARTS, PATH_ROWS, 2),
+    column_case(82, 5, PATH_STARTS, PATH_ROWS, 3), column_case(82, 5, PATH_STARTS, PATH_ROWS, 4), column_case(83, 5, PATH_STARTS, PATH_ROWS, 5),
+    pair_case(83, 5, PATH_STARTS, PATH_ROWS, 5, 5), pair_case(83, 5, PATH_STARTS, PATH_ROWS, 0, 5), pair_case(83, 5, PATH_STARTS, PATH_ROWS, 5, 0),
+    pair_case(84, 5, PATH_STARTS + [5], PATH_ROWS, 0, 1), column_case(84, 5, PATH_STARTS + [5], PATH_ROWS, 2),
+    pair_case(85, 5, PATH_STARTS, [1, 4, 3, 5, 4], 0, 1), column_case(85, 5, PATH_STARTS, [1, 4, 3, 5, 4], 0), pair_case(86, 5, PATH_STARTS, [2, 4, 3, 4, 4], 0, 2),
+    pair_case(87, 5, PATH_STARTS, PATH_ROWS + [0, 9, 0], 4, 3), column_case(87, 5, PATH_STARTS, PATH_ROWS + [0, 9, 0], 3),
+    pair_case(88, 0, [], [], 0, 0), pair_case(88, 4097, [], [], 0, 0), column_case(88, 0, [0], [], 0),
+    pair_case(89, 5, PATH_STARTS, PATH_ROWS[:4], 9, 9), column_case(89, 5, [0, 1, 2, 4, 3, 5], PATH_ROWS, 9),
 ]
 
 

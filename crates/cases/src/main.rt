@@ -1,5 +1,7 @@
-// Document 01's worked meshes, and meshes that tell misreadings apart: each is planned, and the answer and every lent buffer are written. A buffer has one entry more than is needed and holds
-// 60,000 before.
+// Document 01's worked meshes and files, and meshes, files and questions that tell misreadings apart: the answer to each and every lent buffer are written. A buffer has one entry more than
+// is needed, where it is not said to be short, and holds 60,000 before, bytes 77.
+mod asks;
+mod files;
 mod show;
 
 use crate::show::print_answer;
@@ -175,4 +177,6 @@ fn main() {
     worked();
     telling();
     refused();
+    files::all();
+    asks::all();
 }

@@ -1,7 +1,9 @@
 // What a case wrote, as lines of numbers.
 use libc::STDOUT_FILENO;
+use plan::PairAnswer;
 use plan::Plan;
 use plan::PlanAnswer;
+use plan::WriteAnswer;
 
 fn end_line() {
     io::write_all(STDOUT_FILENO, b"\n");
@@ -64,4 +66,59 @@ pub fn print_columns(entries: &[u32]) {
         print_start(entries[i]);
     }
     end_line();
+}
+
+fn print_byte(x: u8) {
+    print_spaced(x as u64);
+}
+
+pub fn print_bytes(bytes: &[u8]) {
+    for i in 0..bytes.len() {
+        print_byte(bytes[i]);
+    }
+    end_line();
+}
+
+// A number in a line of its own.
+pub fn print_number(x: u32) {
+    io::print_decimal(STDOUT_FILENO, x as u64);
+    end_line();
+}
+
+fn print_length(length: usize) {
+    io::write_all(STDOUT_FILENO, b"written");
+    print_spaced(length as u64);
+    end_line();
+}
+
+// The file's length, or the refusal's number.
+pub fn print_written(answer: WriteAnswer) {
+    match answer {
+        WriteAnswer::Written(length) => print_length(length),
+        WriteAnswer::Refused(number) => print_refusal(number),
+    }
+}
+
+fn print_slot(slot: u32) {
+    io::write_all(STDOUT_FILENO, b"slot");
+    print_spaced(slot as u64);
+    end_line();
+}
+
+fn print_diagonal() {
+    io::write_all(STDOUT_FILENO, b"diagonal\n");
+}
+
+fn print_no_slot() {
+    io::write_all(STDOUT_FILENO, b"no slot\n");
+}
+
+// The slot, "diagonal", "no slot", or the refusal's number.
+pub fn print_pair(answer: PairAnswer) {
+    match answer {
+        PairAnswer::Slot(slot) => print_slot(slot),
+        PairAnswer::Diagonal => print_diagonal(),
+        PairAnswer::NoSlot => print_no_slot(),
+        PairAnswer::Refused(number) => print_refusal(number),
+    }
 }

@@ -1,6 +1,13 @@
 // Parts of lent buffers, and whether a buffer holds what it should.
 
 // The first k entries, or all where there are not so many.
+pub fn first8<'a>(s: &'a [u8], k: usize) -> &'a [u8] {
+    if k <= s.len() {
+        return &s[0..k];
+    }
+    s
+}
+
 pub fn first16<'a>(s: &'a [u16], k: usize) -> &'a [u16] {
     if k <= s.len() {
         return &s[0..k];
@@ -11,6 +18,13 @@ pub fn first16<'a>(s: &'a [u16], k: usize) -> &'a [u16] {
 pub fn first32<'a>(s: &'a [u32], k: usize) -> &'a [u32] {
     if k <= s.len() {
         return &s[0..k];
+    }
+    s
+}
+
+pub fn front8<'a>(s: &'a mut [u8], k: usize) -> &'a mut [u8] {
+    if k <= s.len() {
+        return &mut s[0..k];
     }
     s
 }
@@ -30,6 +44,15 @@ pub fn front32<'a>(s: &'a mut [u32], k: usize) -> &'a mut [u32] {
 }
 
 // What entry i should be: that of `want` where it is used, `rest` elsewhere.
+fn wanted8(want: &[u8], used: usize, rest: u8, i: usize) -> u8 {
+    if i < used {
+        if i < want.len() {
+            return want[i];
+        }
+    }
+    rest
+}
+
 fn wanted16(want: &[u16], used: usize, rest: u16, i: usize) -> u16 {
     if i < used {
         if i < want.len() {
@@ -37,6 +60,15 @@ fn wanted16(want: &[u16], used: usize, rest: u16, i: usize) -> u16 {
         }
     }
     rest
+}
+
+pub fn holds8(buffer: &[u8], want: &[u8], used: usize, rest: u8) -> bool {
+    for i in 0..buffer.len() {
+        if buffer[i] != wanted8(want, used, rest, i) {
+            return false;
+        }
+    }
+    true
 }
 
 pub fn holds16(buffer: &[u16], want: &[u16], used: usize, rest: u16) -> bool {

@@ -1,39 +1,9 @@
 // Checks 1 to 7, each over the whole mesh before the next, and the matrix of a mesh that passes them.
+use crate::lists::end;
+use crate::lists::entry;
+use crate::lists::falling;
+use crate::lists::start;
 use crate::sets::only;
-use crate::sets::wide16;
-use crate::sets::wide32;
-
-// Where v's list begins.
-fn start(starts: &[u32], v: usize) -> usize {
-    if v < starts.len() {
-        return wide32(starts[v]);
-    }
-    0
-}
-
-// Where v's list ends.
-fn end(starts: &[u32], v: usize) -> usize {
-    if v < starts.len() {
-        return start(starts, v + 1);
-    }
-    0
-}
-
-fn entry(neighbours: &[u16], e: usize) -> usize {
-    if e < neighbours.len() {
-        return wide16(neighbours[e]);
-    }
-    0
-}
-
-fn falling(n: usize, starts: &[u32]) -> bool {
-    for v in 0..n {
-        if end(starts, v) < start(starts, v) {
-            return true;
-        }
-    }
-    false
-}
 
 fn bad_starts(n: usize, starts: &[u32], neighbours: &[u16]) -> bool {
     if starts.len() == 0 {

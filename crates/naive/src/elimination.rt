@@ -14,7 +14,7 @@ pub struct Elimination {
 }
 
 // The multiplications of a column of c rows.
-fn multiplications(c: u32) -> u64 {
+pub fn multiplications(c: u32) -> u64 {
     if c < 64 {
         return (c * (c + 3) / 2) as u64;
     }
@@ -22,7 +22,7 @@ fn multiplications(c: u32) -> u64 {
 }
 
 // A sum of multiplications: 64 columns have at most 45,696.
-fn sum(a: u64, b: u64) -> u64 {
+pub fn sum(a: u64, b: u64) -> u64 {
     if a < 1000000 {
         if b < 1000000 {
             return a + b;

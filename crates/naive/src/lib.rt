@@ -1,13 +1,29 @@
-// A second planner, written from document 01 and READINGS, without the book or the planner: dense, literal and small, for meshes of at most 64 nodes. Test
-// programs compare the proved planner with it. Proved safe; what it answers is tested, and not proved.
+// A second planner, and a second reader and writer of plan files and answers to questions, written from document 01 and READINGS, without the book or the proved code: dense, literal
+// and small, for meshes of at most 64 nodes. Test programs compare the proved code with it. Proved safe; what it answers is tested, and not proved.
 mod check;
-mod dissection;
+mod contents;
 mod elimination;
+mod file;
+mod lists;
+mod parts;
+mod questions;
 mod sets;
 
 use crate::elimination::eliminate;
+pub use file::NaiveFile;
+pub use file::encode;
+pub use file::most_slots;
+pub use file::read;
+pub use file::write;
+pub use questions::NaiveColumn;
+pub use questions::NaivePair;
+pub use questions::column;
+pub use questions::pair;
 
-// What planning hands out. `refusal` is 0 where the mesh is planned; otherwise everything else is 0.
+// The answer of reading or writing where the plan has more nodes than this code takes.
+pub const TOO_LARGE: u32 = 65535;
+
+// What planning and reading hand out. `refusal` is 0 where there is a plan; otherwise everything else is 0.
 pub struct NaivePlan {
     pub refusal: u32,
     pub nodes: u32,
@@ -40,7 +56,7 @@ fn refused(number: u32) -> NaivePlan {
 
 fn planned(n: usize, starts: &[u32], neighbours: &[u16]) -> NaivePlan {
     let m = check::matrix(starts, neighbours);
-    let d = dissection::dissect(&m, n);
+    let d = parts::dissect(&m, n);
     let order = d.order;
     let positions = d.positions;
     let sizes = d.sizes;

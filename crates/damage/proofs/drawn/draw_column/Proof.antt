@@ -1,0 +1,25 @@
+-- `damage::drawn::draw_column` is safe and ends.
+use Prim.Native.Nat.{_-_}
+use borrow.Author.Needs.{needs}
+use Rattle.damage.proofs.drawn.draw_column.Statement.{statement}
+use Rattle.damage.proofs.drawn.draw_column.Tie as tie
+
+abbrev Inv-loop : tie.InvT-loop
+Inv-loop cells₀ seed n j i₀ cells i = Unit {0}
+
+abbrev μ-loop : tie.MeasureT-loop
+μ-loop cells₀ seed n j i₀ cells i = 8 - i
+
+pub draw-column-spec : {M : Type 1} → statement M
+draw-column-spec =
+    tie.close
+    (tie.spec
+    Inv-loop
+    μ-loop
+    (λ c. search needs)
+    (λ c κs. search needs)
+    (λ c κs. search needs)
+    (λ c. search needs)
+    (λ c. search needs)
+    (λ c. search needs)
+    (λ c. search needs))

@@ -1,0 +1,245 @@
+// What the writer is lent: three numbers and five lists, each the first entries of an array, and room for the bytes.
+use crate::counts::Counts;
+use crate::counts::WRITE;
+use crate::counts::counted;
+use crate::file::File;
+use crate::held::Held;
+use meshes::first16;
+use meshes::first32;
+use meshes::front8;
+use meshes::holds8;
+use naive::NaiveFile;
+use plan::WriteAnswer;
+
+// `lengths` has those of the lists (order, sizes, parents, column starts, rows) and the room for the bytes.
+pub struct Draft {
+    pub n: usize,
+    pub p: usize,
+    pub s: usize,
+    pub order: [u16; 80],
+    pub sizes: [u16; 80],
+    pub parents: [u16; 80],
+    pub column_starts: [u32; 80],
+    pub rows: [u16; 2100],
+    pub lengths: [usize; 6],
+}
+
+// The draft of a plan, its lists and the room longer than needed.
+pub fn draft_of(h: Held) -> Draft {
+    let order = h.order;
+    let sizes = h.sizes;
+    let parents = h.parents;
+    let column_starts = h.column_starts;
+    let rows = h.rows;
+    Draft {
+        n: h.nodes as usize,
+        p: h.parts as usize,
+        s: h.slots as usize,
+        order: order,
+        sizes: sizes,
+        parents: parents,
+        column_starts: column_starts,
+        rows: rows,
+        lengths: [80, 80, 80, 80, 2100, 4561],
+    }
+}
+
+// What writing leaves: the refusal or 0, the length or 0, and the bytes, which were 77.
+pub struct Wrote {
+    pub refusal: u32,
+    pub length: usize,
+    pub bytes: [u8; 4561],
+}
+
+fn answered(answer: WriteAnswer, bytes: [u8; 4561]) -> Wrote {
+    match answer {
+        WriteAnswer::Written(length) => Wrote {
+            refusal: 0,
+            length: length,
+            bytes: bytes,
+        },
+        WriteAnswer::Refused(number) => Wrote {
+            refusal: number,
+            length: 0,
+            bytes: bytes,
+        },
+    }
+}
+
+pub fn write(d: Draft) -> Wrote {
+    let order = d.order;
+    let sizes = d.sizes;
+    let parents = d.parents;
+    let column_starts = d.column_starts;
+    let rows = d.rows;
+    let l = d.lengths;
+    let mut bytes = [77u8; 4561];
+    let answer = planfile::write(
+        d.n,
+        d.p,
+        d.s,
+        first16(&order, l[0]),
+        first16(&sizes, l[1]),
+        first16(&parents, l[2]),
+        first32(&column_starts, l[3]),
+        first16(&rows, l[4]),
+        front8(&mut bytes, l[5]),
+    );
+    answered(answer, bytes)
+}
+
+fn write_naively(d: Draft) -> NaiveFile {
+    let order = d.order;
+    let sizes = d.sizes;
+    let parents = d.parents;
+    let column_starts = d.column_starts;
+    let rows = d.rows;
+    let l = d.lengths;
+    naive::write(
+        d.n,
+        d.p,
+        d.s,
+        first16(&order, l[0]),
+        first16(&sizes, l[1]),
+        first16(&parents, l[2]),
+        first32(&column_starts, l[3]),
+        first16(&rows, l[4]),
+        l[5],
+    )
+}
+
+fn agrees(w: Wrote, f: NaiveFile) -> bool {
+    let length = f.length;
+    w.refusal == f.refusal && w.length == length && holds8(&w.bytes, &f.bytes, length, 77)
+}
+
+// Writes a draft with the writer and with the naive one.
+pub fn try_writing(c: Counts, d: Draft) -> Counts {
+    let f = write_naively(d);
+    counted(c, WRITE, f.refusal, agrees(write(d), f))
+}
+
+// Whether both wrote the same, in every byte that was lent.
+pub fn same_bytes(w: Wrote, v: Wrote) -> bool {
+    w.length == v.length && holds8(&w.bytes, &v.bytes, 4561, 0)
+}
+
+// The file that was written.
+pub fn file_of(w: Wrote) -> File {
+    let bytes = w.bytes;
+    File {
+        bytes: bytes,
+        length: w.length,
+    }
+}
+
+// The file of a draft as it stands, sound or not, for n and p of at most 64 and s of at most 2,016.
+pub fn encoded(d: Draft) -> File {
+    let order = d.order;
+    let sizes = d.sizes;
+    let parents = d.parents;
+    let column_starts = d.column_starts;
+    let rows = d.rows;
+    let f = naive::encode(
+        d.n,
+        d.p,
+        d.s,
+        &order,
+        &sizes,
+        &parents,
+        &column_starts,
+        &rows,
+    );
+    let bytes = f.bytes;
+    File {
+        bytes: bytes,
+        length: f.length,
+    }
+}
+
+// How many entries list `which` has: 0 order, 1 sizes, 2 parents, 3 column starts, 4 rows; 5, 6 and 7 are n, p and s.
+pub fn entries(d: Draft, which: usize) -> usize {
+    match which {
+        0 => d.n,
+        1 | 2 => d.p,
+        3 => d.n % 65536 + 1,
+        4 => d.s,
+        _ => 1,
+    }
+}
+
+fn short(list: &[u16], i: usize) -> usize {
+    if i < list.len() {
+        return wide16(list[i]);
+    }
+    0
+}
+
+fn wide16(x: u16) -> usize {
+    x as usize
+}
+
+fn start(d: Draft, i: usize) -> usize {
+    if i < 80 {
+        return d.column_starts[i] as usize;
+    }
+    0
+}
+
+// Entry i of list `which`, or the number.
+pub fn entry(d: Draft, which: usize, i: usize) -> usize {
+    match which {
+        0 => short(&d.order, i),
+        1 => short(&d.sizes, i),
+        2 => short(&d.parents, i),
+        3 => start(d, i),
+        4 => short(&d.rows, i),
+        5 => d.n,
+        6 => d.p,
+        _ => d.s,
+    }
+}
+
+fn put(list: &mut [u16; 80], i: usize, x: usize) {
+    if i < 80 {
+        list[i] = (x % 65536) as u16;
+    }
+}
+
+fn with_row(mut d: Draft, e: usize, x: usize) -> Draft {
+    if e < 2100 {
+        d.rows[e] = (x % 65536) as u16;
+    }
+    d
+}
+
+pub fn with_start(mut d: Draft, j: usize, x: usize) -> Draft {
+    if j < 80 {
+        d.column_starts[j] = (x % 4294967296) as u32;
+    }
+    d
+}
+
+// The draft with another number there.
+pub fn with_entry(d: Draft, which: usize, i: usize, x: usize) -> Draft {
+    let mut e = d;
+    match which {
+        0 => put(&mut e.order, i, x),
+        1 => put(&mut e.sizes, i, x),
+        2 => put(&mut e.parents, i, x),
+        3 => e = with_start(d, i, x),
+        4 => e = with_row(d, i, x),
+        5 => e.n = x,
+        6 => e.p = x,
+        _ => e.s = x,
+    }
+    e
+}
+
+// The draft with another length of a list or of the room.
+pub fn with_length(mut d: Draft, which: usize, length: usize) -> Draft {
+    if which < 6 {
+        d.lengths[which] = length;
+    }
+    d
+}

@@ -1,0 +1,126 @@
+// Plans written, read, damaged and asked about: counts the answers, and where the proved code and `naive`, which is written apart from it, differ in an answer or in any entry of a lent
+// buffer.
+mod borders;
+mod cells;
+mod counts;
+mod draft;
+mod drafts;
+mod drawn;
+mod file;
+mod files;
+mod held;
+mod layouts;
+
+use crate::counts::Counts;
+use crate::counts::compared;
+use crate::counts::none;
+use crate::counts::print;
+use crate::draft::Draft;
+use crate::draft::Wrote;
+use crate::draft::draft_of;
+use crate::draft::encoded;
+use crate::draft::file_of;
+use crate::draft::same_bytes;
+use crate::draft::try_writing;
+use crate::draft::write;
+use crate::file::File;
+use crate::files::try_file;
+use crate::held::Held;
+use crate::held::planned;
+use crate::held::read;
+use crate::held::same;
+use meshes::Case;
+use meshes::first8;
+use meshes::from_edges;
+
+// What reading leaves of what was written.
+fn read_back(w: Wrote) -> Held {
+    let bytes = w.bytes;
+    let length = w.length;
+    read(first8(&bytes, length), [80, 80, 80, 80, 80, 2100])
+}
+
+// A plan written, read into results that are longer than needed, and written again.
+fn round_trip(c: Counts, h: Held) -> Counts {
+    let d = draft_of(h);
+    let w = write(d);
+    let k = read_back(w);
+    let kept = w.refusal == 0 && same(h, k) && same_bytes(w, write(draft_of(k)));
+    compared(try_file(try_writing(c, d), file_of(w)), kept)
+}
+
+// Damages to a file. (It is the naive writer's, which the round trip has compared.)
+fn every_file(c: Counts, f: File) -> Counts {
+    let d = files::every_number(files::every_field(c, f), f);
+    let e = files::every_move(files::every_swap(d, f), f);
+    files::every_rows_length(files::every_short(files::every_length(e, f), f), f)
+}
+
+// Damages to lists that are written, and questions over them.
+fn every_draft(c: Counts, d: Draft) -> Counts {
+    let e = drafts::every_room(drafts::every_length(c, d), d);
+    layouts::every_question(drafts::every_entry(drafts::every_slot(e, d), d), d)
+}
+
+fn every_damage(c: Counts, h: Held) -> Counts {
+    let d = draft_of(h);
+    every_draft(every_file(round_trip(c, h), encoded(d)), d)
+}
+
+// A mesh whose file has every value of every byte too.
+fn small(c: Counts, m: Case) -> Counts {
+    let h = planned(m);
+    let f = encoded(draft_of(h));
+    let d = files::every_byte(every_damage(c, h), f, f.length);
+    files::drawn_pairs(d, f, 0, 500)
+}
+
+// A mesh whose file has every value of every byte before the order.
+fn middling(c: Counts, m: Case) -> Counts {
+    let h = planned(m);
+    let f = encoded(draft_of(h));
+    let d = files::every_byte(every_damage(c, h), f, 17);
+    files::drawn_pairs(d, f, 1000, 1000)
+}
+
+fn all_small(c: Counts) -> Counts {
+    let one = small(c, from_edges(1, &[]));
+    let two = small(one, from_edges(2, &[]));
+    let edge = small(two, from_edges(2, &[0, 1]));
+    let path = small(edge, from_edges(3, &[0, 1, 1, 2]));
+    let triangle = small(path, from_edges(3, &[0, 1, 0, 2, 1, 2]));
+    let ring = small(triangle, from_edges(4, &[0, 1, 1, 2, 2, 3, 0, 3]));
+    let star = small(ring, from_edges(4, &[0, 1, 0, 2, 0, 3]));
+    small(star, from_edges(5, &[0, 1, 1, 2, 2, 3, 3, 4]))
+}
+
+// A path, a mesh of four regions, and a grid of three by four nodes.
+fn all_middling(c: Counts) -> Counts {
+    let path = middling(c, from_edges(7, &[0, 1, 1, 2, 2, 3, 3, 4, 4, 5, 5, 6]));
+    let regions = middling(path, from_edges(9, &[0, 4, 4, 8, 1, 3, 3, 5, 1, 5, 2, 6]));
+    let grid = from_edges(
+        12,
+        b"\x00\x01\x01\x02\x03\x04\x04\x05\x06\x07\x07\x08\x09\x0a\x0a\x0b\x00\x03\x03\x06\x06\x09\x01\x04\x04\x07\x07\x0a\x02\x05\x05\x08\x08\x0b",
+    );
+    middling(regions, grid)
+}
+
+// A mesh of at most 64 nodes that the seed draws.
+fn drawn_mesh(c: Counts, seed: u64) -> Counts {
+    let h = planned(meshes::drawn(seed));
+    let f = encoded(draft_of(h));
+    files::drawn_pairs(round_trip(c, h), f, seed % 65536 * 16, 16)
+}
+
+fn all_drawn(c: Counts) -> Counts {
+    let mut d = c;
+    for seed in 0..200u64 {
+        d = drawn_mesh(d, seed);
+    }
+    d
+}
+
+fn main() {
+    let c = all_drawn(all_middling(all_small(none())));
+    print(layouts::all_drawn(drafts::all_drawn(c)));
+}
