@@ -135,7 +135,7 @@ two-bytes x h = omega arith
 two-words : (x : ℕ) → x % 65536 + 65536 * (x / 65536) ≡ x
 two-words x = omega arith
 
--- what stands behind a place
+-- the number at place at + k is the one at place k of what stands from `at` on
 pub decode16-drop : (bytes : List ℕ) (at k : ℕ) → decode16 bytes (at + k) ≡ decode16 (drop at bytes) k
 unfolding decode16
 decode16-drop bytes at k =
@@ -148,7 +148,7 @@ decode32-drop bytes at =
     let here : at + 0 ≡ at = add-zero at in
     rw (← decode16-drop bytes at 0, ← decode16-drop bytes at 2, here)
 
--- many of them
+-- the same for a list of numbers
 pub decode16s-drop : (bytes : List ℕ) (at apart count : ℕ) → decode16s bytes at apart count ≡ decode16s (drop at bytes) 0 apart count
 unfolding decode16s
 decode16s-drop bytes at apart count =
@@ -165,7 +165,7 @@ pub encoded32 : (x : ℕ) (rest : List ℕ) → x < 4294967296 → decode32 (enc
 unfolding encode32 encode16 decode32 decode16
 encoded32 x rest h = rw (two-bytes (x % 65536) (omega arith), two-bytes (x / 65536) (omega arith)) (two-words x)
 
--- Blocks one after the other, each of w bytes, made from the elements of a list: what each says at its byte k is read in one go.
+-- Blocks one after the other, each of w bytes, made from the elements of a list: what each says at its byte k, together, is one list.
 pub decode-blocks : (f : ℕ → List ℕ) (g : ℕ → ℕ) (w k : ℕ) (bytes : List ℕ) → ((x : ℕ) → length (f x) ≡ w)
     → (l rest : List ℕ) (at : ℕ) → ((x : ℕ) → isIn x l ≡ true → (behind : List ℕ) → decode16 (f x ++ behind) k ≡ g x) → drop at bytes ≡ flatten (map f l) ++ rest
     → decode16s bytes (at + k) w (length l) ≡ map g l

@@ -1,4 +1,4 @@
--- The fields of a plan file: where each stands, what is read of a plan that was encoded, and what is encoded of a plan that was read.
+-- The fields of a plan file: where each stands, what is parsed of a plan that was encoded, and what is encoded of a plan that was parsed.
 use mathlib.Core.Path.{_≡_, refl, sym, ap, _∙_}
 use mathlib.Core.Bool.{true}
 use mathlib.Core.List.{List, [], _++_, map, flatten, map-id, append-nil, append-assoc}
@@ -50,7 +50,7 @@ pub record Fits (c : Contents) : Type 0 where
 
 -- ---- how long the fields are
 
--- a part's size and father
+-- a part's size and parent
 abbrev pair : Contents → ℕ → List ℕ
 pair c q = encode16 (getD (c .sizes) q 0) ++ encode16 (getD (c .parents) q 0)
 
@@ -80,7 +80,7 @@ unfolding fileLength lengthAt
 encode-length c w = rw (encode-fields c)
     (simp length-append (omega (arith, encode16-length version, word-length (c .nodes), word-length (c .parts), word-length (c .slots), encode16s-length (c .order), w .order, parts-length c, encode16s-length (rowCounts c), counts-length c, encode16s-length (c .rows), w .rows)))
 
--- ---- what is read of a plan that was encoded
+-- ---- what is parsed of a plan that was encoded
 
 -- the field behind a field
 behind : (bytes field rest : List ℕ) (at next : ℕ) → drop at bytes ≡ field ++ rest → at + length field ≡ next → drop next bytes ≡ rest
@@ -98,7 +98,7 @@ words-at bytes l rest at count h long e =
     let here : at + 0 ≡ at = omega arith in
     (rw (← long, ← here) (decode-blocks encode16 (λ x. x) 2 0 bytes encode16-length l rest at (λ x m t. encoded16 x t (h x m)) e)) ∙ map-id l
 
--- what a part's pair says: its size, and its father
+-- what a part's pair says: its size, and its parent
 pair-size : (a b : ℕ) (t : List ℕ) → a < 65536 → decode16 ((encode16 a ++ encode16 b) ++ t) 0 ≡ a
 pair-size a b t h = ap (λ (l : List ℕ). decode16 l 0) (append-assoc (encode16 a) (encode16 b) t) ∙ encoded16 a (encode16 b ++ t) h
 
@@ -154,7 +154,7 @@ module _ (c : Contents) (fits : Fits c) where
   atRows : drop (17 + 4 * n + 4 * p) bytes ≡ fromRows
   atRows = behind bytes (encode16s (rowCounts c)) fromRows (17 + 2 * n + 4 * p) (17 + 4 * n + 4 * p) atCounts (omega (arith, encode16s-length (rowCounts c), counts-length c))
 
-  -- what is read there
+  -- what is parsed there
   nodes-back : decode32 bytes 5 ≡ n
   nodes-back = word-at bytes (encode32 p ++ fromSlots) 5 n (fits .nodes) atNodes
 
@@ -193,12 +193,12 @@ module _ (c : Contents) (fits : Fits c) where
       pairs-back 2 (19 + 2 * n) (c .parents) (fits .whole .parents)
       (λ q l t. pair-parent _ _ t (fits .parents (getD (c .parents) q 0) (isIn-getD (c .parents) q 0 (omega (arith, fits .whole .parents))))) (omega arith)
 
-  -- An encoded plan, read, is the plan.
+  -- An encoded plan, parsed, is the plan.
   pub parse-encode : parse (encode c) ≡ c
   unfolding parse parseAt
   parse-encode = rw (nodes-back, parts-back, slots-back, order-back, sizes-back, parents-back, counts-back, rows-back, fits .starts)
 
--- ---- what is encoded of a plan that was read
+-- ---- what is encoded of a plan that was parsed
 
 -- the counts in the file are those of the plan
 pub counts-read : (bytes : List ℕ) → rowCounts (parse bytes) ≡ decode16s bytes (17 + 2 * parse bytes .nodes + 4 * parse bytes .parts) 2 (parse bytes .nodes)
@@ -229,7 +229,7 @@ module _ (bytes : List ℕ) (small : every (λ b. ltb b 256) bytes ≡ true) (ma
       rw (decode16s-getD bytes (17 + 2 * c .nodes) 4 (c .parts) q l, decode16s-getD bytes (19 + 2 * c .nodes) 4 (c .parts) q l, place)
       (decoded-pair bytes small at (omega arith)))
 
-  -- A plan that was read, encoded, is the bytes again.
+  -- A plan that was parsed, encoded, is the bytes again.
   pub encode-parse : encode (parse bytes) ≡ bytes
   unfolding parse parseAt fileLength lengthAt
   encode-parse =

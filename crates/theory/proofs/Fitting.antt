@@ -135,7 +135,7 @@ module _ (c : Contents) (sound : Sound c) where
   column : (j : ℕ) → j < c .nodes → badColumn (c .nodes) j (listAt (c .columnStarts) (c .rows) j) ≡ false
   column = good-columns (c .nodes) (c .columnStarts) (c .rows) (laid .columns)
 
-  -- a father is 65,535 or a part
+  -- a parent is 65,535 or a part
   narrow-parents : Narrow (c .parents)
   unfolding parentOf
   narrow-parents x m =
