@@ -15,6 +15,7 @@ pub const COLUMN: usize = 3;
 pub struct Counts {
     pub met: [u64; 92],
     pub too_large: u64,
+    pub round_trips: u64,
     pub different: u64,
 }
 
@@ -22,6 +23,7 @@ pub fn none() -> Counts {
     Counts {
         met: [0; 92],
         too_large: 0,
+        round_trips: 0,
         different: 0,
     }
 }
@@ -38,7 +40,13 @@ pub fn compared(mut c: Counts, same: bool) -> Counts {
     c
 }
 
-// One more answer of an operation.
+// One more plan written, read and written again.
+pub fn returned(mut c: Counts, same: bool) -> Counts {
+    c.round_trips = more(c.round_trips);
+    compared(c, same)
+}
+
+// One more answer of an operation. Where the naive code has none (too large), nothing is compared.
 pub fn counted(mut c: Counts, operation: usize, refusal: u32, same: bool) -> Counts {
     if refusal == TOO_LARGE {
         c.too_large = more(c.too_large);
@@ -104,6 +112,8 @@ pub fn print(c: Counts) {
     }
     io::write_all(STDOUT_FILENO, b"too large to compare ");
     print_number(c.too_large);
+    io::write_all(STDOUT_FILENO, b"round trips ");
+    print_number(c.round_trips);
     io::write_all(STDOUT_FILENO, b"different ");
     print_number(c.different);
 }

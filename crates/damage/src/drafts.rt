@@ -1,4 +1,4 @@
-// Drafts damaged in every way, each written by the writer and by the naive one, and its file read by both readers.
+// Drafts damaged in many ways, each written by the writer and by the naive one, and (where n and p are at most 64 and s at most 2,016, and not for lengths and rooms) its file read by both readers.
 use crate::borders::LONG;
 use crate::borders::border;
 use crate::cells::cells_of;

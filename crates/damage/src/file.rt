@@ -19,7 +19,7 @@ fn byte(f: File, at: usize) -> usize {
     0
 }
 
-// The file cut or continued, by what stands behind it, to a length.
+// The file cut or continued, by what stands behind it, to a length; as it was where that is over 4,561.
 pub fn with_length(mut f: File, length: usize) -> File {
     if length <= 4561 {
         f.length = length;
@@ -89,7 +89,7 @@ fn asked(f: File) -> usize {
     17 + field(f, 1) % 4294967296 * 4 + field(f, 2) % 4294967296 * 4 + field(f, 3) % 4294967296 * 2
 }
 
-// The file cut or continued to the length that it asks for.
+// The file cut or continued to the length that it asks for, where that is at most 4,561.
 pub fn fitted(f: File) -> File {
     with_length(f, asked(f))
 }

@@ -1,4 +1,4 @@
-// Files damaged in every way, each read by the reader and by the naive one.
+// Files damaged in many ways, each read by the reader and by the naive one.
 use crate::borders::LONG;
 use crate::borders::SHORT;
 use crate::borders::border;
@@ -85,7 +85,7 @@ pub fn every_field(c: Counts, f: File) -> Counts {
     d
 }
 
-// Every border in n, p or s, the file's length as it was and as it is then asked for.
+// Every border in n, p or s, the file's length as it was and, where at most 4,561, as it is then asked for (else the same file again).
 fn every_long_border(c: Counts, f: File, k: usize) -> Counts {
     let mut d = c;
     for b in 0..LONG {
@@ -188,9 +188,18 @@ pub fn every_rows_length(c: Counts, f: File) -> Counts {
     d
 }
 
+// How many fields there are from `first` on.
+fn behind(count: usize, first: u8) -> usize {
+    let skipped = first as usize;
+    if skipped <= count {
+        return count - skipped;
+    }
+    0
+}
+
 // A file with a field at a border, which the seed draws, from field `first` on.
 fn drawn_border(f: File, seed: u64, what: usize, first: u8) -> File {
-    let k = first as usize + draw(seed, what, 6, fields(f)) % 8192;
+    let k = first as usize + draw(seed, what, 6, behind(fields(f), first)) % 8192;
     at_border(f, k, draw(seed, what, 7, LONG))
 }
 

@@ -1,4 +1,4 @@
-// What planning or reading leaves: the answer and the lent results. Each result is longer than needed and holds a number of its own where nothing is written.
+// What planning or reading leaves: the answer and the lent results. Each result is the front of an array that is longer than needed; the array holds a number of its own where nothing is written.
 use meshes::Case;
 use meshes::first16;
 use meshes::first32;

@@ -17,6 +17,7 @@ use meshes::holds16;
 use naive::NaiveColumn;
 use naive::NaivePair;
 use plan::PairAnswer;
+use plan::Span;
 
 fn same_slot(slot: u32, p: NaivePair) -> bool {
     p.refusal == 0 && p.found && slot as usize == p.slot
@@ -46,6 +47,14 @@ fn part<'a>(rows: &'a [u16], first: usize, end: usize) -> &'a [u16] {
     rows
 }
 
+// Whether a span is the one from p's first row to its end.
+fn same_span(span: Span, p: NaiveColumn) -> bool {
+    if p.end < p.first {
+        return false;
+    }
+    span.start == p.first && span.count == p.end - p.first
+}
+
 fn same_column(number: u32, column: &[u16], rows: &[u16], p: NaiveColumn) -> bool {
     let want = part(rows, p.first, p.end);
     number == p.refusal && column.len() == want.len() && holds16(column, want, want.len(), 0)
@@ -55,7 +64,13 @@ fn ask_column(c: Counts, n: usize, starts: &[u32], rows: &[u16], j: usize) -> Co
     let p = naive::column(n, starts, rows, j);
     let column = layout::column_rows(n, starts, rows, j);
     let number = layout::column_refusal(n, starts, rows, j);
-    counted(c, COLUMN, p.refusal, same_column(number, column, rows, p))
+    let span = layout::column_span(n, starts, rows, j);
+    counted(
+        c,
+        COLUMN,
+        p.refusal,
+        same_column(number, column, rows, p) && same_span(span, p),
+    )
 }
 
 // Pairs of position a with those below `end`.

@@ -12,9 +12,9 @@ mod held;
 mod layouts;
 
 use crate::counts::Counts;
-use crate::counts::compared;
 use crate::counts::none;
 use crate::counts::print;
+use crate::counts::returned;
 use crate::draft::Draft;
 use crate::draft::Wrote;
 use crate::draft::draft_of;
@@ -46,7 +46,7 @@ fn round_trip(c: Counts, h: Held) -> Counts {
     let w = write(d);
     let k = read_back(w);
     let kept = w.refusal == 0 && same(h, k) && same_bytes(w, write(draft_of(k)));
-    compared(try_file(try_writing(c, d), file_of(w)), kept)
+    returned(try_file(try_writing(c, d), file_of(w)), kept)
 }
 
 // Damages to a file. (It is the naive writer's, which the round trip has compared.)
