@@ -50,7 +50,7 @@ WrittenThenRead =
     → writing c output .reply .number ≡ 0 → buffersTooShort (c .nodes) room ≡ false → rowsTooShort c room ≡ false
     → reading (writing c output .bytes) room ≡ handOut 0 (used c)
 
--- Read, then written: of bytes that were read, slices whose used entries are the plan that was handed out are written back as those bytes, given room.
+-- Read, then written: of bytes that were read, slices whose used entries are the plan that was handed out are written back as those bytes, given room. (Bytes are numbers below 256.)
 abbrev pub ReadThenWritten : Type 0
 ReadThenWritten =
     (bytes : List ℕ) (room : Capacity) (c : Contents) (output : ℕ)
@@ -86,7 +86,7 @@ WroteThenFilled =
 abbrev pub lentBack : Plan → Buffers → Contents
 lentBack p b = contents (p .nodes) (p .parts) (p .slots) (b .order) (b .sizes) (b .parents) (b .columnStarts) (b .rows)
 
--- What was read, written from the same buffers into an output that has room, is the bytes that were read.
+-- What was read, written from the same buffers into an output that has room, is the bytes that were read. (Bytes are numbers below 256.)
 abbrev pub FilledThenWrote : Type 0
 FilledThenWrote =
     (bytes found after : List ℕ) (p : Plan) (lent left : Buffers) (answer : WriteAnswer)
@@ -102,7 +102,7 @@ PlannedThenWrote =
     → Wrote (lentBack p left) answer found after
     → (answer ≡ Written (fileLength (planOf m))) × (after ≡ written (encode (planOf m)) found)
 
--- Every other version is refused as such, with 12, whatever the bytes hold after the mark.
+-- Of 17 bytes or more that begin with the mark, every version other than 1 is refused as such, with 12, whatever stands behind the version.
 abbrev pub OtherVersions : Type 0
 OtherVersions =
     (bytes : List ℕ) (room : Capacity)
