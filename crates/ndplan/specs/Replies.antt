@@ -1,18 +1,55 @@
--- The replies of the C interface and the answers that they stand for.
+-- What C is told: each reply of the C interface from the book's reply, and the answer that a reply stands for.
 use mathlib.Core.Bool.{cond}
+use Prim.Native.Nat.{ℕ}
 use lib.Dec.{eqb}
+use lib.ListN.{getD}
 use Rattle.plan.specs.declared.PlanAnswer.{PlanAnswer}
-use Rattle.plan.specs.declared.PlanAnswer.the-variants.{Accepted, Refused}
-use Rattle.ndplan.specs.declared.NdpPlan.{NdpPlan}
+use Rattle.plan.specs.declared.PlanAnswer.the-variants as plan
+use Rattle.plan.specs.declared.WriteAnswer.{WriteAnswer}
+use Rattle.plan.specs.declared.WriteAnswer.the-variants as write
+use Rattle.plan.specs.declared.Span.{Span}
+use Rattle.plan.specs.declared.RefusalFamily.{RefusalFamily}
+use Rattle.plan.specs.declared.RefusalFamily.the-variants.{Mesh, File, Program, Question, None}
+use Rattle.plan.specs.Answers.{Reply}
+use Rattle.ndplan.specs.declared.replies.NdpPlan.{NdpPlan}
+use Rattle.ndplan.specs.declared.replies.NdpWritten.{NdpWritten}
+use Rattle.ndplan.specs.declared.replies.NdpSlot.{NdpSlot}
+use Rattle.ndplan.specs.declared.replies.NdpRows.{NdpRows}
+
+-- The number of the refusal, then the values in their order. A refusal has no values, so that every other field is 0, as is the slot of "diagonal" and "no slot".
+abbrev pub ndpPlan : Reply → NdpPlan
+ndpPlan r = record {
+  refusal = r .number;
+  nodes = getD (r .values) 0 0;
+  parts = getD (r .values) 1 0;
+  slots = getD (r .values) 2 0;
+  multiplications = getD (r .values) 3 0;
+}
+
+abbrev pub ndpWritten : Reply → NdpWritten
+ndpWritten r = record { refusal = r .number; length = getD (r .values) 0 0 }
+
+abbrev pub ndpSlot : Reply → NdpSlot
+ndpSlot r = record { refusal = r .number; kind = getD (r .values) 0 0; slot = getD (r .values) 1 0 }
+
+-- the column question: its companion's number, and the stretch
+abbrev pub ndpRows : ℕ → Span → NdpRows
+ndpRows k s = record { refusal = k; start = s .start; count = s .count }
+
+-- the families by number
+abbrev pub familyNumber : RefusalFamily → ℕ
+familyNumber None = 0
+familyNumber Mesh = 1
+familyNumber File = 2
+familyNumber Program = 3
+familyNumber Question = 4
 
 -- the answer that a reply stands for: a refusal unless its number is 0
 abbrev pub planAnswerOf : NdpPlan → PlanAnswer
 planAnswerOf r =
     cond (eqb (r .refusal) 0)
-    (Accepted (record { nodes = r .nodes; parts = r .parts; slots = r .slots; multiplications = r .multiplications }))
-    (Refused (r .refusal))
+    (plan.Accepted (record { nodes = r .nodes; parts = r .parts; slots = r .slots; multiplications = r .multiplications }))
+    (plan.Refused (r .refusal))
 
--- the reply to an answer: where it refuses, all else is 0
-abbrev pub planReplyOf : PlanAnswer → NdpPlan
-planReplyOf (Accepted p) = record { refusal = 0; nodes = p .nodes; parts = p .parts; slots = p .slots; multiplications = p .multiplications }
-planReplyOf (Refused k) = record { refusal = k; nodes = 0; parts = 0; slots = 0; multiplications = 0 }
+abbrev pub writeAnswerOf : NdpWritten → WriteAnswer
+writeAnswerOf r = cond (eqb (r .refusal) 0) (write.Written (r .length)) (write.Refused (r .refusal))

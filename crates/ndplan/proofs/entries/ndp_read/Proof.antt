@@ -1,19 +1,19 @@
--- `ndplan::ndp_plan` meets its contract: the reply tells the answer of planning.
+-- `ndplan::entries::ndp_read` meets its contract: the reply tells the answer of reading.
 use mathlib.Core.Path.{ap, _∙_}
 use borrow.Author.Needs.{needs}
 use Rattle.ndplan.specs.Replies.{planAnswerOf}
-use Rattle.ndplan.proofs.Replied.{answer-told}
-use Rattle.ndplan.proofs.ndp_plan.Statement.{statement}
-use Rattle.ndplan.proofs.ndp_plan.Tie as tie
+use Rattle.ndplan.proofs.Replied.{read-told}
+use Rattle.ndplan.proofs.entries.ndp_read.Statement.{statement}
+use Rattle.ndplan.proofs.entries.ndp_read.Tie as tie
 
 returns : tie.Need-returns
 returns c =
     let p = c .before .before .before .before .before .before .before .before .before .before .before .before .before in
-    let told = ap planAnswerOf (c .reply .ensures) ∙ answer-told (p .plan .result) (p .plan .ensures) in
-    rw told (p .plan .ensures, c .reply .ensures)
+    let answer = ap planAnswerOf (c .plan-reply .ensures) ∙ read-told _ _ (p .read .result) (p .read .ensures) in
+    rw answer (p .read .ensures, c .plan-reply .ensures)
 
-pub ndp-plan-spec : {M : Type 1} → statement M
-ndp-plan-spec =
+pub ndp-read-spec : {M : Type 1} → statement M
+ndp-read-spec =
     tie.close
     (tie.spec
     (λ c κs. search needs)
