@@ -1,0 +1,227 @@
+//! Nested dissection plans for symmetric meshes: a safe wrapper over the proved planner in `libndplan.a`.
+//!
+//! A mesh is lent as neighbour lists. Its plan is an order of the nodes, a tree of parts, and the layout of the factor:
+//! for each column the rows that have a slot. The functions of this module work on the caller's memory and allocate
+//! nothing; [`Plan`] owns its memory. Refusals have the numbers of document 01's table.
+//!
+//! ```
+//! use ndplan::{Mesh, Pair, Plan, Refusal};
+//!
+//! // The path 0-1-2-3-4.
+//! let mesh = Mesh { nodes: 5, starts: &[0, 1, 3, 5, 7, 8], neighbours: &[1, 0, 2, 1, 3, 2, 4, 3] };
+//! let plan = Plan::of(&mesh)?;
+//! assert_eq!(plan.order(), [0, 1, 3, 4, 2]);
+//! assert_eq!(plan.sizes(), [2, 2, 1]);
+//! assert_eq!(plan.column(2)?, [3, 4]);
+//! assert_eq!(plan.slot(4, 3)?, Pair::Slot(4));
+//! assert_eq!(plan.slot(0, 5), Err(Refusal(21)));
+//!
+//! let file = plan.write()?;
+//! assert_eq!(file.len(), 59);
+//! assert_eq!(Plan::read(&file)?, plan);
+//! # Ok::<(), Refusal>(())
+//! ```
+
+#[doc(hidden)]
+pub mod ffi;
+mod owned;
+mod refusal;
+
+pub use owned::Plan;
+use refusal::accepted;
+pub use refusal::{family, Family, Refusal};
+
+/// The most nodes of a mesh.
+pub const MAX_NODES: usize = 4096;
+/// The most neighbour entries of a mesh.
+pub const MAX_ENTRIES: usize = 65536;
+/// The most slots of a plan.
+pub const MAX_SLOTS: usize = 8386560;
+/// The parent of a part that has none.
+pub const NO_PARENT: u16 = 65535;
+
+/// A mesh: the neighbours of node v are those from `starts[v]` up to, not including, `starts[v + 1]`.
+#[derive(Clone, Copy, Debug)]
+pub struct Mesh<'a> {
+    pub nodes: usize,
+    pub starts: &'a [u32],
+    pub neighbours: &'a [u16],
+}
+
+/// Memory for a plan of n nodes: room for n entries, n + 1 in `column_starts`, and in `rows` as many as there are slots.
+/// The plan goes to the front of each slice; entries past those used stay as they were.
+#[derive(Debug)]
+pub struct Buffers<'a> {
+    /// Position to node.
+    pub order: &'a mut [u16],
+    /// Node to position.
+    pub positions: &'a mut [u16],
+    /// Size of each part.
+    pub sizes: &'a mut [u16],
+    /// Parent of each part, [`NO_PARENT`] for none.
+    pub parents: &'a mut [u16],
+    /// Where each column's rows begin, and after the last column the number of slots.
+    pub column_starts: &'a mut [u32],
+    /// The rows of all columns.
+    pub rows: &'a mut [u16],
+}
+
+/// How much of the buffers a plan uses, and the multiplications of a factorization by it.
+#[derive(Clone, Copy, Debug, PartialEq, Eq)]
+pub struct Counts {
+    pub nodes: usize,
+    pub parts: usize,
+    pub slots: usize,
+    pub multiplications: u64,
+}
+
+/// A plan to be written. The slices may be longer than the counts say.
+#[derive(Clone, Copy, Debug)]
+pub struct PlanView<'a> {
+    pub nodes: usize,
+    pub parts: usize,
+    pub slots: usize,
+    pub order: &'a [u16],
+    pub sizes: &'a [u16],
+    pub parents: &'a [u16],
+    pub column_starts: &'a [u32],
+    pub rows: &'a [u16],
+}
+
+/// A layout to be asked about. `column_starts` is exactly `nodes + 1` long; `rows` may be longer than the slots.
+/// The two slices have lifetimes of their own, since [`rows`] shows a part of one and not of the other.
+#[derive(Clone, Copy, Debug)]
+pub struct Layout<'c, 'r> {
+    pub nodes: usize,
+    pub column_starts: &'c [u32],
+    pub rows: &'r [u16],
+}
+
+/// What a pair of positions has.
+#[derive(Clone, Copy, Debug, PartialEq, Eq)]
+pub enum Pair {
+    /// The slot with this number.
+    Slot(u32),
+    /// The positions are equal.
+    Diagonal,
+    NoSlot,
+}
+
+/// Plans a mesh into `buffers`. Refuses with 1 to 9.
+pub fn plan(mesh: &Mesh, buffers: &mut Buffers) -> Result<Counts, Refusal> {
+    // SAFETY: each pointer and length is that of a slice; the slices written are borrowed mutably, so none overlaps another.
+    let reply = unsafe {
+        ffi::ndp_plan(
+            mesh.nodes,
+            mesh.starts.as_ptr(),
+            mesh.starts.len(),
+            mesh.neighbours.as_ptr(),
+            mesh.neighbours.len(),
+            buffers.order.as_mut_ptr(),
+            buffers.order.len(),
+            buffers.positions.as_mut_ptr(),
+            buffers.positions.len(),
+            buffers.sizes.as_mut_ptr(),
+            buffers.sizes.len(),
+            buffers.parents.as_mut_ptr(),
+            buffers.parents.len(),
+            buffers.column_starts.as_mut_ptr(),
+            buffers.column_starts.len(),
+            buffers.rows.as_mut_ptr(),
+            buffers.rows.len(),
+        )
+    };
+    counts(reply)
+}
+
+/// Reads a plan file, the whole of `file`, into `buffers`. Refuses with 10 to 19, 8 and 9.
+pub fn read(file: &[u8], buffers: &mut Buffers) -> Result<Counts, Refusal> {
+    // SAFETY: as in `plan`.
+    let reply = unsafe {
+        ffi::ndp_read(
+            file.as_ptr(),
+            file.len(),
+            buffers.order.as_mut_ptr(),
+            buffers.order.len(),
+            buffers.positions.as_mut_ptr(),
+            buffers.positions.len(),
+            buffers.sizes.as_mut_ptr(),
+            buffers.sizes.len(),
+            buffers.parents.as_mut_ptr(),
+            buffers.parents.len(),
+            buffers.column_starts.as_mut_ptr(),
+            buffers.column_starts.len(),
+            buffers.rows.as_mut_ptr(),
+            buffers.rows.len(),
+        )
+    };
+    counts(reply)
+}
+
+/// Writes a plan file to the front of `file` and answers with its length. Refuses with 13, 15 to 19, and 8 where `file` is too short.
+pub fn write(plan: &PlanView, file: &mut [u8]) -> Result<usize, Refusal> {
+    // SAFETY: as in `plan`; the only slice written is `file`.
+    let reply = unsafe {
+        ffi::ndp_write(
+            plan.nodes,
+            plan.parts,
+            plan.slots,
+            plan.order.as_ptr(),
+            plan.order.len(),
+            plan.sizes.as_ptr(),
+            plan.sizes.len(),
+            plan.parents.as_ptr(),
+            plan.parents.len(),
+            plan.column_starts.as_ptr(),
+            plan.column_starts.len(),
+            plan.rows.as_ptr(),
+            plan.rows.len(),
+            file.as_mut_ptr(),
+            file.len(),
+        )
+    };
+    accepted(reply.refusal)?;
+    Ok(reply.length as usize)
+}
+
+/// What the positions a and b have, in either order. Refuses with 1, 22 and 21. It looks at the whole layout each time.
+pub fn slot(layout: &Layout, a: usize, b: usize) -> Result<Pair, Refusal> {
+    let (starts, rows) = (layout.column_starts, layout.rows);
+    // SAFETY: each pointer and length is that of a slice, and nothing is written.
+    let reply = unsafe { ffi::ndp_slot(layout.nodes, starts.as_ptr(), starts.len(), rows.as_ptr(), rows.len(), a, b) };
+    accepted(reply.refusal)?;
+    Ok(match reply.kind {
+        ffi::NDP_SLOT => Pair::Slot(reply.slot),
+        ffi::NDP_DIAGONAL => Pair::Diagonal,
+        _ => Pair::NoSlot,
+    })
+}
+
+/// The rows of column j, as a part of the layout's own rows. Refuses with 1, 22 and 21. It looks at the whole layout each time.
+pub fn rows<'r>(layout: &Layout<'_, 'r>, j: usize) -> Result<&'r [u16], Refusal> {
+    let (starts, rows) = (layout.column_starts, layout.rows);
+    // SAFETY: each pointer and length is that of a slice, and nothing is written.
+    let reply = unsafe { ffi::ndp_rows(layout.nodes, starts.as_ptr(), starts.len(), rows.as_ptr(), rows.len(), j) };
+    accepted(reply.refusal)?;
+    let start = reply.start as usize;
+    // The library promises a place inside the rows. Were the promise broken, this would rather end the program than show too few.
+    Ok(&rows[start..start + reply.count as usize])
+}
+
+/// The counts of a reply to planning or reading.
+fn counts(reply: ffi::NdpPlan) -> Result<Counts, Refusal> {
+    accepted(reply.refusal)?;
+    Ok(Counts {
+        nodes: reply.nodes as usize,
+        parts: reply.parts as usize,
+        slots: reply.slots as usize,
+        multiplications: reply.multiplications,
+    })
+}
+
+impl Counts {
+    /// The length in bytes of the plan's file.
+    pub fn file_length(&self) -> usize {
+        17 + 4 * self.nodes + 4 * self.parts + 2 * self.slots
+    }
+}

@@ -1,0 +1,137 @@
+//! A plan that owns its memory.
+
+use crate::{plan, read, rows, slot, write};
+use crate::{Buffers, Counts, Layout, Mesh, Pair, PlanView, Refusal};
+use crate::{MAX_NODES, MAX_SLOTS};
+
+/// A plan with its own memory, each list as long as it is used.
+#[derive(Clone, Debug, PartialEq, Eq)]
+pub struct Plan {
+    counts: Counts,
+    order: Vec<u16>,
+    positions: Vec<u16>,
+    sizes: Vec<u16>,
+    parents: Vec<u16>,
+    column_starts: Vec<u32>,
+    rows: Vec<u16>,
+}
+
+impl Plan {
+    /// Plans a mesh. Refuses with 1 to 7.
+    pub fn of(mesh: &Mesh) -> Result<Plan, Refusal> {
+        // More nodes than a mesh may have are refused, whatever the room is.
+        let nodes = mesh.nodes.min(MAX_NODES);
+        // A refusal does not tell the number of slots, so there is room for every pair of nodes.
+        let pairs = nodes * nodes.saturating_sub(1) / 2;
+        Plan::filled(nodes, pairs, |buffers| plan(mesh, buffers))
+    }
+
+    /// Reads a plan file. Refuses with 10 to 19.
+    pub fn read(file: &[u8]) -> Result<Plan, Refusal> {
+        // Nodes or slots above their limits, and more slots than the bytes hold, are refused before the room is looked at.
+        let slots = number_at(file, 13).min(MAX_SLOTS).min(file.len() / 2);
+        Plan::filled(number_at(file, 5).min(MAX_NODES), slots, |buffers| read(file, buffers))
+    }
+
+    /// Lends room for this many nodes and slots to `fill`, and keeps what was used of it.
+    fn filled(
+        nodes: usize,
+        slots: usize,
+        fill: impl FnOnce(&mut Buffers) -> Result<Counts, Refusal>,
+    ) -> Result<Plan, Refusal> {
+        let (mut order, mut positions) = (vec![0; nodes], vec![0; nodes]);
+        let (mut sizes, mut parents) = (vec![0; nodes], vec![0; nodes]);
+        let (mut column_starts, mut rows) = (vec![0; nodes + 1], vec![0; slots]);
+        let counts = fill(&mut Buffers {
+            order: &mut order,
+            positions: &mut positions,
+            sizes: &mut sizes,
+            parents: &mut parents,
+            column_starts: &mut column_starts,
+            rows: &mut rows,
+        })?;
+        sizes.truncate(counts.parts);
+        parents.truncate(counts.parts);
+        rows.truncate(counts.slots);
+        rows.shrink_to_fit();
+        Ok(Plan { counts, order, positions, sizes, parents, column_starts, rows })
+    }
+
+    /// The number of nodes, parts, slots and multiplications.
+    pub fn counts(&self) -> Counts {
+        self.counts
+    }
+
+    /// The node at each position.
+    pub fn order(&self) -> &[u16] {
+        &self.order
+    }
+
+    /// The position of each node.
+    pub fn positions(&self) -> &[u16] {
+        &self.positions
+    }
+
+    /// The size of each part. Parts take the positions in turn.
+    pub fn sizes(&self) -> &[u16] {
+        &self.sizes
+    }
+
+    /// The parent of each part, [`NO_PARENT`](crate::NO_PARENT) for none.
+    pub fn parents(&self) -> &[u16] {
+        &self.parents
+    }
+
+    /// Where each column's rows begin in [`rows`](Plan::rows), and after the last column the number of slots.
+    pub fn column_starts(&self) -> &[u32] {
+        &self.column_starts
+    }
+
+    /// The rows of all columns, column after column.
+    pub fn rows(&self) -> &[u16] {
+        &self.rows
+    }
+
+    /// The rows of column j. Refuses with 21.
+    pub fn column(&self, j: usize) -> Result<&[u16], Refusal> {
+        rows(&self.layout(), j)
+    }
+
+    /// What the positions a and b have, in either order. Refuses with 21.
+    pub fn slot(&self, a: usize, b: usize) -> Result<Pair, Refusal> {
+        slot(&self.layout(), a, b)
+    }
+
+    /// The plan's file. What planning and reading give is never refused by the writer.
+    pub fn write(&self) -> Result<Vec<u8>, Refusal> {
+        let mut file = vec![0; self.counts.file_length()];
+        let length = write(&self.view(), &mut file)?;
+        file.truncate(length);
+        Ok(file)
+    }
+
+    fn layout(&self) -> Layout<'_, '_> {
+        Layout { nodes: self.counts.nodes, column_starts: &self.column_starts, rows: &self.rows }
+    }
+
+    fn view(&self) -> PlanView<'_> {
+        PlanView {
+            nodes: self.counts.nodes,
+            parts: self.counts.parts,
+            slots: self.counts.slots,
+            order: &self.order,
+            sizes: &self.sizes,
+            parents: &self.parents,
+            column_starts: &self.column_starts,
+            rows: &self.rows,
+        }
+    }
+}
+
+/// The number in the four bytes from `at` on, 0 where the file ends before them.
+fn number_at(file: &[u8], at: usize) -> usize {
+    match file.get(at..at + 4) {
+        Some(&[a, b, c, d]) => u32::from_le_bytes([a, b, c, d]) as usize,
+        _ => 0,
+    }
+}

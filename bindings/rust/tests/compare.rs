@@ -1,0 +1,20 @@
+//! Compares the library, through the wrapper and through the C interface, with a planner written apart from it
+//! (`independent`) and with the numbers of document 01. Every function gets valid and damaged input, and all lent memory is
+//! compared after every call.
+
+mod calls;
+mod guarded;
+mod independent;
+mod meshes;
+mod random;
+
+mod damaged_files;
+mod damaged_layouts;
+mod damaged_meshes;
+mod damaged_writings;
+mod families;
+mod large;
+mod plans;
+mod replies;
+mod settled;
+mod worked;

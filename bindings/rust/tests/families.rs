@@ -1,0 +1,33 @@
+//! The family of a number.
+
+use crate::independent;
+use ndplan::{ffi, Family, Refusal};
+
+#[test]
+fn families() {
+    let large = [255, 256, 256 + 5, 65535, 65536, 65536 + 15, 1 << 31, u32::MAX - 1, u32::MAX];
+    for number in (0..=30).chain(large) {
+        let expected = independent::family(number);
+        // SAFETY: the function takes every number.
+        assert_eq!(unsafe { ffi::ndp_family(number) }, expected, "family of {number}");
+        let named = [Family::None, Family::Mesh, Family::File, Family::Program, Family::Question][expected as usize];
+        assert_eq!(ndplan::family(number), named);
+        assert_eq!(Refusal(number).family(), named);
+    }
+    let ends = [0, 1, 9, 10, 19, 20, 21, 22, 23].map(ndplan::family);
+    let (mesh, file, question) = (Family::Mesh, Family::File, Family::Question);
+    assert_eq!(ends, [Family::None, mesh, mesh, file, file, Family::Program, question, question, Family::None]);
+}
+
+#[test]
+fn a_refusal_is_an_error_with_its_number() {
+    let error: Box<dyn std::error::Error> = Box::new(Refusal(17));
+    assert_eq!(error.to_string(), "refused 17");
+}
+
+/// The limits are those of document 01.
+#[test]
+fn limits() {
+    assert_eq!((ndplan::MAX_NODES, ndplan::MAX_ENTRIES), (4096, 65536));
+    assert_eq!((ndplan::MAX_SLOTS, ndplan::NO_PARENT), (4096 * 4095 / 2, 65535));
+}

@@ -1,0 +1,89 @@
+//! The C interface where a slice is a null pointer with length 0, and the lifetime of shown rows.
+
+use ndplan::ffi::{ndp_plan, ndp_read, ndp_rows, ndp_slot, ndp_write, NdpPlan, NdpRows, NdpSlot, NdpWritten};
+use ndplan::{Layout, Plan, Refusal};
+use std::ptr::{null, null_mut};
+
+#[test]
+fn planning_without_memory() {
+    let (none, words) = (null_mut::<u16>(), null_mut::<u32>());
+    // SAFETY: every slice is null with length 0.
+    let reply = unsafe { ndp_plan(2, null(), 0, null(), 0, none, 0, none, 0, none, 0, none, 0, words, 0, none, 0) };
+    assert_eq!(reply, NdpPlan { refusal: 2, nodes: 0, parts: 0, slots: 0, multiplications: 0 });
+    let starts = [0, 0];
+    // SAFETY: the starts are a slice of length 2, the others are null with length 0.
+    let reply =
+        unsafe { ndp_plan(1, starts.as_ptr(), 2, null(), 0, none, 0, none, 0, none, 0, none, 0, words, 0, none, 0) };
+    assert_eq!(reply, NdpPlan { refusal: 8, nodes: 0, parts: 0, slots: 0, multiplications: 0 });
+}
+
+/// One node has no neighbours and no rows: both slices may be null.
+#[test]
+fn planning_and_reading_without_rows() {
+    let (starts, file) = ([0, 0], b"NDP\x01\0\x01\0\0\0\x01\0\0\0\0\0\0\0\0\0\x01\0\xff\xff\0\0");
+    let accepted = NdpPlan { refusal: 0, nodes: 1, parts: 1, slots: 0, multiplications: 0 };
+    for reading in [false, true] {
+        let (mut order, mut positions, mut sizes, mut parents) = ([7u16], [7u16], [7u16], [7u16]);
+        let mut column_starts = [7u32, 7];
+        let (o, q, s, f) = (order.as_mut_ptr(), positions.as_mut_ptr(), sizes.as_mut_ptr(), parents.as_mut_ptr());
+        let c = column_starts.as_mut_ptr();
+        // SAFETY: each pointer and length is that of an array, or null with length 0.
+        let reply = unsafe {
+            match reading {
+                false => ndp_plan(1, starts.as_ptr(), 2, null(), 0, o, 1, q, 1, s, 1, f, 1, c, 2, null_mut(), 0),
+                true => ndp_read(file.as_ptr(), file.len(), o, 1, q, 1, s, 1, f, 1, c, 2, null_mut(), 0),
+            }
+        };
+        assert_eq!(reply, accepted);
+        assert_eq!((order, positions, sizes, parents, column_starts), ([0], [0], [1], [65535], [0, 0]));
+    }
+}
+
+#[test]
+fn other_functions_without_memory() {
+    let (none, words) = (null_mut::<u16>(), null_mut::<u32>());
+    // SAFETY: every slice is null with length 0.
+    unsafe {
+        let read = ndp_read(null(), 0, none, 0, none, 0, none, 0, none, 0, words, 0, none, 0);
+        assert_eq!(read, NdpPlan { refusal: 10, nodes: 0, parts: 0, slots: 0, multiplications: 0 });
+        let written = ndp_write(1, 1, 0, null(), 0, null(), 0, null(), 0, null(), 0, null(), 0, null_mut(), 0);
+        assert_eq!(written, NdpWritten { refusal: 13, length: 0 });
+        assert_eq!(ndp_slot(0, null(), 0, null(), 0, 0, 0), NdpSlot { refusal: 1, kind: 0, slot: 0 });
+        assert_eq!(ndp_rows(1, null(), 0, null(), 0, 0), NdpRows { refusal: 22, start: 0, count: 0 });
+    }
+    let starts = [0, 0];
+    // SAFETY: the starts are a slice of length 2, the rows are null with length 0.
+    unsafe {
+        assert_eq!(ndp_slot(1, starts.as_ptr(), 2, null(), 0, 0, 0), NdpSlot { refusal: 0, kind: 2, slot: 0 });
+        assert_eq!(ndp_rows(1, starts.as_ptr(), 2, null(), 0, 0), NdpRows { refusal: 0, start: 0, count: 0 });
+    }
+}
+
+/// The shown rows live as long as the rows, not as the layout or the column starts.
+#[test]
+fn shown_rows_outlive_the_question() {
+    let rows = vec![1, 2, 2];
+    let shown = {
+        let starts = vec![0, 2, 3, 3];
+        ndplan::rows(&Layout { nodes: 3, column_starts: &starts, rows: &rows }, 0)
+    };
+    assert_eq!(shown, Ok(&rows[..2]));
+}
+
+/// The columns and pairs of an owned plan.
+#[test]
+fn owned_plans_answer_questions() {
+    let starts: Vec<u32> = (0..=40u32).map(|v| v * 39).collect();
+    let neighbours: Vec<u16> = (0..40).flat_map(|v| (0..40).filter(move |w| *w != v)).collect();
+    let plan = Plan::of(&ndplan::Mesh { nodes: 40, starts: &starts, neighbours: &neighbours }).unwrap();
+    assert_eq!(
+        (plan.rows().len(), plan.counts().file_length(), plan.write().map_or(0, |file| file.len())),
+        (780, 17 + 164 + 1560, 1741)
+    );
+    for j in 0..40 {
+        assert_eq!(plan.column(j).unwrap(), (j as u16 + 1..40).collect::<Vec<_>>());
+        assert_eq!(plan.slot(j, j), Ok(ndplan::Pair::Diagonal));
+    }
+    assert_eq!((plan.slot(39, 38), plan.slot(0, 1)), (Ok(ndplan::Pair::Slot(779)), Ok(ndplan::Pair::Slot(0))));
+    assert_eq!((plan.slot(40, 0), plan.column(40)), (Err(Refusal(21)), Err(Refusal(21))));
+}

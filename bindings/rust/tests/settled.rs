@@ -1,0 +1,154 @@
+//! Inputs on which other readings of document 01 differ, with the answers of the reading taken (docs/DECISIONS.md). The
+//! numbers stand here by themselves, so that they do not depend on the independent planner's reading.
+
+use crate::calls::{ample_room, plan, plan_expecting, read_expecting, write_expecting, LentLayout};
+use crate::independent::{FileParts, MeshLists, PairAnswer};
+use crate::meshes::{from_edges, from_lists};
+
+/// The mesh whose edges are pairs of digits.
+fn mesh(n: usize, edges: &[&str]) -> MeshLists {
+    let pair = |edge: &&str| (edge.as_bytes()[0] as usize - 48, edge.as_bytes()[1] as usize - 48);
+    from_edges(n, &edges.iter().map(pair).collect::<Vec<_>>())
+}
+
+fn expect_order(mesh: &MeshLists, order: &[u16]) {
+    let planned = plan(mesh, &ample_room(mesh.n)).unwrap();
+    assert_eq!(planned.order, order);
+}
+
+#[test]
+fn choice_of_the_root() {
+    expect_order(&mesh(7, &["03", "04", "12", "14", "23", "36", "45"]), &[1, 5, 4, 3, 6, 0, 2]);
+    expect_order(&mesh(5, &["01", "02", "03", "04", "14", "34"]), &[1, 2, 3, 0, 4]);
+    expect_order(&mesh(5, &["01", "02", "03", "04", "13", "34"]), &[1, 2, 4, 0, 3]);
+}
+
+/// Degree is the length of the whole list: nodes 0 to 3 stay one part.
+#[test]
+fn degree_counts_chosen_nodes() {
+    let edges = ["01", "02", "03", "12", "13", "24", "25", "34", "35", "46", "56"];
+    let planned = plan(&mesh(7, &edges), &ample_room(7)).unwrap();
+    assert!(planned.sizes.contains(&4));
+}
+
+/// A mesh, its nodes as lent and its refusal.
+fn expect_refused(n: usize, starts: &[u32], neighbours: &[u16], number: u32) {
+    let mesh = MeshLists { n, starts: starts.to_vec(), neighbours: neighbours.to_vec() };
+    plan_expecting(&mesh, &ample_room(n), &Err(number));
+}
+
+#[test]
+fn order_of_the_mesh_checks() {
+    expect_refused(3, &[0, 0, 0], &[], 2);
+    expect_refused(0, &[], &[], 1);
+    expect_refused(0, &[7, 3], &[9], 1);
+    expect_refused(65536 + 2, &[0, 1, 2], &[1, 0], 1);
+    expect_refused(usize::MAX, &[0, 1, 2], &[1, 0], 1);
+    expect_refused(2, &[0, 4_294_967_295, 2], &[1, 0], 2);
+    expect_refused(2, &[0, 2, 1], &[1, 0], 2);
+    expect_refused(2, &[1, 1, 2], &[1, 0], 2);
+    expect_refused(2, &[0, 1, 1], &[1, 0], 2);
+    expect_refused(2, &[0, 1, 2, 2], &[1, 0], 2);
+    expect_refused(2, &[0, 1, 2], &[0, 2], 4);
+    expect_refused(3, &[0, 2, 3, 4], &[2, 1, 1, 0], 5);
+    expect_refused(3, &[0, 2, 3, 3], &[2, 1, 0], 6);
+    expect_refused(3, &[0, 2, 2, 2], &[1, 1], 6);
+    expect_refused(3, &[0, 2, 3, 3], &[1, 2, 0], 7);
+    let mut many = vec![0; 65537];
+    expect_refused(2, &[0, 65536, 65536], &many, 2);
+    expect_refused(2, &[0, 65537, 65537], &many, 3);
+    many[0] = 9;
+    expect_refused(2, &[0, 65537, 65537], &many, 3);
+    many.pop();
+    expect_refused(2, &[0, 65536, 65536], &many, 4);
+}
+
+/// Before 8 comes 7, before 9 comes 8.
+#[test]
+fn buffers_are_looked_at_last() {
+    let mut room = ample_room(2);
+    room.order = 0;
+    room.rows = 0;
+    plan_expecting(&from_lists(&[vec![1], vec![]]), &room, &Err(7));
+    plan_expecting(&from_lists(&[vec![1], vec![0]]), &room, &Err(8));
+    room.order = 2;
+    plan_expecting(&from_lists(&[vec![1], vec![0]]), &room, &Err(9));
+}
+
+fn file(version: u16, counts: [u32; 3], words: &[u16]) -> Vec<u8> {
+    let header = counts.map(u32::to_le_bytes).concat();
+    [b"NDP".to_vec(), version.to_le_bytes().to_vec(), header, words.iter().flat_map(|w| w.to_le_bytes()).collect()]
+        .concat()
+}
+
+#[test]
+fn order_of_the_file_checks() {
+    let room = ample_room(8);
+    let refused = |file: &[u8], number| read_expecting(file, &room, &Err(number));
+    let one = [0, 1, 65535, 0];
+    refused(b"XDP\x02\x00", 10);
+    refused(&[b"XDP\x02".to_vec(), vec![0; 13]].concat(), 11);
+    refused(&file(2, [0, 0, 0], &[]), 12);
+    refused(&file(257, [1, 1, 0], &one), 12);
+    refused(&file(1, [0, 0, 0], &[]), 13);
+    refused(&file(1, [65541, 1, 0], &one), 13);
+    refused(&file(1, [4097, 1, 0], &one), 13);
+    refused(&file(1, [1, 2, 0], &one), 13);
+    refused(&file(1, [1, 65537, 0], &one), 13);
+    refused(&file(1, [1, 1, 1], &one), 13);
+    refused(&file(1, [1, 1, 65536], &one), 13);
+    refused(&file(1, [1, 1, 0], &[0, 1, 65535, 0, 0]), 14);
+    refused(&file(1, [1, 1, 0], &[1, 0, 65535, 9]), 15);
+    refused(&file(1, [1, 1, 0], &[0, 0, 65535, 9]), 16);
+    refused(&file(1, [1, 1, 0], &[0, 1, 0, 9]), 16);
+    refused(&file(1, [1, 1, 0], &[0, 1, 65535, 1]), 17);
+    assert_eq!(file(1, [1, 1, 0], &one).len(), 25);
+}
+
+/// Sums are exact: they do not wrap at 16 bits.
+#[test]
+fn sums_of_a_file_are_exact() {
+    let order = [0, 1, 2, 3, 4];
+    let sizes = [&order[..], &[65535, 65535, 5, 65535, 1, 65535], &[0; 5]].concat();
+    read_expecting(&file(1, [5, 3, 0], &sizes), &ample_room(5), &Err(16));
+    let counts = [&order[..], &[5, 65535], &[65535, 6, 0, 0, 0], &[1, 2, 3, 4, 4]].concat();
+    read_expecting(&file(1, [5, 1, 5], &counts), &ample_room(5), &Err(17));
+}
+
+#[test]
+fn the_writer_needs_each_slice() {
+    let one = FileParts {
+        n: 2,
+        p: 1,
+        s: 1,
+        order: vec![1, 0],
+        sizes: vec![2],
+        fathers: vec![65535],
+        column_starts: vec![0, 1, 1],
+        rows: vec![1],
+    };
+    let refused = |parts: FileParts| write_expecting(&parts, 100, &Err(13));
+    refused(FileParts { order: vec![1], ..one.clone() });
+    refused(FileParts { sizes: vec![], ..one.clone() });
+    refused(FileParts { fathers: vec![], ..one.clone() });
+    refused(FileParts { column_starts: vec![0, 1], ..one.clone() });
+    refused(FileParts { rows: vec![], ..one.clone() });
+    refused(FileParts { s: 2, rows: vec![1, 1], ..one.clone() });
+    write_expecting(&FileParts { column_starts: vec![1, 1, 1], ..one.clone() }, 100, &Err(17));
+    write_expecting(&FileParts { column_starts: vec![0, 0, 0], ..one.clone() }, 100, &Err(17));
+    write_expecting(&FileParts { column_starts: vec![0, 2, 1], ..one }, 100, &Err(17));
+}
+
+#[test]
+fn questions_look_at_the_whole_layout() {
+    let starts = [0, 1, 2, 4, 5, 5];
+    assert_eq!(LentLayout::of(5, &starts, &[1, 4, 3, 5, 4]).pair(0, 1), Err(22));
+    assert_eq!(LentLayout::of(5, &starts, &[2, 4, 3, 4, 4]).pair(0, 1), Ok(PairAnswer::NoSlot));
+    assert_eq!(LentLayout::of(5, &starts, &[1, 4, 3, 4, 4, 0, 0]).column(3), Ok((4, 1)));
+    assert_eq!(LentLayout::of(5, &starts, &[1, 4, 3, 4]).column(0), Err(22));
+    assert_eq!(LentLayout::of(5, &[0, 1, 2, 4, 5, 5, 5], &[1, 4, 3, 4, 4]).pair(0, 1), Err(22));
+    assert_eq!(LentLayout::of(5, &starts, &[1, 4, 3, 4, 4]).pair(5, 5), Err(21));
+    assert_eq!(LentLayout::of(5, &starts, &[1, 4, 3, 5, 4]).pair(5, 5), Err(22));
+    assert_eq!(LentLayout::of(0, &[], &[]).pair(0, 0), Err(1));
+    assert_eq!(LentLayout::of(4097, &[0; 4098], &[]).column(0), Err(1));
+}
