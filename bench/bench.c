@@ -1,166 +1,417 @@
-/* Planning by the proved library and by the plain C planner on the same meshes, in one run: the results are compared and the best times printed. */
+/* Runs the proved library and the plain C program on the same meshes, compares all their results, times both, and prints the table of
+ * docs/PERFORMANCE.md. */
 #define _POSIX_C_SOURCE 199309L
-#include "ndplan.h"
+#include "meshes.h"
 #include "plain.h"
 #include <stdio.h>
-#include <stdlib.h>
 #include <string.h>
 #include <time.h>
 
-enum { NODES = 4096, ENTRIES = 65536, SLOTS = NODES * (NODES - 1) / 2 };
+enum { NODES = NDP_MAX_NODES, SLOTS = NDP_MAX_SLOTS, FILE_BYTES = 17 + 8 * NODES + 2 * SLOTS };
+/* Every slice has GUARD entries more than the largest plan needs, and before a comparison every byte is FILL. */
+enum { GUARD = 8, FILL = 0xA5 };
+/* Questions for one timing, so that small layouts take long enough for the clock. */
+enum { QUESTIONS = 16 };
+/* A mesh is timed for SECONDS, in MOST_ROUNDS of all its operations at most. In a round each operation has TURNS calls, by the programs in
+ * turn. */
+enum { TURNS = 6, MOST_ROUNDS = 500 };
+static const double SECONDS = 1.2;
 
+/* What one program writes to. */
 typedef struct {
-    uint16_t order[NODES], positions[NODES], sizes[NODES], parents[NODES];
-    uint32_t column_starts[NODES + 1];
-    uint16_t rows[SLOTS];
-} Buffers;
+    uint16_t order[NODES + GUARD], positions[NODES + GUARD], sizes[NODES + GUARD], parents[NODES + GUARD];
+    uint32_t column_starts[NODES + 1 + GUARD];
+    uint16_t rows[SLOTS + GUARD];
+    uint8_t file[FILE_BYTES + GUARD];
+} Memory;
 
-static uint8_t joined[NODES][NODES];
-static size_t n, entries;
-static uint32_t starts[NODES + 1];
-static uint16_t neighbours[ENTRIES];
-static Buffers proved, plain;
-static uint32_t seed;
+/* One of the two programs: its functions, its memory and its last replies. */
+typedef struct {
+    __typeof__(ndp_plan) *plan;
+    __typeof__(stage_order) *stage_order;
+    __typeof__(ndp_write) *write;
+    __typeof__(ndp_read) *read;
+    __typeof__(ndp_slot) *slot;
+    __typeof__(ndp_rows) *rows;
+    Memory *memory;
+    NdpPlan reply, read_reply;
+    size_t parts;
+    NdpWritten written;
+    NdpSlot pairs[QUESTIONS];
+    NdpRows columns[QUESTIONS];
+} Program;
 
-static uint32_t chance(uint32_t below) {
-    seed = seed * 1664525u + 1013904223u;
-    return (seed >> 8) % below;
+enum { PLAIN, PROVED, PROGRAMS };
+static Memory plain_memory, proved_memory, untouched;
+static Program programs[PROGRAMS] = {
+    {.plan = plain_plan, .stage_order = plain_stage_order, .write = plain_write, .read = plain_read, .slot = plain_slot, .rows = plain_rows,
+     .memory = &plain_memory},
+    {.plan = ndp_plan, .stage_order = stage_order, .write = ndp_write, .read = ndp_read, .slot = ndp_slot, .rows = ndp_rows,
+     .memory = &proved_memory},
+};
+
+/* The mesh and the plan at hand, and the positions that the questions ask about. */
+static Mesh mesh;
+static NdpPlan plan;
+static uint16_t asked[QUESTIONS][2];
+
+/* ---- the operations */
+
+static void plan_with(Program *p, size_t order_length, size_t rows_length) {
+    Memory *m = p->memory;
+    p->reply = p->plan(mesh.nodes, mesh.starts, mesh.nodes + 1, mesh.neighbours, mesh.entries, m->order, order_length, m->positions, NODES + GUARD,
+                       m->sizes, NODES + GUARD, m->parents, NODES + GUARD, m->column_starts, NODES + 1 + GUARD, m->rows, rows_length);
 }
 
-static void clear(size_t nodes) {
-    n = nodes;
-    seed = 1;
-    memset(joined, 0, sizeof joined);
+/* Up to refusal 8, which follows checks 1 to 7. */
+static void up_to_check(Program *p) { plan_with(p, 0, SLOTS + GUARD); }
+
+static void up_to_order(Program *p) { p->parts = p->stage_order(mesh.nodes, mesh.starts, mesh.nodes + 1, mesh.neighbours, mesh.entries); }
+
+/* Up to refusal 9, which follows the count of the slots. */
+static void up_to_count(Program *p) { plan_with(p, NODES + GUARD, 0); }
+
+static void whole_plan(Program *p) { plan_with(p, NODES + GUARD, SLOTS + GUARD); }
+
+static void write_file(Program *p) {
+    Memory *m = p->memory;
+    p->written = p->write(plan.nodes, plan.parts, plan.slots, m->order, NODES + GUARD, m->sizes, NODES + GUARD, m->parents, NODES + GUARD,
+                          m->column_starts, NODES + 1 + GUARD, m->rows, SLOTS + GUARD, m->file, FILE_BYTES + GUARD);
 }
 
-static void join(size_t v, size_t w) {
-    if (v != w) joined[v][w] = joined[w][v] = 1;
+static void read_file(Program *p) {
+    Memory *m = p->memory;
+    p->read_reply = p->read(m->file, p->written.length, m->order, NODES + GUARD, m->positions, NODES + GUARD, m->sizes, NODES + GUARD, m->parents,
+                            NODES + GUARD, m->column_starts, NODES + 1 + GUARD, m->rows, SLOTS + GUARD);
 }
 
-static void make_lists(void) {
-    entries = 0;
-    for (size_t v = 0; v < n; v++) {
-        starts[v] = entries;
-        for (size_t w = 0; w < n; w++) if (joined[v][w]) {
-            if (entries == ENTRIES) { fprintf(stderr, "too many entries\n"); exit(2); }
-            neighbours[entries++] = w;
-        }
+static void ask_pairs(Program *p) {
+    const Memory *m = p->memory;
+    for (int k = 0; k < QUESTIONS; k++)
+        p->pairs[k] = p->slot(plan.nodes, m->column_starts, plan.nodes + 1, m->rows, plan.slots, asked[k][0], asked[k][1]);
+}
+
+static void ask_columns(Program *p) {
+    const Memory *m = p->memory;
+    for (int k = 0; k < QUESTIONS; k++)
+        p->columns[k] = p->rows(plan.nodes, m->column_starts, plan.nodes + 1, m->rows, plan.slots, asked[k][0]);
+}
+
+/* The first four make the plan of a mesh, each as far as its name says; the others need a plan. */
+enum { CHECK, ORDER, COUNT, PLAN, WRITE, READ, PAIR, COLUMN, OPERATIONS };
+static void (*const operations[OPERATIONS])(Program *) = {up_to_check, up_to_order, up_to_count, whole_plan,
+                                                          write_file,  read_file,   ask_pairs,   ask_columns};
+
+/* ---- comparing the results */
+
+static void fill_results(void) {
+    for (int p = 0; p < PROGRAMS; p++) memset(programs[p].memory, FILL, offsetof(Memory, file));
+}
+
+static void run_both(int operation) {
+    for (int p = 0; p < PROGRAMS; p++) operations[operation](&programs[p]);
+}
+
+static int same_memory(void) { return memcmp(&plain_memory, &proved_memory, sizeof plain_memory) == 0; }
+
+static int same_plans(NdpPlan a, NdpPlan b) {
+    return a.refusal == b.refusal && a.nodes == b.nodes && a.parts == b.parts && a.slots == b.slots && a.multiplications == b.multiplications;
+}
+
+/* Whether nothing is written past the entries that the plan uses, `column_starts` of the column starts. A refusal's reply uses none. */
+static int guards_kept(const Memory *m, NdpPlan used, size_t column_starts) {
+    const Memory *u = &untouched;
+    return memcmp(m->order + used.nodes, u->order + used.nodes, sizeof m->order - 2 * used.nodes) == 0 &&
+           memcmp(m->positions + used.nodes, u->positions + used.nodes, sizeof m->positions - 2 * used.nodes) == 0 &&
+           memcmp(m->sizes + used.parts, u->sizes + used.parts, sizeof m->sizes - 2 * used.parts) == 0 &&
+           memcmp(m->parents + used.parts, u->parents + used.parts, sizeof m->parents - 2 * used.parts) == 0 &&
+           memcmp(m->column_starts + column_starts, u->column_starts + column_starts, sizeof m->column_starts - 4 * column_starts) == 0 &&
+           memcmp(m->rows + used.slots, u->rows + used.slots, sizeof m->rows - 2 * used.slots) == 0;
+}
+
+/* Up to the checks planning refuses with 8, and up to the count with 9, since every mesh here has slots; everything is left as it was. */
+static int compare_refusal(int operation, uint32_t number) {
+    NdpPlan refusal = {number, 0, 0, 0, 0};
+    fill_results();
+    run_both(operation);
+    return same_plans(programs[PLAIN].reply, refusal) && same_plans(programs[PROVED].reply, refusal) && guards_kept(&plain_memory, refusal, 0) &&
+           guards_kept(&proved_memory, refusal, 0);
+}
+
+/* Everything that makes the plan of a mesh. Leaves the plan in the memory of both programs. */
+static int compare_planning(void) {
+    int same = compare_refusal(CHECK, 8) && compare_refusal(COUNT, 9);
+    run_both(ORDER);
+    fill_results();
+    run_both(PLAN);
+    plan = programs[PLAIN].reply;
+    return same && plan.refusal == 0 && same_plans(plan, programs[PROVED].reply) && programs[PLAIN].parts == plan.parts &&
+           programs[PROVED].parts == plan.parts && same_memory() && guards_kept(&plain_memory, plan, plan.nodes + 1);
+}
+
+/* Draws the pairs that are asked about, half of them with a slot. The first position of each is the column asked about. */
+static void draw_questions(void) {
+    for (int k = 0; k < QUESTIONS; k++) {
+        size_t slot = next_random(plan.slots), column = 0;
+        while (plain_memory.column_starts[column + 1] <= slot) column++;
+        asked[k][0] = k % 2 ? plain_memory.rows[slot] : next_random(plan.nodes);
+        asked[k][1] = column;
     }
-    starts[n] = entries;
 }
 
-/* a plate, triangulated if `diagonals`; with `hole`, the nodes of each square of 4 by 4 whose column and row both leave 1 when divided by `hole` have no neighbour */
-static void plate(size_t width, size_t height, int diagonals, size_t hole) {
-    clear(width * height);
-    for (size_t y = 0; y < height; y++) for (size_t x = 0; x < width; x++) {
-        size_t v = y * width + x;
-        if (hole && (x / 4) % hole == 1 && (y / 4) % hole == 1) continue;
-        if (x + 1 < width && !(hole && ((x + 1) / 4) % hole == 1 && (y / 4) % hole == 1)) join(v, v + 1);
-        if (y + 1 < height && !(hole && (x / 4) % hole == 1 && ((y + 1) / 4) % hole == 1)) join(v, v + width);
-        if (diagonals && x + 1 < width && y + 1 < height && !(hole && ((x + 1) / 4) % hole == 1 && ((y + 1) / 4) % hole == 1)) join(v, v + width + 1);
-    }
-    make_lists();
+/* Writing, reading and the questions, of the plan in the memory of both programs. */
+static int compare_file(void) {
+    const Program *plain = &programs[PLAIN], *proved = &programs[PROVED];
+    for (int p = 0; p < PROGRAMS; p++) memset(programs[p].memory->file, FILL, sizeof programs[p].memory->file);
+    run_both(WRITE);
+    size_t length = plain->written.length;
+    int same = plain->written.refusal == 0 && proved->written.refusal == 0 && proved->written.length == length && same_memory() &&
+               memcmp(plain_memory.file + length, untouched.file + length, sizeof untouched.file - length) == 0;
+    fill_results();
+    run_both(READ);
+    same = same && same_plans(plain->read_reply, plan) && same_plans(proved->read_reply, plan) && same_memory() &&
+           guards_kept(&plain_memory, plan, plan.nodes + 1);
+    draw_questions();
+    run_both(PAIR);
+    run_both(COLUMN);
+    return same && memcmp(plain->pairs, proved->pairs, sizeof plain->pairs) == 0 &&
+           memcmp(plain->columns, proved->columns, sizeof plain->columns) == 0;
 }
 
-/* a triangulated tube: a plate closed to a ring in its width */
-static void tube(size_t width, size_t height) {
-    clear(width * height);
-    for (size_t y = 0; y < height; y++) for (size_t x = 0; x < width; x++) {
-        size_t v = y * width + x, right = y * width + (x + 1) % width;
-        join(v, right);
-        if (y + 1 < height) { join(v, v + width); join(v, right + width); }
-    }
-    make_lists();
-}
+/* ---- timing */
 
-static void tree_of(size_t nodes, size_t arity) {
-    clear(nodes);
-    for (size_t v = 1; v < nodes; v++) join(v, (v - 1) / arity);
-    make_lists();
-}
+/* A line of the table. The times are in microseconds, for one question in the case of questions. */
+typedef struct {
+    char name[32];
+    size_t entries;
+    NdpPlan plan;
+    double best[OPERATIONS][PROGRAMS];
+    int same;
+} Line;
 
-static void random_mesh(size_t nodes, size_t edges) {
-    clear(nodes);
-    for (size_t k = 0; k < edges;) {
-        size_t v = chance(nodes), w = chance(nodes);
-        if (v == w || joined[v][w]) continue;
-        join(v, w);
-        k++;
-    }
-    make_lists();
-}
+/* First the families, each at all its sizes; then the largest plan; then the other meshes. */
+enum { FAMILIES = 5, SIZES = 5, LARGEST = FAMILIES * SIZES, MOST_LINES = 48 };
+static const char *const family_names[FAMILIES] = {"plate", "grid", "plate, holes", "path", "binary tree"};
+static Line lines[MOST_LINES];
+static int line_count;
 
-/* cliques of `size` nodes in a chain, each joined to the next by one edge */
-static void cliques(size_t nodes, size_t size) {
-    clear(nodes);
-    for (size_t v = 0; v < nodes; v++) {
-        for (size_t w = v + 1; w < nodes && w / size == v / size; w++) join(v, w);
-        if (v % size == size - 1 && v + 1 < nodes) join(v, v + 1);
-    }
-    make_lists();
-}
-
-/* A path of `length` nodes, then `leaves` nodes, then `hubs` nodes that are each joined to all leaves and to the end of the path. From the far end of the path every leaf is a
- * candidate, and none is better: many walks over all entries for each cut of the path. */
-static void broom(size_t length, size_t leaves, size_t hubs) {
-    clear(length + leaves + hubs);
-    for (size_t v = 0; v + 1 < length; v++) join(v, v + 1);
-    for (size_t h = 0; length && h < hubs; h++) join(length - 1, length + leaves + h);
-    for (size_t v = length; v < length + leaves; v++) for (size_t h = 0; h < hubs; h++) join(v, length + leaves + h);
-    make_lists();
-}
-
+/* The processor time of this program in microseconds. What other programs take on a busy machine does not count. */
 static double now(void) {
     struct timespec t;
-    clock_gettime(CLOCK_MONOTONIC, &t);
-    return t.tv_sec * 1e3 + t.tv_nsec / 1e6;
+    clock_gettime(CLOCK_THREAD_CPUTIME_ID, &t);
+    return t.tv_sec * 1e6 + t.tv_nsec / 1e3;
 }
 
-#define LENT(b) (b).order, NODES, (b).positions, NODES, (b).sizes, NODES, (b).parents, NODES, (b).column_starts, NODES + 1, (b).rows, SLOTS
+/* What one reading of the clock costs; it is taken off every time. */
+static double clock_cost = 1e12;
 
-static int measure(const char *name) {
-    NdpPlan a = {0, 0, 0, 0, 0}, b = a;
-    double best_proved = 1e9, best_plain = 1e9, began = now();
-    for (int run = 0; run < 200 && (run < 5 || now() - began < 2000); run++) {
-        for (int turn = 0; turn < 2; turn++) {
-            double from = now();
-            if (turn == run % 2) {
-                b = plain_plan(n, starts, n + 1, neighbours, entries, LENT(plain));
-                if (now() - from < best_plain) best_plain = now() - from;
-            } else {
-                a = ndp_plan(n, starts, n + 1, neighbours, entries, LENT(proved));
-                if (now() - from < best_proved) best_proved = now() - from;
-            }
-        }
+static void measure_clock(void) {
+    for (int k = 0; k < 10000; k++) {
+        double from = now(), time = now() - from;
+        if (time < clock_cost) clock_cost = time;
     }
-    int same = a.refusal == 0 && b.refusal == 0 && a.nodes == b.nodes && a.parts == b.parts && a.slots == b.slots && a.multiplications == b.multiplications &&
-               memcmp(&proved, &plain, sizeof proved) == 0;
-    printf("%-22s %6zu %8zu %6u %9u %10.3f %10.3f %6.2f%s\n", name, n, entries, a.parts, a.slots, best_plain, best_proved, best_proved / best_plain, same ? "" : "  DIFFERENT");
-    return same;
+}
+
+static void time_once(Line *line, int operation, int program) {
+    double from = now();
+    operations[operation](&programs[program]);
+    double time = now() - from - clock_cost, *best = &line->best[operation][program];
+    if (operation >= PAIR) time /= QUESTIONS;
+    if (*best == 0 || time < *best) *best = time;
+}
+
+/* The best times of the operations from `first` to `last`. A busy moment of the machine meets all of them, since they share every round. */
+static void time_operations(Line *line, int first, int last) {
+    double began = now();
+    for (int round = 0; round < MOST_ROUNDS && (round == 0 || now() - began < SECONDS * 1e6); round++)
+        for (int o = first; o <= last; o++) for (int turn = 0; turn < TURNS; turn++) time_once(line, o, (round + turn) % PROGRAMS);
+}
+
+static Line *new_line(const char *name) {
+    Line *line = &lines[line_count++];
+    snprintf(line->name, sizeof line->name, "%s", name);
+    return line;
+}
+
+/* Compares everything on the mesh at hand, and times the operations from `first` to `last`. */
+static void measure_mesh(const char *name, int first, int last) {
+    Line *line = new_line(name);
+    line->same = compare_planning();
+    line->same = compare_file() && line->same;
+    line->entries = mesh.entries;
+    line->plan = plan;
+    time_operations(line, first, last);
+}
+
+static void measure_families(void) {
+    static const size_t widths[SIZES] = {16, 16, 32, 32, 64};
+    for (int family = 0; family < FAMILIES; family++) for (int size = 0; size < SIZES; size++) {
+        size_t nodes = (size_t)256 << size;
+        char name[32];
+        snprintf(name, sizeof name, "%s %zu", family_names[family], nodes);
+        switch (family) {
+        case 0: make_plate(&mesh, widths[size], nodes, 1, 0); break;
+        case 1: make_plate(&mesh, widths[size], nodes, 0, 0); break;
+        case 2: make_plate(&mesh, widths[size], nodes, 1, 1); break;
+        case 3: make_plate(&mesh, 1, nodes, 0, 0); break;
+        default: make_tree(&mesh, nodes, 2);
+        }
+        measure_mesh(name, CHECK, COLUMN);
+    }
+}
+
+static void measure_others(void) {
+    make_tube(&mesh, 50, 80); measure_mesh("tube 50 x 80", PLAN, PLAN);
+    make_plate(&mesh, 4, 4000, 1, 0); measure_mesh("strip 4 x 1000", PLAN, PLAN);
+    make_tree(&mesh, 4096, 4095); measure_mesh("star 4096", PLAN, PLAN);
+    make_cliques(&mesh, 4096, 16); measure_mesh("cliques of 16", PLAN, PLAN);
+    make_random(&mesh, 4096, 8192); measure_mesh("random, 8192 edges", PLAN, PLAN);
+    make_random(&mesh, 4096, 32768); measure_mesh("random, 32768 edges", PLAN, PLAN);
+    make_random(&mesh, 257, 32768); measure_mesh("near complete", PLAN, PLAN);
+    make_broom(&mesh, 0, 4088, 8); measure_mesh("hubs 8, leaves 4088", PLAN, PLAN);
+    make_broom(&mesh, 512, 3575, 9); measure_mesh("broom 512, 3575, 9", PLAN, PLAN);
+}
+
+/* The largest legal plan: one part, and every pair of positions has a slot. No mesh within the limits has it, so it is made here. */
+static void measure_largest_plan(void) {
+    Memory *m = &plain_memory;
+    fill_results();
+    plan = (NdpPlan){0, NODES, 1, 0, 0};
+    for (size_t i = 0; i < NODES; i++) m->order[i] = m->positions[i] = i;
+    m->sizes[0] = NODES;
+    m->parents[0] = NDP_NO_PARENT;
+    for (size_t j = 0; j < NODES; j++) {
+        uint64_t c = NODES - 1 - j;
+        m->column_starts[j] = plan.slots;
+        for (size_t i = j + 1; i < NODES; i++) m->rows[plan.slots++] = i;
+        plan.multiplications += c * (c + 3) / 2;
+    }
+    m->column_starts[NODES] = plan.slots;
+    memcpy(&proved_memory, m, sizeof proved_memory);
+    Line *line = new_line("largest plan");
+    line->same = compare_file();
+    line->plan = plan;
+    time_operations(line, WRITE, COLUMN);
+}
+
+/* ---- the table */
+
+/* The time of an operation by itself: the first ones are timed from the start of planning, so the operation before is taken off. */
+static double alone(const Line *line, int operation, int program) {
+    double time = line->best[operation][program];
+    if (operation == CHECK || operation > PLAN) return time;
+    time -= line->best[operation - 1][program];
+    return time > 0 ? time : 0;
+}
+
+/* Whether a time is long enough to be told from noise: a microsecond, and a twentieth of the time that it is a part of. */
+static int is_clear(const Line *line, int operation, int program) {
+    double time = alone(line, operation, program);
+    return time >= 1 && time >= 0.05 * line->best[operation][program];
+}
+
+/* Both times of an operation by itself, and their ratio where both are clear. */
+static void print_alone(const Line *line, int operation) {
+    double plain = alone(line, operation, PLAIN), proved = alone(line, operation, PROVED);
+    printf(" %7.1f %7.1f", plain, proved);
+    if (is_clear(line, operation, PLAIN) && is_clear(line, operation, PROVED)) printf(" %5.2f", proved / plain);
+    else printf(" %5s", "-");
+}
+
+/* A block of four operations from `first` on, for the lines before `end`. */
+static void print_four(const char *title, const char *const names[4], int first, int end) {
+    printf("%s, microseconds\n%-19s", title, "");
+    for (int k = 0; k < 4; k++) printf(" %21s", names[k]);
+    printf("\n%-19s", "mesh");
+    for (int k = 0; k < 4; k++) printf(" %7s %7s %5s", "plain", "proved", "ratio");
+    printf("\n");
+    for (int l = 0; l < end; l++) {
+        printf("%-19s", lines[l].name);
+        for (int o = first; o < first + 4; o++) print_alone(&lines[l], o);
+        printf("\n");
+    }
+    printf("\n");
+}
+
+static void print_planning(void) {
+    printf("Whole planning, microseconds\n");
+    printf("%-19s %5s %7s %5s %9s %10s %10s %5s\n", "mesh", "nodes", "entries", "parts", "slots", "plain", "proved", "ratio");
+    for (int l = 0; l < line_count; l++) {
+        const Line *line = &lines[l];
+        double plain = line->best[PLAN][PLAIN], proved = line->best[PLAN][PROVED];
+        if (l == LARGEST) continue;
+        printf("%-19s %5u %7zu %5u %9u", line->name, line->plan.nodes, line->entries, line->plan.parts, line->plan.slots);
+        printf(" %10.1f %10.1f %5.2f\n", plain, proved, proved / plain);
+    }
+    printf("\n");
+}
+
+/* For each family and operation: the times of the proved library, and each as a multiple of the one at half the nodes. */
+static void print_growth(void) {
+    static const struct { const char *name; int operation; } shown[] = {{"planning", PLAN}, {"write", WRITE}, {"read", READ}};
+    printf("Growth of the proved library, microseconds, and the factor from n to 2n nodes\n");
+    printf("%-12s %-8s %7d", "mesh", "", 256);
+    for (int size = 1; size < SIZES; size++) printf(" %9d %6s", 256 << size, "factor");
+    printf("\n");
+    for (int family = 0; family < FAMILIES; family++) for (int k = 0; k < 3; k++) {
+        const Line *line = &lines[family * SIZES];
+        int o = shown[k].operation;
+        printf("%-12s %-8s %7.1f", family_names[family], shown[k].name, line[0].best[o][PROVED]);
+        for (int size = 1; size < SIZES; size++) {
+            double time = line[size].best[o][PROVED];
+            printf(" %9.1f %6.2f", time, time / line[size - 1].best[o][PROVED]);
+        }
+        printf("\n");
+    }
+    printf("\n");
+}
+
+/* The ratio of an operation that was timed, or 0. */
+static double ratio_of(const Line *line, int operation) {
+    return line->best[operation][PLAIN] > 0 ? line->best[operation][PROVED] / line->best[operation][PLAIN] : 0;
+}
+
+/* How the ratios of an operation stand to the goal, over the lines that it was timed on. */
+static void print_goal(const char *name, int operation, double goal) {
+    int timed = 0, met = 0;
+    double least = 1e12, most = 0;
+    for (int l = 0; l < line_count; l++) {
+        double ratio = ratio_of(&lines[l], operation);
+        if (ratio == 0) continue;
+        timed++;
+        if (ratio <= goal) met++;
+        if (ratio < least) least = ratio;
+        if (ratio > most) most = ratio;
+    }
+    printf("%s: ratio %.2f to %.2f, goal %.1f, met on %d of %d\n", name, least, most, goal, met, timed);
+    for (int l = 0; l < line_count; l++) {
+        double ratio = ratio_of(&lines[l], operation);
+        if (ratio > goal) printf("  above it: %s, %.2f\n", lines[l].name, ratio);
+    }
+}
+
+/* Names the lines on which the programs differ. Gives their number. */
+static int print_differences(void) {
+    int different = 0;
+    for (int l = 0; l < line_count; l++) if (!lines[l].same) { printf("DIFFERENT results: %s\n", lines[l].name); different++; }
+    if (!different) printf("The same replies and memory from both programs on all %d lines\n", line_count);
+    return different;
 }
 
 int main(void) {
-    int good = 1;
-    printf("%-22s %6s %8s %6s %9s %10s %10s %6s\n", "mesh", "nodes", "entries", "parts", "slots", "plain ms", "proved ms", "ratio");
-    plate(16, 16, 1, 0); good &= measure("plate 256");
-    plate(22, 23, 1, 0); good &= measure("plate 506");
-    plate(30, 30, 1, 0); good &= measure("plate 900");
-    plate(40, 50, 1, 0); good &= measure("plate 2000");
-    plate(50, 80, 1, 0); good &= measure("plate 4000");
-    tube(50, 80); good &= measure("tube 4000");
-    plate(64, 64, 1, 0); good &= measure("plate 4096");
-    plate(64, 64, 1, 3); good &= measure("plate 4096, holes");
-    plate(64, 64, 0, 0); good &= measure("grid 4096");
-    plate(4, 1000, 1, 0); good &= measure("strip 4 x 1000");
-    plate(1, 4096, 0, 0); good &= measure("path 4096");
-    tree_of(4096, 2); good &= measure("binary tree 4096");
-    tree_of(4096, 4095); good &= measure("star 4096");
-    cliques(4096, 16); good &= measure("cliques of 16");
-    random_mesh(4096, 8192); good &= measure("random 8192 edges");
-    random_mesh(4096, 32768); good &= measure("random 32768 edges");
-    random_mesh(257, 32768); good &= measure("near complete 257");
-    broom(0, 4088, 8); good &= measure("hubs 8, leaves 4088");
-    broom(512, 3575, 9); good &= measure("broom 512, 3575, 9");
-    if (!good) printf("the results differ\n");
-    return good ? 0 : 1;
+    static const char *const stages[4] = {"check", "order", "count", "rows"};
+    static const char *const uses[4] = {"write", "read", "question: pair", "question: column"};
+    memset(&untouched, FILL, sizeof untouched);
+    measure_clock();
+    measure_families();
+    measure_largest_plan();
+    measure_others();
+    print_four("Stages of planning", stages, CHECK, LARGEST);
+    print_planning();
+    print_four("File and questions", uses, WRITE, LARGEST + 1);
+    print_growth();
+    print_goal("Planning", PLAN, 1.5);
+    print_goal("Writing", WRITE, 2.0);
+    print_goal("Reading", READ, 2.0);
+    return print_differences() ? 1 : 0;
 }

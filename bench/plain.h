@@ -1,9 +1,17 @@
-/* A plain C planner of the same rules, with the proved one's interface, for comparison of speed. */
+/* A plain C program of the same rules as the proved library, for comparison of speed and results: nothing in it is proved. Its functions have
+ * the library's interface: each is declared with the type of the function that it stands beside. */
 #ifndef PLAIN_H
 #define PLAIN_H
 #include "ndplan.h"
 
-NdpPlan plain_plan(size_t n, const uint32_t *starts, size_t starts_length, const uint16_t *neighbours, size_t neighbours_length,
-                   uint16_t *order, size_t order_length, uint16_t *positions, size_t positions_length, uint16_t *sizes, size_t sizes_length,
-                   uint16_t *parents, size_t parents_length, uint32_t *column_starts, size_t column_starts_length, uint16_t *rows, size_t rows_length);
+/* From libstages.a, for the benchmark alone: checks 1 to 7 and the dissection, without the layout. Gives the number of parts, 0 where a check
+ * refuses. */
+size_t stage_order(size_t n, const uint32_t *starts, size_t starts_length, const uint16_t *neighbours, size_t neighbours_length);
+
+__typeof__(ndp_plan) plain_plan;
+__typeof__(stage_order) plain_stage_order;
+__typeof__(ndp_read) plain_read;
+__typeof__(ndp_write) plain_write;
+__typeof__(ndp_slot) plain_slot;
+__typeof__(ndp_rows) plain_rows;
 #endif

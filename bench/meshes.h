@@ -1,0 +1,34 @@
+/* The meshes of the benchmark. Each maker overwrites the mesh that it is given. */
+#ifndef MESHES_H
+#define MESHES_H
+#include "ndplan.h"
+
+typedef struct {
+    size_t nodes, entries;
+    uint32_t starts[NDP_MAX_NODES + 1];
+    uint16_t neighbours[NDP_MAX_ENTRIES];
+} Mesh;
+
+/* A number below `below`, from a sequence that every maker begins anew. */
+uint32_t next_random(uint32_t below);
+
+/* A plate, numbered row by row; each node has two diagonal neighbours more if `triangulated`. With `holes` some squares of 4 by 4 are left out, and
+ * the plate is longer instead, so that there are `nodes` nodes in any case. A width of 1 gives a path. */
+void make_plate(Mesh *mesh, size_t width, size_t nodes, int triangulated, int holes);
+
+/* A triangulated plate that is closed to a ring in its width. */
+void make_tube(Mesh *mesh, size_t width, size_t height);
+
+/* A tree: node v > 0 hangs on node (v - 1) / arity. */
+void make_tree(Mesh *mesh, size_t nodes, size_t arity);
+
+/* Different edges between nodes drawn at random. */
+void make_random(Mesh *mesh, size_t nodes, size_t edges);
+
+/* A chain of cliques of `size` nodes, each joined to the next by one edge. */
+void make_cliques(Mesh *mesh, size_t nodes, size_t size);
+
+/* A path of `length` nodes, then `leaves` nodes, then `hubs` nodes that are each joined to every leaf and to the path's end. From the far end of
+ * the path every leaf is a candidate for the root and none is better: many walks over all entries for each cut of the path. */
+void make_broom(Mesh *mesh, size_t length, size_t leaves, size_t hubs);
+#endif
