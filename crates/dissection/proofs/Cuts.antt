@@ -1,89 +1,68 @@
--- The division of a region as it stands in the numbers: the separator is left out in place, what stays becomes fresh, and in the end the part's nodes get the last number.
+-- The division of a region as it stands in the numbers: the separator is left out in place, what stays becomes fresh,
+-- and in the end the part's nodes get the last number.
 use mathlib.Core.Path.{_≡_, refl, sym, ap, ap₂, _∙_}
 use mathlib.Core.Logic.{inl, inr, _≢_}
-use mathlib.Core.Bool.{Bool, true, false, not, cond, _&&_, _||_, or-false}
+use mathlib.Core.Bool.{Bool, true, false, not, cond, _&&_}
 use mathlib.Core.List.{List, [], _∷_, _++_, map, map-append}
 use Prim.Native.Nat.{ℕ, _+_, _/_, _≤_, _<_}
 use native.Mathlib.Numerals.{add-one}
 use native.Mathlib.Nat.{zero-add}
 use native.Mathlib.Omega.{arith}
 use lib.Dec.{eqb, leb}
-use lib.ListN.{length, getD, set}
-use lib.Seq.{getD-set-same, getD-set-other}
+use lib.ListN.{length, take, getD}
 use borrow.Author.Tests.{eqb-true, eq-eqb, ne-eqb, not-true, le-leb, lt-leb}
-use Rattle.plan.specs.Lists.{exists, keep, below, isIn, without}
+use Rattle.plan.specs.Lists.{exists, keep, below, isIn, without, ascending}
 use Rattle.plan.specs.Mesh.{Mesh, neighboursOf, adjacent}
 use Rattle.plan.specs.Levels.{levels, eccentricity, components}
 use Rattle.plan.specs.Choice.{rootOf, staysWhole, cutLevel, separator, numbering, standard, choosePart, georgeLiu}
 use Rattle.theory.specs.Checked.{Checked}
-use Rattle.theory.proofs.Bools.{or-right, and-left, and-right, tested, clash, refuted, iff-eq, cond-true, cond-false, eqb-same, eq-or-ne, lt-or-le}
+use Rattle.theory.proofs.Bools.{and-left, tested, clash, refuted, iff-eq, cond-true, cond-false, lt-or-le}
 use Rattle.theory.proofs.Lists.{exists-ext, exists-isIn, isIn-exists, in-keep, of-keep, isIn-keep, keep-ext, Kept, kept-own, keep-all}
 use Rattle.theory.proofs.Ranges.{upFrom-snoc, map-ext-upFrom}
 use Rattle.theory.proofs.Ascending.{ascending-keep}
 use Rattle.theory.proofs.Choice.{separator-kept}
-use Rattle.dissection.specs.Numbers.{fresh, outside, freshOf, Within, Only, Renumbered, grouped, Labelled}
-use Rattle.dissection.specs.Standing.{Standing, opened, closed, separatesAt, Parted, Divided}
+use Rattle.dissection.specs.Numbers.{fresh, outside, freshOf, Within, Only, NumberedBy, Renumbered, grouped, Labelled}
+use Rattle.dissection.specs.Standing.{Standing, restFresh, partNumbered, separatesAt, Parted, Divided}
 use Rattle.dissection.specs.Rooted.{Rooted}
 use Rattle.dissection.proofs.Fresh.{of-fresh, fresh-same}
-use Rattle.dissection.proofs.Renumbering.{renumbered-in, renumbered-out}
+use Rattle.dissection.proofs.Renumbering.{Renumbering, renumbered-in, renumbered-only, renumbering-next}
 use Rattle.dissection.proofs.Grouped.{hasNumber}
+use Rattle.dissection.proofs.Labels.{labelled-only}
 use Rattle.dissection.proofs.Standing.{levels-few, number-inside, number-level}
 
 -- ---- the separator left out, in place
 
--- of the nodes that pass a test, those of the separator are left out; every other node has the number that it had
-abbrev pub LeftOut : Mesh → ℕ → (ℕ → Bool) → List ℕ → List ℕ → Type 0
-LeftOut m j touched old new = (v : ℕ) → getD new v 0 ≡ cond (touched v && separatesAt m j old v) outside (getD old v 0)
+-- the number of node v once the separator at level j is left out
+abbrev pub leftOut : Mesh → ℕ → List ℕ → ℕ → ℕ
+leftOut m j numbers v = cond (separatesAt m j numbers v) outside (getD numbers v 0)
 
-module _ (m : Mesh) (j : ℕ) (old : List ℕ) where
-  -- a test that agrees
-  pub left-out-as : (touched also : ℕ → Bool) (new : List ℕ) → ((v : ℕ) → also v ≡ touched v) → LeftOut m j touched old new → LeftOut m j also old new
-  left-out-as touched also new f h v = h v ∙ ap (λ (b : Bool). cond (b && separatesAt m j old v) outside (getD old v 0)) (sym (f v))
+-- the first i nodes have been tried
+module _ (m : Mesh) (j : ℕ) (small : j + 1 < outside) {nodes old : List ℕ} {i : ℕ} {new : List ℕ} (r : Renumbering (leftOut m j old) nodes old i new) where
+  -- a node has number j + 1 where it had it
+  same-next : (w : ℕ) → eqb (getD new w 0) (j + 1) ≡ eqb (getD old w 0) (j + 1)
+  same-next w =
+      ap (λ (x : ℕ). eqb x (j + 1)) (r .front w)
+      ∙ cases (isIn w (take i nodes)) (exists (hasNumber old (j + 1)) (neighboursOf m w)) (getD old w 0)
+    where
+      cases : (tried next : Bool) (x : ℕ) → eqb (cond tried (cond (eqb x j && next) outside x) x) (j + 1) ≡ eqb x (j + 1)
+      cases false next x = refl
+      cases true next x = elim (tested (eqb x j && next)) [
+        | inl t ↦
+            let was : x ≡ j = eqb-true x j (and-left (eqb x j) next t) in
+            ap (λ (y : ℕ). eqb y (j + 1)) (cond-true (eqb x j && next) outside x t)
+            ∙ ne-eqb outside (j + 1) (λ e. omega (arith, small)) ∙ sym (ne-eqb x (j + 1) (λ e. omega arith))
+        | inr t ↦ ap (λ (y : ℕ). eqb y (j + 1)) (cond-false (eqb x j && next) outside x t)
+      ]
 
-  module _ (small : j + 1 < outside) (touched : ℕ → Bool) (new : List ℕ) (h : LeftOut m j touched old new) where
-    -- a node has number j + 1 where it had it
-    same-next : (w : ℕ) → eqb (getD new w 0) (j + 1) ≡ eqb (getD old w 0) (j + 1)
-    same-next w = elim (tested (touched w && separatesAt m j old w)) [
-      | inl t ↦
-          let was : getD old w 0 ≡ j = eqb-true (getD old w 0) j (and-left (eqb (getD old w 0) j) _ (and-right (touched w) _ t)) in
-          let is : getD new w 0 ≡ outside = h w ∙ cond-true (touched w && separatesAt m j old w) outside (getD old w 0) t in
-          ne-eqb (getD new w 0) (j + 1) (λ e. omega arith) ∙ sym (ne-eqb (getD old w 0) (j + 1) (λ e. omega arith))
-      | inr t ↦ ap (λ (x : ℕ). eqb x (j + 1)) (h w ∙ cond-false (touched w && separatesAt m j old w) outside (getD old w 0) t)
-    ]
-
-    -- so the test of a node that has its number still tells what it told
-    same-test : (v : ℕ) → getD new v 0 ≡ getD old v 0 → separatesAt m j new v ≡ separatesAt m j old v
-    same-test v e =
-        ap₂ _&&_ (ap (λ (x : ℕ). eqb x j) e)
-        (exists-ext (λ w. eqb (getD new w 0) (j + 1)) (λ w. eqb (getD old w 0) (j + 1)) (neighboursOf m v) (λ w t. same-next w))
-
-    -- what is stored for a node
-    stored : (u : ℕ) → cond (separatesAt m j new u) outside (getD new u 0) ≡ cond (separatesAt m j old u) outside (getD old u 0)
-    stored u = elim (tested (touched u && separatesAt m j old u)) [
-      | inl t ↦
-          either (separatesAt m j new u) (getD new u 0) (h u ∙ cond-true (touched u && separatesAt m j old u) outside (getD old u 0) t)
-          ∙ sym (cond-true (separatesAt m j old u) outside (getD old u 0) (and-right (touched u) _ t))
-      | inr t ↦
-          let same : getD new u 0 ≡ getD old u 0 = h u ∙ cond-false (touched u && separatesAt m j old u) outside (getD old u 0) t in
-          ap₂ (λ (b : Bool) (x : ℕ). cond b outside x) (same-test u same) same
-    ]
-      where
-        either : (b : Bool) (x : ℕ) → x ≡ outside → cond b outside x ≡ outside
-        either true x e = refl
-        either false x e = e
-
-    -- one more node
-    pub left-out-more : (u : ℕ) → u < length new → LeftOut m j (λ v. touched v || eqb v u) old (set new u (cond (separatesAt m j new u) outside (getD new u 0)))
-    left-out-more u lt v = elim (eq-or-ne v u) [
-      | inl e ↦ rw e
-          (getD-set-same new u (cond (separatesAt m j new u) outside (getD new u 0)) 0 lt
-          ∙ stored u
-          ∙ ap (λ (b : Bool). cond (b && separatesAt m j old u) outside (getD old u 0)) (sym (or-right (touched u) (eqb u u) (eqb-same u))))
-      | inr e ↦
-          getD-set-other new u v (cond (separatesAt m j new u) outside (getD new u 0)) 0 e
-          ∙ h v
-          ∙ ap (λ (b : Bool). cond (b && separatesAt m j old v) outside (getD old v 0)) (sym (ap (λ (b : Bool). touched v || b) (ne-eqb v u e) ∙ or-false (touched v)))
-    ]
+  -- so, in an ascending list, what the numbers at hand tell of the next node is what the old ones told
+  pub left-out-next : i < length nodes → ascending nodes ≡ true → leftOut m j new (getD nodes i 0) ≡ leftOut m j old (getD nodes i 0)
+  left-out-next lt h =
+      let u : ℕ = getD nodes i 0 in
+      let e : getD new u 0 ≡ getD old u 0 = renumbering-next r lt h in
+      ap₂ (λ (b : Bool) (x : ℕ). cond b outside x)
+      (ap₂ _&&_ (ap (λ (x : ℕ). eqb x j) e)
+      (exists-ext (hasNumber new (j + 1)) (hasNumber old (j + 1)) (neighboursOf m u) (λ w t. same-next w)))
+      e
 
 -- ---- the separator, where the levels stand in the numbers
 
@@ -99,15 +78,15 @@ module _ (m : Mesh) (nodes : List ℕ) (within : Within (m .nodes) nodes) (root 
       ap₂ _&&_ (number-level m nodes within root checked numbers standing j v (omega arith) lt) (iff-eq _ _ to from)
       ∙ sym (isIn-keep (λ v. exists (adjacent m v) (getD ls (j + 1) [])) (getD ls j []) v)
     where
-      to : exists (λ w. eqb (getD numbers w 0) (j + 1)) (neighboursOf m v) ≡ true → exists (adjacent m v) (getD ls (j + 1) []) ≡ true
+      to : exists (hasNumber numbers (j + 1)) (neighboursOf m v) ≡ true → exists (adjacent m v) (getD ls (j + 1) []) ≡ true
       to h =
-          let r = exists-isIn (λ w. eqb (getD numbers w 0) (j + 1)) (neighboursOf m v) h in
+          let r = exists-isIn (hasNumber numbers (j + 1)) (neighboursOf m v) h in
           isIn-exists (adjacent m v) (getD ls (j + 1) []) (r .0) (sym (number-level m nodes within root checked numbers standing (j + 1) (r .0) few (checked .inside v (r .0) (r .1) .1)) ∙ r .2) (r .1)
 
-      from : exists (adjacent m v) (getD ls (j + 1) []) ≡ true → exists (λ w. eqb (getD numbers w 0) (j + 1)) (neighboursOf m v) ≡ true
+      from : exists (adjacent m v) (getD ls (j + 1) []) ≡ true → exists (hasNumber numbers (j + 1)) (neighboursOf m v) ≡ true
       from h =
           let r = exists-isIn (adjacent m v) (getD ls (j + 1) []) h in
-          isIn-exists (λ w. eqb (getD numbers w 0) (j + 1)) (neighboursOf m v) (r .0) (r .2) (eq-eqb (getD numbers (r .0) 0) (j + 1) (standing .own (j + 1) (r .0) (r .1)))
+          isIn-exists (hasNumber numbers (j + 1)) (neighboursOf m v) (r .0) (r .2) (eq-eqb (getD numbers (r .0) 0) (j + 1) (standing .own (j + 1) (r .0) (r .1)))
 
 -- ---- the part of a region
 
@@ -166,7 +145,7 @@ module _ (m : Mesh) (nodes : List ℕ) (within : Within (m .nodes) nodes) (last 
   pub parted-whole : last ≤ 1 → (new : List ℕ) → Renumbered (λ x. outside) nodes old new → Parted m nodes new
   parted-whole le new h =
       parted m nodes new within
-      (λ v lt o. renumbered-out (λ x. outside) nodes old new h v o ∙ standing .only v lt o)
+      (renumbered-only (m .nodes) (λ x. outside) nodes old new h (standing .only))
       (λ v i. renumbered-in (λ x. outside) nodes old new h v i ∙ sym (cond-true (isIn v (georgeLiu m nodes)) outside fresh (ap (isIn v) (part-whole m nodes (omega (arith, rooted .far))) ∙ i)))
 
   -- the number of the last level is at most the number of nodes
@@ -175,22 +154,21 @@ module _ (m : Mesh) (nodes : List ℕ) (within : Within (m .nodes) nodes) (last 
   last-few = omega (arith, rooted .far, levels-few m nodes within (rootOf m nodes))
 
   -- the separator is left out and the other nodes become fresh
-  pub parted-cut : Checked m → 1 < last → (mid new : List ℕ) → LeftOut m ((last + 1) / 2) (λ v. isIn v nodes) old mid → Renumbered opened nodes mid new → Parted m nodes new
+  pub parted-cut : Checked m → 1 < last → (mid new : List ℕ) → NumberedBy (leftOut m ((last + 1) / 2) old) nodes old mid → Renumbered restFresh nodes mid new → Parted m nodes new
   unfolding eccentricity
   parted-cut checked lt mid new left h =
       parted m nodes new within
-      (λ v few o. renumbered-out opened nodes mid new h v o ∙ left v
-      ∙ cond-false (isIn v nodes && separatesAt m j old v) outside (getD old v 0) (ap (λ (b : Bool). b && separatesAt m j old v) o) ∙ standing .only v few o)
-      (λ v i. renumbered-in opened nodes mid new h v i ∙ ap opened (left v ∙ ap (λ (b : Bool). cond (b && separatesAt m j old v) outside (getD old v 0)) i)
-      ∙ open-cond (separatesAt m j old v) (getD old v 0) (number-inside m nodes within (rootOf m nodes) checked old standing v i)
+      (renumbered-only (m .nodes) restFresh nodes mid new h (λ v few o. left v ∙ cond-false (isIn v nodes) (leftOut m j old v) (getD old v 0) o ∙ standing .only v few o))
+      (λ v i. renumbered-in restFresh nodes mid new h v i ∙ ap restFresh (left v ∙ cond-true (isIn v nodes) (leftOut m j old v) (getD old v 0) i)
+      ∙ rest-cond (separatesAt m j old v) (getD old v 0) (number-inside m nodes within (rootOf m nodes) checked old standing v i)
       ∙ ap (λ (b : Bool). cond b outside fresh) (same v i))
     where
       j : ℕ
       j = (last + 1) / 2
 
-      open-cond : (b : Bool) (x : ℕ) → x ≢ outside → opened (cond b outside x) ≡ cond b outside fresh
-      open-cond true x ne = refl
-      open-cond false x ne = cond-false (eqb x outside) outside fresh (ne-eqb x outside ne)
+      rest-cond : (b : Bool) (x : ℕ) → x ≢ outside → restFresh (cond b outside x) ≡ cond b outside fresh
+      rest-cond true x ne = refl
+      rest-cond false x ne = cond-false (eqb x outside) outside fresh (ne-eqb x outside ne)
 
       same : (v : ℕ) → isIn v nodes ≡ true → separatesAt m j old v ≡ isIn v (georgeLiu m nodes)
       same v i =
@@ -216,7 +194,7 @@ parted-high m nodes numbers h p v i = elim (tested (isIn v (georgeLiu m nodes)))
 ]
 
 module _ (m : Mesh) (nodes : List ℕ) (at : ℕ) (old mid new begins : List ℕ) (count : ℕ)
-    (few : count < outside) (p : Parted m nodes old) (l : Labelled (m .nodes) (adjacent m) nodes at old mid begins count) (h : Renumbered (closed count) nodes mid new) where
+    (few : count < outside) (p : Parted m nodes old) (l : Labelled (m .nodes) (adjacent m) nodes at old mid begins count) (h : Renumbered (partNumbered count) nodes mid new) where
   -- the region's part
   abbrev part : List ℕ
   part = georgeLiu m nodes
@@ -226,13 +204,13 @@ module _ (m : Mesh) (nodes : List ℕ) (at : ℕ) (old mid new begins : List ℕ
   number-part v i t =
       let stale : isIn v (freshOf (m .nodes) old) ≡ false = refuted (isIn v (freshOf (m .nodes) old)) (λ f. clash (isIn v part) t (parted-fresh m nodes old p v f .1)) in
       let e : getD mid v 0 ≡ outside = l .others v stale ∙ p .part v i t in
-      (e, renumbered-in (closed count) nodes mid new h v i ∙ cond-true (eqb (getD mid v 0) outside) count (getD mid v 0) (eq-eqb (getD mid v 0) outside e))
+      (e, renumbered-in (partNumbered count) nodes mid new h v i ∙ cond-true (eqb (getD mid v 0) outside) count (getD mid v 0) (eq-eqb (getD mid v 0) outside e))
 
   -- every other node of the region keeps its label
   number-rest : (v : ℕ) → isIn v nodes ≡ true → isIn v part ≡ false → (getD mid v 0 < count) × (getD new v 0 ≡ getD mid v 0)
   number-rest v i f =
       let lt : getD mid v 0 < count = l .done v (ap (isIn v) (p .rest) ∙ in-keep (λ x. not (isIn x part)) nodes v i (ap not f)) in
-      (lt, renumbered-in (closed count) nodes mid new h v i ∙ cond-false (eqb (getD mid v 0) outside) count (getD mid v 0) (ne-eqb (getD mid v 0) outside (λ e. omega arith)))
+      (lt, renumbered-in (partNumbered count) nodes mid new h v i ∙ cond-false (eqb (getD mid v 0) outside) count (getD mid v 0) (ne-eqb (getD mid v 0) outside (λ e. omega arith)))
 
   -- so the numbers of the regions left are those of the labels
   same-label : (c : ℕ) → c < count → (v : ℕ) → isIn v nodes ≡ true → eqb (getD new v 0) c ≡ eqb (getD mid v 0) c
@@ -272,7 +250,5 @@ module _ (m : Mesh) (nodes : List ℕ) (at : ℕ) (old mid new begins : List ℕ
         groups = divided-groups;
         begin = rw (← p .rest) (l .begin);
         many = l .many ∙ ap (λ (r : List ℕ). length (components (adjacent m) r)) (p .rest);
-        only = λ v lt o. renumbered-out (closed count) nodes mid new h v o
-            ∙ l .others v (refuted (isIn v (freshOf (m .nodes) old)) (λ f. clash (isIn v nodes) (parted-fresh m nodes old p v f .0) o))
-            ∙ p .only v lt o;
+        only = renumbered-only (m .nodes) (partNumbered count) nodes mid new h (labelled-only l (λ v f. parted-fresh m nodes old p v f .0) (p .only));
       }

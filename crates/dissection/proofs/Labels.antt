@@ -22,7 +22,7 @@ use Rattle.theory.proofs.Counting.{same-length}
 use Rattle.theory.proofs.Compressed.{lengths-more, lengths-within}
 use Rattle.theory.proofs.LevelSets.{levels-cover}
 use Rattle.theory.proofs.Components.{of-component, components-count, components-none, components-next, in-components, component-inside, components-few, walk-component, components-ascending}
-use Rattle.dissection.specs.Numbers.{fresh, freshOf, Within, Renumbered, grouped, beginOf, Walked, Skipped, Taken, Labelled}
+use Rattle.dissection.specs.Numbers.{fresh, freshOf, Within, Only, Renumbered, grouped, beginOf, Walked, Skipped, Taken, Labelled}
 use Rattle.dissection.proofs.Fresh.{not-fresh, in-fresh, of-fresh, fresh-few, fresh-without}
 use Rattle.dissection.proofs.Renumbering.{renumbered-in, renumbered-out}
 use Rattle.dissection.proofs.Grouped.{hasNumber, grouped-length, group-at}
@@ -34,7 +34,8 @@ module _ {n : ℕ} {edge : Graph} {root : ℕ} {old mid queue : List ℕ} {last 
   pub walked-inside : (v : ℕ) → isIn v (take reached queue) ≡ true → v < n
   walked-inside v m = of-fresh n old v (of-component edge (freshOf n old) root v (sym (w .members v) ∙ m) .0) .0
 
-  -- where those that a walk has reached get number x, the root's component has got it, and every other node has the number that it had before the walk
+  -- where those that a walk has reached get number x, the root's component has got it, and every other node has the number that it had
+  -- before the walk
   pub walked-taken : (x : ℕ) (new : List ℕ) → root < n → getD old root 0 ≡ fresh → Renumbered (λ _. x) (take reached queue) mid new → Renumbered (λ _. x) (component edge (freshOf n old) root) old new
   walked-taken x new lt e f v = f v ∙ ap (λ (b : Bool). cond b x (getD mid v 0)) (w .members v) ∙ elim (tested (isIn v (component edge (freshOf n old) root))) [
     | inl t ↦ rw t
@@ -42,6 +43,13 @@ module _ {n : ℕ} {edge : Graph} {root : ℕ} {old mid queue : List ℕ} {last 
   ]
 
 -- ---- the loop
+
+-- a node among the first i + 1 is among the first i, or it is node i
+of-front : (nodes : List ℕ) (i v : ℕ) → i < length nodes → isIn v (take (i + 1) nodes) ≡ true → (isIn v (take i nodes) ≡ true) ⊎ (v ≡ getD nodes i 0)
+of-front nodes i v lt m = elim (or-cases (isIn v (take i nodes)) (eqb v (getD nodes i 0)) (sym (exists-more (eqb v) nodes i lt) ∙ m)) [
+  | inl t ↦ inl t
+  | inr t ↦ inr (eqb-true v (getD nodes i 0) t)
+]
 
 -- what is asked: an ascending list that holds the fresh nodes; the numbers of its other nodes are no labels
 pub record Labelable (n : ℕ) (nodes old : List ℕ) : Type 0 where
@@ -54,7 +62,8 @@ pub record Labelable (n : ℕ) (nodes old : List ℕ) : Type 0 where
 abbrev all : ℕ → Graph → List ℕ → List (List ℕ)
 all n edge old = components edge (freshOf n old)
 
--- the first i nodes have been tried: the first `count` components are labelled, the others are the components of the nodes that are still fresh, and none of the nodes tried is
+-- the first i nodes have been tried: the first `count` components are labelled, the others are the components of the nodes that are still fresh,
+-- and none of the nodes tried is
 pub record Labelling (n : ℕ) (edge : Graph) (nodes : List ℕ) (at : ℕ) (old : List ℕ) (i : ℕ) (numbers begins : List ℕ) (count : ℕ) : Type 0 where
   pub few : count ≤ length (all n edge old)
   pub left : drop count (all n edge old) ≡ components edge (freshOf n numbers)
@@ -138,9 +147,9 @@ module _ {n : ℕ} {edge : Graph} {nodes : List ℕ} {at : ℕ} {old : List ℕ}
   labelling-skip lt f = record { few = r .few; left = r .left; own = r .own; others = r .others; begin = r .begin; tried = each }
     where
       each : (v : ℕ) → isIn v (take (i + 1) nodes) ≡ true → eqb (getD numbers v 0) fresh ≡ false
-      each v m = elim (or-cases (isIn v (take i nodes)) (eqb v (getD nodes i 0)) (sym (exists-more (eqb v) nodes i lt) ∙ m)) [
+      each v m = elim (of-front nodes i v lt m) [
         | inl t ↦ r .tried v t
-        | inr t ↦ ap (λ (w : ℕ). eqb (getD numbers w 0) fresh) (eqb-true v (getD nodes i 0) t) ∙ f
+        | inr e ↦ ap (λ (w : ℕ). eqb (getD numbers w 0) fresh) e ∙ f
       ]
 
   -- one more node, which is fresh
@@ -207,9 +216,9 @@ module _ {n : ℕ} {edge : Graph} {nodes : List ℕ} {at : ℕ} {old : List ℕ}
         | inl u ↦ ap (λ (x : ℕ). eqb x fresh) (renumbered-in (λ _. count) taken numbers new (t .numbers) v u) ∙ not-fresh count small
         | inr u ↦
             ap (λ (x : ℕ). eqb x fresh) (renumbered-out (λ _. count) taken numbers new (t .numbers) v u)
-            ∙ elim (or-cases (isIn v (take i nodes)) (eqb v (getD nodes i 0)) (sym (exists-more (eqb v) nodes i lt) ∙ m)) [
+            ∙ elim (of-front nodes i v lt m) [
               | inl w ↦ r .tried v w
-              | inr w ↦ clash (isIn v taken) (ap (λ (x : ℕ). isIn x taken) (eqb-true v (getD nodes i 0) w) ∙ first) u
+              | inr e ↦ clash (isIn v taken) (ap (λ (x : ℕ). isIn x taken) e ∙ first) u
             ]
       ]
 
@@ -278,3 +287,8 @@ module _ {n : ℕ} {edge : Graph} {nodes : List ℕ} {at : ℕ} {old : List ℕ}
         many = all-found le;
         few = labelling-few;
       }
+
+-- where the fresh nodes all stand in the list, the nodes outside stay outside
+pub labelled-only : {n : ℕ} {edge : Graph} {nodes : List ℕ} {at : ℕ} {old new begins : List ℕ} {count : ℕ} → Labelled n edge nodes at old new begins count
+    → ((v : ℕ) → isIn v (freshOf n old) ≡ true → isIn v nodes ≡ true) → Only n nodes old → Only n nodes new
+labelled-only {nodes = nodes} l whole only v lt o = l .others v (refuted _ (λ t. clash (isIn v nodes) (whole v t) o)) ∙ only v lt o

@@ -1,5 +1,5 @@
 -- The root search: nodes of least degree, the candidates of a root, and the turns of the search.
-use mathlib.Core.Path.{_≡_, refl, sym, ap, _∙_}
+use mathlib.Core.Path.{_≡_, refl, sym, ap, ap₂, _∙_}
 use mathlib.Core.Logic.{_≢_, inl, inr}
 use mathlib.Core.Bool.{Bool, true, false, cond}
 use mathlib.Core.List.{List, [], _∷_, _++_, map, getLastD}
@@ -8,13 +8,13 @@ use native.Mathlib.Omega.{arith}
 use lib.Dec.{eqb, ltb}
 use lib.ListN.{length, getD, take, set, length-map, List·getD-map}
 use lib.Seq.{length-take-le, take-all, getD-take, ext-getD, getD-set-same, getD-set-other}
-use borrow.Author.Tests.{eq-eqb, ne-eqb, lt-ltb, le-ltb}
+use borrow.Author.Tests.{eq-eqb, ne-eqb}
 use Rattle.plan.specs.Lists.{keep, isIn, ascending}
 use Rattle.plan.specs.Mesh.{maxNodes, Mesh, neighboursOf, adjacent}
 use Rattle.plan.specs.Levels.{levels, eccentricity, components}
 use Rattle.plan.specs.Choice.{degreeIn, lesser, leastFrom, leastDegree, candidates, improves, nextRoot, rootFrom, rootOf}
 use Rattle.theory.specs.Checked.{Checked}
-use Rattle.theory.proofs.Bools.{tested, clash, refuted, cond-true, cond-false, eq-or-ne}
+use Rattle.theory.proofs.Bools.{tested, clash, cond-true, cond-false, eq-or-ne}
 use Rattle.theory.proofs.Lists.{isIn-take, of-keep, keep-more, headD-getD, getLastD-getD}
 use Rattle.theory.proofs.AllLists.{all-getD}
 use Rattle.theory.proofs.Flatten.{isIn-flatten-last}
@@ -26,99 +26,89 @@ use Rattle.theory.proofs.RootInside.{leastDegree-isIn}
 use Rattle.mesh.proofs.Lists.{list-long, checked-within}
 use Rattle.dissection.specs.Numbers.{fresh, outside, freshOf, Within, Only, Renumbered, grouped, Labelled}
 use Rattle.dissection.specs.Standing.{Regional, Standing, onlyLevel}
-use Rattle.dissection.specs.Rooted.{none, degreeOf, betterOf, bestOf, Bests, Compared, Rooted, Better}
+use Rattle.dissection.specs.Rooted.{none, betterOf, bestOf, Bests, Compared, Rooted, Better}
 use Rattle.dissection.proofs.Fresh.{fresh-same}
-use Rattle.dissection.proofs.Renumbering.{renumbered-in, renumbered-out}
+use Rattle.dissection.proofs.Renumbering.{renumbered-in, renumbered-out, renumbered-only}
 use Rattle.dissection.proofs.Grouped.{hasNumber, group-at}
+use Rattle.dissection.proofs.Labels.{labelled-only}
 use Rattle.dissection.proofs.Standing.{level-inside, number-level}
 
 -- ---- a node of least degree
 
--- the degree of a node by the starts
-pub degree-is : (m : Mesh) → Checked m → (v : ℕ) → v < m .nodes → getD (m .starts) (v + 1) 0 - getD (m .starts) v 0 ≡ degreeOf m v
-unfolding neighboursOf
-degree-is m h v lt = sym (list-long (m .starts) (m .neighbours) v (checked-within m h v lt))
+-- the degree of a node by the starts, in any region
+pub degree-is : (m : Mesh) → Checked m → (region : List ℕ) (v : ℕ) → v < m .nodes → getD (m .starts) (v + 1) 0 - getD (m .starts) v 0 ≡ degreeIn m region v
+unfolding neighboursOf degreeIn
+degree-is m h region v lt = sym (list-long (m .starts) (m .neighbours) v (checked-within m h v lt))
 
--- the best of v and a list with one more at the end
-least-snoc : (degree : ℕ → ℕ) (v : ℕ) (l : List ℕ) (x : ℕ) → leastFrom degree v (l ++ (x ∷ [])) ≡ lesser degree (leastFrom degree v l) x
-unfolding leastFrom
-least-snoc degree v [] x = refl
-least-snoc degree v (w ∷ l) x = least-snoc degree (lesser degree v w) l x
-
-module _ (m : Mesh) where
-  -- v is better where it has less degree
-  pub better-less : (best v : ℕ) → best ≢ none → degreeOf m v < degreeOf m best → betterOf m best v ≡ v
+module _ (degree : ℕ → ℕ) where
+  -- where a best node has been seen, the degrees are compared
+  pub better-some : (best v : ℕ) → best ≢ none → betterOf degree best v ≡ cond (ltb (degree v) (degree best)) v best
   unfolding lesser
-  better-less best v h lt =
-      cond-false (eqb best none) v (lesser (degreeOf m) best v) (ne-eqb best none h)
-      ∙ cond-true (ltb (degreeOf m v) (degreeOf m best)) v best (lt-ltb (degreeOf m v) (degreeOf m best) lt)
-
-  -- otherwise the best so far stays
-  pub better-stays : (best v : ℕ) → best ≢ none → degreeOf m best ≤ degreeOf m v → betterOf m best v ≡ best
-  unfolding lesser
-  better-stays best v h le =
-      cond-false (eqb best none) v (lesser (degreeOf m) best v) (ne-eqb best none h)
-      ∙ cond-false (ltb (degreeOf m v) (degreeOf m best)) v best (le-ltb (degreeOf m v) (degreeOf m best) le)
+  better-some best v h = cond-false (eqb best none) v (lesser degree best v) (ne-eqb best none h)
 
   -- a node of another group changes nothing
-  pub compared-not : (v : ℕ) (numbers : List ℕ) (count : ℕ) (best : List ℕ) → count ≤ getD numbers v 0 → Compared m v numbers count best best
+  pub compared-not : (v : ℕ) (numbers : List ℕ) (count : ℕ) (best : List ℕ) → count ≤ getD numbers v 0 → Compared degree v numbers count best best
   compared-not v numbers count best h c lt =
-      sym (cond-false (eqb (getD numbers v 0) c) (betterOf m (getD best c 0) v) (getD best c 0) (ne-eqb (getD numbers v 0) c (λ e. omega arith)))
+      sym (cond-false (eqb (getD numbers v 0) c) (betterOf degree (getD best c 0) v) (getD best c 0) (ne-eqb (getD numbers v 0) c (λ e. omega arith)))
 
   -- a node of one of the groups is compared by one store
   pub compared-set : (v : ℕ) (numbers : List ℕ) (count : ℕ) (best : List ℕ) (g : ℕ) → g ≡ getD numbers v 0 → g < length best
-      → Compared m v numbers count best (set best g (betterOf m (getD best g 0) v))
+      → Compared degree v numbers count best (set best g (betterOf degree (getD best g 0) v))
   compared-set v numbers count best g own long c lt = elim (eq-or-ne c g) [
     | inl e ↦ rw e
-        (getD-set-same best g (betterOf m (getD best g 0) v) 0 long
-        ∙ sym (cond-true (eqb (getD numbers v 0) g) (betterOf m (getD best g 0) v) (getD best g 0) (eq-eqb (getD numbers v 0) g (sym own))))
+        (getD-set-same best g (betterOf degree (getD best g 0) v) 0 long
+        ∙ sym (cond-true (eqb (getD numbers v 0) g) (betterOf degree (getD best g 0) v) (getD best g 0) (eq-eqb (getD numbers v 0) g (sym own))))
     | inr e ↦
-        getD-set-other best g c (betterOf m (getD best g 0) v) 0 e
-        ∙ sym (cond-false (eqb (getD numbers v 0) c) (betterOf m (getD best c 0) v) (getD best c 0) (ne-eqb (getD numbers v 0) c (λ f. e (sym f ∙ sym own))))
+        getD-set-other best g c (betterOf degree (getD best g 0) v) 0 e
+        ∙ sym (cond-false (eqb (getD numbers v 0) c) (betterOf degree (getD best c 0) v) (getD best c 0) (ne-eqb (getD numbers v 0) c (λ f. e (sym f ∙ sym own))))
   ]
 
+  -- the least of v and a list with one more at the end
+  least-snoc : (v : ℕ) (l : List ℕ) (x : ℕ) → leastFrom degree v (l ++ (x ∷ [])) ≡ lesser degree (leastFrom degree v l) x
+  unfolding leastFrom
+  least-snoc v [] x = refl
+  least-snoc v (w ∷ l) x = least-snoc (lesser degree v w) l x
+
+  -- in a list that is not empty the best node is the book's
+  best-least : (l : List ℕ) → 0 < length l → bestOf degree l ≡ leastDegree degree l
+  best-least [] h = absurd (omega arith)
+  best-least (v ∷ l) h = refl
+
   -- the best of nodes below n is a node below n, where there is one
-  best-node : (n : ℕ) (l : List ℕ) → ((x : ℕ) → isIn x l ≡ true → x < n) → bestOf m l ≢ none → bestOf m l < n
-  unfolding leastDegree
+  best-node : (n : ℕ) (l : List ℕ) → ((x : ℕ) → isIn x l ≡ true → x < n) → bestOf degree l ≢ none → bestOf degree l < n
   best-node n [] f h = absurd (h refl)
-  best-node n (v ∷ l) f h = f (bestOf m (v ∷ l)) (leastDegree-isIn (degreeOf m) (v ∷ l) (omega arith))
+  best-node n (v ∷ l) f h = f (bestOf degree (v ∷ l)) (leastDegree-isIn degree (v ∷ l) (omega arith))
 
   -- the best of a list with one more at the end
-  best-more : (n : ℕ) (l : List ℕ) (v : ℕ) → ((x : ℕ) → isIn x l ≡ true → x < n) → n ≤ maxNodes → betterOf m (bestOf m l) v ≡ bestOf m (l ++ (v ∷ []))
+  best-more : (n : ℕ) (l : List ℕ) (v : ℕ) → ((x : ℕ) → isIn x l ≡ true → x < n) → n ≤ maxNodes → betterOf degree (bestOf degree l) v ≡ bestOf degree (l ++ (v ∷ []))
   unfolding leastDegree leastFrom
   best-more n [] v f few = refl
   best-more n (w ∷ l) v f few =
-      let lt : bestOf m (w ∷ l) < n = f (bestOf m (w ∷ l)) (leastDegree-isIn (degreeOf m) (w ∷ l) (omega arith)) in
-      cond-false (eqb (bestOf m (w ∷ l)) none) v (lesser (degreeOf m) (bestOf m (w ∷ l)) v) (ne-eqb (bestOf m (w ∷ l)) none (λ e. omega arith))
-      ∙ sym (least-snoc (degreeOf m) w l v)
-
-  -- in a list that is not empty it is the book's
-  best-least : (region l : List ℕ) → 0 < length l → bestOf m l ≡ leastDegree (degreeIn m region) l
-  unfolding leastDegree degreeIn
-  best-least region [] h = absurd (omega arith)
-  best-least region (v ∷ l) h = refl
+      let lt : bestOf degree (w ∷ l) < n = f (bestOf degree (w ∷ l)) (leastDegree-isIn degree (w ∷ l) (omega arith)) in
+      cond-false (eqb (bestOf degree (w ∷ l)) none) v (lesser degree (bestOf degree (w ∷ l)) v) (ne-eqb (bestOf degree (w ∷ l)) none (λ e. omega arith))
+      ∙ sym (least-snoc w l v)
 
 -- the best node of each of the first `count` groups of nodes
-abbrev pub Leading : Mesh → List ℕ → ℕ → List ℕ → List ℕ → Type 0
-Leading m numbers count nodes best = (c : ℕ) → c < count → getD best c 0 ≡ bestOf m (keep (hasNumber numbers c) nodes)
+abbrev pub Leading : (ℕ → ℕ) → List ℕ → ℕ → List ℕ → List ℕ → Type 0
+Leading degree numbers count nodes best = (c : ℕ) → c < count → getD best c 0 ≡ bestOf degree (keep (hasNumber numbers c) nodes)
 
-module _ (m : Mesh) (checked : Checked m) (nodes : List ℕ) (within : Within (m .nodes) nodes) (numbers : List ℕ) (count : ℕ) where
+module _ (n : ℕ) (few : n ≤ maxNodes) (degree : ℕ → ℕ) (nodes : List ℕ) (within : Within n nodes) (numbers : List ℕ) (count : ℕ) where
   -- the nodes of a group among the first i are below n
-  first-inside : (i c x : ℕ) → isIn x (keep (hasNumber numbers c) (take i nodes)) ≡ true → x < m .nodes
+  first-inside : (i c x : ℕ) → isIn x (keep (hasNumber numbers c) (take i nodes)) ≡ true → x < n
   first-inside i c x t = within .inside x (isIn-take x i nodes (of-keep (hasNumber numbers c) (take i nodes) x t .0))
 
   -- the best of each group among the first i is a node or none
-  pub leading-bests : (i : ℕ) (best : List ℕ) → Leading m numbers count (take i nodes) best → Bests (m .nodes) count best
-  leading-bests i best h c lt some = rw (h c lt) (best-node m (m .nodes) (keep (hasNumber numbers c) (take i nodes)) (first-inside i c) (rw (h c lt) at some))
+  pub leading-bests : (i : ℕ) (best : List ℕ) → Leading degree numbers count (take i nodes) best → Bests n count best
+  leading-bests i best h c lt some = rw (h c lt) (best-node degree n (keep (hasNumber numbers c) (take i nodes)) (first-inside i c) (rw (h c lt) at some))
 
   -- one more node is compared
-  pub leading-more : (i : ℕ) (best new : List ℕ) → i < length nodes → Leading m numbers count (take i nodes) best
-      → Compared m (getD nodes i 0) numbers count best new → Leading m numbers count (take (i + 1) nodes) new
+  pub leading-more : (i : ℕ) (best new : List ℕ) → i < length nodes → Leading degree numbers count (take i nodes) best
+      → Compared degree (getD nodes i 0) numbers count best new → Leading degree numbers count (take (i + 1) nodes) new
   leading-more i best new lt h compared c less =
       compared c less
-      ∙ ap (λ (b : ℕ). cond (hasNumber numbers c v) (betterOf m b v) b) (h c less)
+      ∙ ap (λ (b : ℕ). cond (hasNumber numbers c v) (betterOf degree b v) b) (h c less)
       ∙ go (hasNumber numbers c v)
-      ∙ ap (bestOf m) (sym (keep-more (hasNumber numbers c) nodes i lt))
+      ∙ ap (bestOf degree) (sym (keep-more (hasNumber numbers c) nodes i lt))
     where
       v : ℕ
       v = getD nodes i 0
@@ -126,17 +116,25 @@ module _ (m : Mesh) (checked : Checked m) (nodes : List ℕ) (within : Within (m
       passed : ℕ → List ℕ
       passed c = keep (hasNumber numbers c) (take i nodes)
 
-      go : (b : Bool) → cond b (betterOf m (bestOf m (passed c)) v) (bestOf m (passed c)) ≡ bestOf m (cond b (passed c ++ (v ∷ [])) (passed c))
-      go true = best-more m (m .nodes) (passed c) v (first-inside i c) (checked .few)
+      go : (b : Bool) → cond b (betterOf degree (bestOf degree (passed c)) v) (bestOf degree (passed c)) ≡ bestOf degree (cond b (passed c ++ (v ∷ [])) (passed c))
+      go true = best-more degree n (passed c) v (first-inside i c) few
       go false = refl
 
   -- all are compared
-  pub leading-all : (i : ℕ) (best : List ℕ) → length nodes ≤ i → Leading m numbers count (take i nodes) best
-      → (c : ℕ) → c < count → getD best c 0 ≡ bestOf m (getD (grouped count numbers nodes) c [])
+  pub leading-all : (i : ℕ) (best : List ℕ) → length nodes ≤ i → Leading degree numbers count (take i nodes) best
+      → (c : ℕ) → c < count → getD best c 0 ≡ bestOf degree (getD (grouped count numbers nodes) c [])
   leading-all i best le h c lt =
-      h c lt ∙ ap (λ (l : List ℕ). bestOf m (keep (hasNumber numbers c) l)) (take-all i nodes le) ∙ ap (bestOf m) (sym (group-at count numbers nodes c lt))
+      h c lt ∙ ap (λ (l : List ℕ). bestOf degree (keep (hasNumber numbers c) l)) (take-all i nodes le) ∙ ap (bestOf degree) (sym (group-at count numbers nodes c lt))
 
 -- ---- the candidates of a root
+
+-- once only one level stays, no node of the region has a number below n
+pub level-high : (last n : ℕ) (nodes old new : List ℕ) → n ≤ 4096 → Renumbered (onlyLevel last) nodes old new → (v : ℕ) → isIn v nodes ≡ true → n ≤ getD new v 0
+level-high last n nodes old new h r v t = rw (renumbered-in (onlyLevel last) nodes old new r v t) (go (eqb (getD old v 0) last))
+  where
+    go : (b : Bool) → n ≤ cond b fresh outside
+    go true = omega arith
+    go false = omega arith
 
 module _ (m : Mesh) (nodes : List ℕ) {numbers queue : List ℕ} {root last : ℕ} (h : Regional m nodes numbers queue) (rooted : Rooted m nodes root last) where
   -- the levels
@@ -225,13 +223,11 @@ module _ (m : Mesh) (nodes : List ℕ) {numbers queue : List ℕ} {root last : �
         many = sym (labelled .many ∙ ap (λ (l : List ℕ). length (components (adjacent m) l)) last-fresh)
 
         -- the other nodes stay outside
-        pub labelled-only : Only (m .nodes) nodes new
-        labelled-only v lt o =
-            labelled .others v (refuted _ (λ t. clash (isIn v nodes) (fresh-inside v t) o))
-            ∙ renumbered-out (onlyLevel last) nodes numbers kept renumbered v o ∙ h .only v lt o
+        pub candidates-only : Only (m .nodes) nodes new
+        candidates-only = labelled-only labelled fresh-inside (renumbered-only (m .nodes) (onlyLevel last) nodes numbers kept renumbered (h .only))
 
         -- the best nodes of the groups are the candidates
-        pub candidates-found : (found : List ℕ) → count ≤ length found → ((c : ℕ) → c < count → getD found c 0 ≡ bestOf m (getD (grouped count new nodes) c []))
+        pub candidates-found : (found : List ℕ) → count ≤ length found → ((c : ℕ) → c < count → getD found c 0 ≡ bestOf (degreeIn m nodes) (getD (grouped count new nodes) c []))
             → take count found ≡ candidates m nodes root
         unfolding candidates leastDegree
         candidates-found found long best =
@@ -247,8 +243,8 @@ module _ (m : Mesh) (nodes : List ℕ) {numbers queue : List ℕ} {root last : �
             each i lt =
                 getD-take count found i 0 lt
                 ∙ best i lt
-                ∙ ap (λ (gs : List (List ℕ)). bestOf m (getD gs i [])) groups
-                ∙ best-least m nodes (getD cs i []) (all-getD (λ c. 0 < length c) cs (components-some (adjacent m) (getLastD ls [])) i (omega (arith, many)))
+                ∙ ap (λ (gs : List (List ℕ)). bestOf (degreeIn m nodes) (getD gs i [])) groups
+                ∙ best-least (degreeIn m nodes) (getD cs i []) (all-getD (λ c. 0 < length c) cs (components-some (adjacent m) (getLastD ls [])) i (omega (arith, many)))
                 ∙ sym (List·getD-map least cs i [])
 
 -- ---- the root search
@@ -274,15 +270,10 @@ module _ (m : Mesh) (nodes : List ℕ) where
   pub better-same : {root last : ℕ} {numbers : List ℕ} → Rooted m nodes root last → Only (m .nodes) nodes numbers → Better m nodes last root last numbers
   better-same rooted only = record { rooted = rooted; only = only; standing = λ lt. absurd (omega arith) }
 
-  -- a candidate improves where the number of its last level is greater
-  pub improves-more : {root x a b : ℕ} → Rooted m nodes root a → Rooted m nodes x b → a < b → improves m nodes root x ≡ true
+  -- whether a candidate improves is told by the numbers of the last levels
+  pub improves-is : {root x a b : ℕ} → Rooted m nodes root a → Rooted m nodes x b → improves m nodes root x ≡ ltb a b
   unfolding improves
-  improves-more {root} {x} h k lt = lt-ltb (eccentricity (adjacent m) nodes root) (eccentricity (adjacent m) nodes x) (omega (arith, h .far, k .far))
-
-  -- and not where it is not
-  pub improves-not : {root x a b : ℕ} → Rooted m nodes root a → Rooted m nodes x b → b ≤ a → improves m nodes root x ≡ false
-  unfolding improves
-  improves-not {root} {x} h k le = le-ltb (eccentricity (adjacent m) nodes root) (eccentricity (adjacent m) nodes x) (omega (arith, h .far, k .far))
+  improves-is h k = sym (ap₂ ltb (h .far) (k .far))
 
   -- what the search finds from a root, in more turns than are needed
   abbrev pub foundFrom : ℕ → ℕ
@@ -306,11 +297,3 @@ module _ (m : Mesh) (nodes : List ℕ) where
     | inl s ↦ e ∙ s ∙ sym (turn-ends m nodes (length nodes) root (eq-eqb _ _ s))
     | inr lt ↦ absurd (omega (arith, h .far, k .far, ap (eccentricity (adjacent m) nodes) e, lt))
   ]
-
--- once only one level stays, no node of the region has a number below n
-pub level-high : (last n : ℕ) (nodes old new : List ℕ) → n ≤ 4096 → Renumbered (onlyLevel last) nodes old new → (v : ℕ) → isIn v nodes ≡ true → n ≤ getD new v 0
-level-high last n nodes old new h r v t = rw (renumbered-in (onlyLevel last) nodes old new r v t) (go (eqb (getD old v 0) last))
-  where
-    go : (b : Bool) → n ≤ cond b fresh outside
-    go true = omega arith
-    go false = omega arith

@@ -34,9 +34,13 @@ pub record Numbered (lists : List (List ℕ)) (old new : List ℕ) : Type 0 wher
   pub own : (j v : ℕ) → isIn v (getD lists j []) ≡ true → getD new v 0 ≡ j
   pub others : (v : ℕ) → isIn v (flatten lists) ≡ false → getD new v 0 ≡ getD old v 0
 
+-- each node v of a list has the number `number v`, every other node the number that it had
+abbrev pub NumberedBy : (ℕ → ℕ) → List ℕ → List ℕ → List ℕ → Type 0
+NumberedBy number nodes old new = (v : ℕ) → getD new v 0 ≡ cond (isIn v nodes) (number v) (getD old v 0)
+
 -- each node of a list has the number that f makes of its old one, every other node the number that it had
 abbrev pub Renumbered : (ℕ → ℕ) → List ℕ → List ℕ → List ℕ → Type 0
-Renumbered f nodes old new = (v : ℕ) → getD new v 0 ≡ cond (isIn v nodes) (f (getD old v 0)) (getD old v 0)
+Renumbered f nodes old new = NumberedBy (λ v. f (getD old v 0)) nodes old new
 
 -- nodes by their numbers: those with number 0, those with number 1, .., `count` lists in all, each in the order of the nodes
 abbrev pub grouped : ℕ → List ℕ → List ℕ → List (List ℕ)
@@ -68,14 +72,16 @@ pub record Skipped (v : ℕ) (old new begins₀ begins₁ : List ℕ) (count aft
   pub begins : begins₁ ≡ begins₀
   pub total : after ≡ count
 
--- What it leaves where v is fresh: each node of v's component in the fresh nodes has the number `count`, every other node the number that it had, and the place behind the component is noted.
+-- What it leaves where v is fresh: each node of v's component in the fresh nodes has the number `count`, every other node the number that it had,
+-- and the place behind the component is noted.
 pub record Taken (n : ℕ) (edge : Graph) (v : ℕ) (old new begins₀ begins₁ : List ℕ) (count after : ℕ) : Type 0 where
   pub unreached : getD old v 0 ≡ fresh
   pub numbers : Renumbered (λ _. count) (component edge (freshOf n old) v) old new
   pub begins : begins₁ ≡ set begins₀ (count + 1) (getD begins₀ count 0 + length (component edge (freshOf n old) v))
   pub total : after ≡ count + 1
 
--- What labelling leaves: each node of component c of the fresh nodes has number c, and the components begin where they are to stand. The nodes that were not fresh have the numbers that they had.
+-- What labelling leaves: each node of component c of the fresh nodes has number c, and the components begin where they are to stand.
+-- The nodes that were not fresh have the numbers that they had.
 pub record Labelled (n : ℕ) (edge : Graph) (nodes : List ℕ) (at : ℕ) (old new begins : List ℕ) (count : ℕ) : Type 0 where
   pub groups : grouped count new nodes ≡ components edge (freshOf n old)
   pub begin : Begins at (components edge (freshOf n old)) begins

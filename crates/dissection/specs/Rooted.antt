@@ -5,11 +5,11 @@ use mathlib.Core.Bool.{cond, true}
 use mathlib.Core.List.{List, [], _∷_}
 use Prim.Native.Nat.{ℕ, _<_}
 use lib.Dec.{eqb}
-use lib.ListN.{length, getD}
+use lib.ListN.{getD}
 use Rattle.plan.specs.Lists.{isIn}
-use Rattle.plan.specs.Mesh.{Mesh, neighboursOf, adjacent}
+use Rattle.plan.specs.Mesh.{Mesh, adjacent}
 use Rattle.plan.specs.Levels.{eccentricity}
-use Rattle.plan.specs.Choice.{lesser, leastFrom, candidates}
+use Rattle.plan.specs.Choice.{lesser, leastDegree}
 use Rattle.dissection.specs.Numbers.{Only}
 use Rattle.dissection.specs.Standing.{Standing}
 
@@ -17,31 +17,23 @@ use Rattle.dissection.specs.Standing.{Standing}
 abbrev pub none : ℕ
 none = 65535
 
--- the degree of a node
-abbrev pub degreeOf : Mesh → ℕ → ℕ
-degreeOf m v = length (neighboursOf m v)
+-- the better of the best node seen so far and v: the book's `lesser`, or v where none was seen yet
+abbrev pub betterOf : (ℕ → ℕ) → ℕ → ℕ → ℕ
+betterOf degree best v = cond (eqb best none) v (lesser degree best v)
 
--- the best of the nodes seen so far and v
-abbrev pub betterOf : Mesh → ℕ → ℕ → ℕ
-betterOf m best v = cond (eqb best none) v (lesser (degreeOf m) best v)
-
--- a node of least degree, the first on a tie; none in an empty list
-abbrev pub bestOf : Mesh → List ℕ → ℕ
-bestOf m [] = none
-bestOf m (v ∷ vs) = leastFrom (degreeOf m) v vs
+-- the book's node of least degree; none in an empty list
+abbrev pub bestOf : (ℕ → ℕ) → List ℕ → ℕ
+bestOf degree [] = none
+bestOf degree (v ∷ vs) = leastDegree degree (v ∷ vs)
 
 -- the best of each of the first `count` groups is a node, or none
 abbrev pub Bests : ℕ → ℕ → List ℕ → Type 0
 Bests n count best = (c : ℕ) → c < count → getD best c 0 ≢ none → getD best c 0 < n
 
 -- of the first `count` groups that of v has the best of what it had and v, the others what they had
-abbrev pub Compared : Mesh → ℕ → List ℕ → ℕ → List ℕ → List ℕ → Type 0
-Compared m v numbers count old new =
-    (c : ℕ) → c < count → getD new c 0 ≡ cond (eqb (getD numbers v 0) c) (betterOf m (getD old c 0) v) (getD old c 0)
-
--- the book's candidates
-abbrev pub candidatesOf : Mesh → List ℕ → ℕ → List ℕ
-candidatesOf m nodes root = candidates m nodes root
+abbrev pub Compared : (ℕ → ℕ) → ℕ → List ℕ → ℕ → List ℕ → List ℕ → Type 0
+Compared degree v numbers count old new =
+    (c : ℕ) → c < count → getD new c 0 ≡ cond (eqb (getD numbers v 0) c) (betterOf degree (getD old c 0) v) (getD old c 0)
 
 -- a root of the region, and the number of its last level
 pub record Rooted (m : Mesh) (nodes : List ℕ) (root last : ℕ) : Type 0 where

@@ -32,12 +32,12 @@ abbrev pub onlyLevel : ℕ → ℕ → ℕ
 onlyLevel last x = cond (eqb x last) fresh outside
 
 -- the number of a node once those that were not left out are fresh
-abbrev pub opened : ℕ → ℕ
-opened x = cond (eqb x outside) outside fresh
+abbrev pub restFresh : ℕ → ℕ
+restFresh x = cond (eqb x outside) outside fresh
 
 -- the number of a node once those that were left out have number k
-abbrev pub closed : ℕ → ℕ → ℕ
-closed k x = cond (eqb x outside) k x
+abbrev pub partNumbered : ℕ → ℕ → ℕ
+partNumbered k x = cond (eqb x outside) k x
 
 -- whether v has number j and a neighbour with number j + 1
 abbrev pub separatesAt : Mesh → ℕ → List ℕ → ℕ → Bool

@@ -7,21 +7,21 @@ use crate::root::search;
 use mesh::list;
 use mesh::node;
 ghost use mathlib.Core.Path.{_≡_};
-ghost use mathlib.Core.Bool.{true, false, cond, _&&_};
-ghost use Prim.Native.Nat.{ℕ, _+_, _≤_, _<_};
+ghost use mathlib.Core.Bool.{cond};
+ghost use Prim.Native.Nat.{_≤_, _<_};
 ghost use lib.Dec.{eqb};
 ghost use lib.ListN.{length, getD};
-ghost use Rattle.plan.specs.Lists.{exists, isIn};
+ghost use Rattle.plan.specs.Lists.{exists};
 ghost use Rattle.plan.specs.Mesh.{neighboursOf};
 ghost use Rattle.plan.specs.Choice.{rootOf};
 ghost use Rattle.theory.specs.Checked.{Checked};
 ghost use Rattle.mesh.specs.Lent.{lent};
-ghost use Rattle.dissection.specs.Numbers.{outside, Within, Renumbered};
-ghost use Rattle.dissection.specs.Standing.{Regional, Standing, opened, closed, separatesAt, Parted, Divided};
+ghost use Rattle.dissection.specs.Numbers.{outside, Within, NumberedBy, Renumbered};
+ghost use Rattle.dissection.specs.Standing.{Regional, Standing, restFresh, partNumbered, separatesAt, Parted, Divided};
 ghost use Rattle.dissection.specs.Rooted.{Rooted};
 
-// Whether node v has a neighbour with number x. O(degree).
-fn borders(n: usize, starts: &[u32], neighbours: &[u16], v: usize, x: u16, numbers: &[u16]) -> bool
+// Whether node v has a neighbour with number x. n is for the contract alone. O(degree).
+fn next_to(n: usize, starts: &[u32], neighbours: &[u16], v: usize, x: u16, numbers: &[u16]) -> bool
     requires { ⌜ Checked (lent n (now starts) (now neighbours)) × (v < n) × (n ≤ length (now numbers)) ⌝ }
     ensures { λ r. ⌜ r ≡ exists (λ w. eqb (getD (now (numbers .entry)) w 0) x) (neighboursOf (lent n (now (starts .entry)) (now (neighbours .entry))) v) ⌝ }
 {
@@ -49,7 +49,7 @@ fn separates(
     if numbers[v] != j {
         return false;
     }
-    borders(n, starts, neighbours, v, j + 1, numbers)
+    next_to(n, starts, neighbours, v, j + 1, numbers)
 }
 
 // The number of node v where the separator has been left out. O(degree).
@@ -63,7 +63,8 @@ fn separated(n: usize, starts: &[u32], neighbours: &[u16], v: usize, j: u16, num
     numbers[v]
 }
 
-// The nodes of the separator, those of level j that have a neighbour in level j + 1, are left out. In place: a number that changes is j, and only j and j + 1 are looked for. O(length + entries of level j).
+// The nodes of the separator, those of level j that have a neighbour in level j + 1, are left out. In place: a number that changes is j,
+// and only j and j + 1 are looked for. O(length + entries of level j).
 fn separate(
     n: usize,
     starts: &[u32],
@@ -73,7 +74,7 @@ fn separate(
     numbers: &mut [u16],
 )
     requires { ⌜ Checked (lent n (now starts) (now neighbours)) × Within n (now nodes) × (n ≤ length (now numbers)) × (j < n) ⌝ }
-    ensures { λ _. ⌜ ((v : ℕ) → getD (now (numbers .exit)) v 0 ≡ cond (isIn v (now (nodes .entry)) && separatesAt (lent n (now (starts .entry)) (now (neighbours .entry))) j (now (numbers .entry)) v) outside (getD (now (numbers .entry)) v 0)) ⌝ }
+    ensures { λ _. ⌜ NumberedBy (λ v. cond (separatesAt (lent n (now (starts .entry)) (now (neighbours .entry))) j (now (numbers .entry)) v) outside (getD (now (numbers .entry)) v 0)) (now (nodes .entry)) (now (numbers .entry)) (now (numbers .exit)) ⌝ }
 {
     for i in 0..nodes.len() {
         let v = node(nodes[i]);
@@ -81,9 +82,9 @@ fn separate(
     }
 }
 
-// The number of a node that is to be divided further: fresh unless it was left out. O(1).
-fn open_one(x: u16) -> u16
-    ensures { λ r. ⌜ r ≡ opened x ⌝ }
+// The number of a node once the nodes that were not left out are fresh. O(1).
+fn rest_fresh(x: u16) -> u16
+    ensures { λ r. ⌜ r ≡ restFresh x ⌝ }
 {
     if x == OUTSIDE {
         return OUTSIDE;
@@ -92,19 +93,19 @@ fn open_one(x: u16) -> u16
 }
 
 // The nodes that were not left out become fresh. O(length).
-fn open(nodes: &[u16], numbers: &mut [u16])
+fn refresh_rest(nodes: &[u16], numbers: &mut [u16])
     requires { ⌜ Within (length (now numbers)) (now nodes) ⌝ }
-    ensures { λ _. ⌜ Renumbered opened (now (nodes .entry)) (now (numbers .entry)) (now (numbers .exit)) ⌝ }
+    ensures { λ _. ⌜ Renumbered restFresh (now (nodes .entry)) (now (numbers .entry)) (now (numbers .exit)) ⌝ }
 {
     for i in 0..nodes.len() {
         let v = node(nodes[i]);
-        numbers[v] = open_one(numbers[v]);
+        numbers[v] = rest_fresh(numbers[v]);
     }
 }
 
-// The number of a node where those left out get number k. O(1).
-fn close_one(k: u16, x: u16) -> u16
-    ensures { λ r. ⌜ r ≡ closed k x ⌝ }
+// The number of a node once the part, the nodes that were left out, has number k. O(1).
+fn part_numbered(k: u16, x: u16) -> u16
+    ensures { λ r. ⌜ r ≡ partNumbered k x ⌝ }
 {
     if x == OUTSIDE {
         return k;
@@ -112,18 +113,19 @@ fn close_one(k: u16, x: u16) -> u16
     x
 }
 
-// The nodes that were left out get number k. O(length).
-fn close(nodes: &[u16], k: u16, numbers: &mut [u16])
+// The nodes that were left out, those of the part, get number k. O(length).
+fn number_part(nodes: &[u16], k: u16, numbers: &mut [u16])
     requires { ⌜ Within (length (now numbers)) (now nodes) ⌝ }
-    ensures { λ _. ⌜ Renumbered (closed k) (now (nodes .entry)) (now (numbers .entry)) (now (numbers .exit)) ⌝ }
+    ensures { λ _. ⌜ Renumbered (partNumbered k) (now (nodes .entry)) (now (numbers .entry)) (now (numbers .exit)) ⌝ }
 {
     for i in 0..nodes.len() {
         let v = node(nodes[i]);
-        numbers[v] = close_one(k, numbers[v]);
+        numbers[v] = part_numbered(k, numbers[v]);
     }
 }
 
-// A region's part is left out and its other nodes become fresh, by the levels that stand in the numbers. "If ℓ is 0 or 1 the whole region is one part". O(length + entries of the cut level).
+// A region's part is left out and its other nodes become fresh, by the levels that stand in the numbers.
+// "If ℓ is 0 or 1 the whole region is one part". O(length + entries of the cut level).
 fn choose(
     n: usize,
     starts: &[u32],
@@ -141,11 +143,11 @@ fn choose(
         return;
     }
     separate(n, starts, neighbours, nodes, (last + 1) / 2, numbers);
-    open(nodes, numbers);
+    refresh_rest(nodes, numbers);
 }
 
-// A region divided: the nodes of the regions left get the numbers 0, 1, .. of their regions, by smallest node, and those of the part the number behind them, which is returned.
-// O(candidates tried · entries of the region).
+// A region divided: the nodes of the regions left get the numbers 0, 1, .. of their regions, by smallest node, and those of the part the number
+// behind them, which is returned. O(candidates tried · entries of the region).
 pub fn divide(
     n: usize,
     starts: &[u32],
@@ -162,6 +164,6 @@ pub fn divide(
     let last = search(n, starts, neighbours, nodes, numbers, queue, begins);
     choose(n, starts, neighbours, nodes, last, numbers);
     let count = label(n, starts, neighbours, nodes, at, numbers, queue, begins);
-    close(nodes, count as u16, numbers);
+    number_part(nodes, count as u16, numbers);
     count
 }

@@ -1,10 +1,11 @@
-// Levels from a root and connected components, over lent arrays. Each node has a number: `FRESH` in the set at hand while it is not reached; any other number keeps a walk out.
+// Levels from a root and connected components, over lent arrays. Each node has a number: `FRESH` in the set at hand while it is not reached;
+// any other number keeps a walk out.
 use mesh::list;
 use mesh::node;
 ghost use mathlib.Core.Path.{_≡_};
 ghost use mathlib.Core.Logic.{_⊎_};
 ghost use mathlib.Core.Bool.{true};
-ghost use Prim.Native.Nat.{ℕ, _+_, _-_, _≤_, _<_};
+ghost use Prim.Native.Nat.{ℕ, _+_, _≤_, _<_};
 ghost use lib.Dec.{eqb};
 ghost use lib.ListN.{length, getD};
 ghost use Rattle.plan.specs.Lists.{exists, isIn, segment};
@@ -19,7 +20,7 @@ pub const FRESH: u16 = 65535;
 // the number of a node that is not in it
 pub const OUTSIDE: u16 = 65534;
 
-// One entry: node w gets number x and a place in the queue if it is fresh. O(1).
+// One entry: node w gets number x and a place in the queue if it is fresh. The queue's new end is returned. n is for the contract alone. O(1).
 fn touch(n: usize, w: u16, x: u16, numbers: &mut [u16], queue: &mut [u16], tail: usize) -> usize
     requires { ⌜ (w < n) × (x < fresh) × Room n (now numbers) (now queue) tail ⌝ }
     ensures { λ r. ⌜ Spread n x tail (now (numbers .entry)) (now (queue .entry)) (λ v. eqb v w) (now (numbers .exit)) (now (queue .exit)) r ⌝ }
@@ -33,7 +34,7 @@ fn touch(n: usize, w: u16, x: u16, numbers: &mut [u16], queue: &mut [u16], tail:
     tail + 1
 }
 
-// The list of node u: each entry is touched. O(degree).
+// The list of node u: each entry is touched, and the queue's new end is returned. O(degree).
 fn visit(
     n: usize,
     starts: &[u32],
@@ -55,7 +56,8 @@ fn visit(
     end
 }
 
-// The lists of the nodes that stand in the queue from place lo up to, not including, hi. O(their entries).
+// The lists of the nodes that stand in the queue from place lo up to, not including, hi, are visited. The queue's new end is returned.
+// O(their entries).
 fn advance(
     n: usize,
     starts: &[u32],
@@ -132,7 +134,8 @@ pub fn fill(nodes: &[u16], x: u16, numbers: &mut [u16])
     }
 }
 
-// The component of node v, where v is fresh: its nodes get the number `count`, and the place behind them is noted. O(entries of the nodes reached).
+// The component of node v, where v is fresh: its nodes get the number `count`, and the place behind them is noted. The number of components
+// so far is returned. O(entries of the nodes reached).
 fn component(
     n: usize,
     starts: &[u32],
@@ -157,8 +160,9 @@ fn component(
     count + 1
 }
 
-// The connected components of the fresh nodes, which all stand in a list whose other nodes have numbers from n on: those of component c get number c, the components being counted by their smallest nodes. Where they begin, standing one
-// after the other from place `at`, is noted. O(length + entries of the nodes reached).
+// The connected components of the fresh nodes, which all stand in a list whose other nodes have numbers from n on: those of component c get
+// number c, the components being counted by their smallest nodes. Where they begin, standing one after the other from place `at`, is noted,
+// and their number is returned. O(length + entries of the nodes reached).
 pub fn label(
     n: usize,
     starts: &[u32],

@@ -8,22 +8,21 @@ use mesh::node;
 ghost use mathlib.Core.Path.{_≡_};
 ghost use mathlib.Core.Bool.{true};
 ghost use mathlib.Core.Logic.{_≢_};
-ghost use mathlib.Core.List.{[], headD};
+ghost use mathlib.Core.List.{List, [], headD};
 ghost use Prim.Native.Nat.{ℕ, _≤_, _<_};
 ghost use lib.ListN.{length, take, getD};
 ghost use Rattle.plan.specs.Lists.{isIn, keep};
-ghost use Rattle.plan.specs.Mesh.{neighboursOf};
-ghost use Rattle.plan.specs.Choice.{improves, nextRoot, rootOf};
+ghost use Rattle.plan.specs.Choice.{degreeIn, candidates as candidatesOf, improves, nextRoot, rootOf};
 ghost use Rattle.theory.specs.Checked.{Checked};
 ghost use Rattle.mesh.specs.Lent.{lent};
 ghost use Rattle.dissection.specs.Numbers.{Within, Only, Renumbered, grouped};
 ghost use Rattle.dissection.specs.Standing.{Regional, Standing, onlyLevel};
-ghost use Rattle.dissection.specs.Rooted.{none, betterOf, bestOf, Bests, Compared, candidatesOf, Rooted, Better};
+ghost use Rattle.dissection.specs.Rooted.{none, betterOf, bestOf, Bests, Compared, Rooted, Better};
 
 // no node
 const NONE: u16 = 65535;
 
-// The number of a node after all but one level are left out. O(1).
+// The number of a node once only level `last` stays: fresh in it, outside elsewhere. O(1).
 fn only_level(last: u16, x: u16) -> u16
     ensures { λ r. ⌜ r ≡ onlyLevel last x ⌝ }
 {
@@ -44,19 +43,19 @@ fn keep_level(nodes: &[u16], last: u16, numbers: &mut [u16])
     }
 }
 
-// The degree of node v: the length of its list. O(1).
+// The degree of node v, in any region: the length of its list. n and neighbours are for the contract alone. O(1).
 fn degree(n: usize, starts: &[u32], neighbours: &[u16], v: u16) -> u32
     requires { ⌜ Checked (lent n (now starts) (now neighbours)) × (v < n) ⌝ }
-    ensures { λ r. ⌜ r ≡ length (neighboursOf (lent n (now (starts .entry)) (now (neighbours .entry))) v) ⌝ }
+    ensures { λ r. ⌜ ((region : List ℕ) → r ≡ degreeIn (lent n (now (starts .entry)) (now (neighbours .entry))) region v) ⌝ }
 {
     let u = node(v);
     starts[u + 1] - starts[u]
 }
 
-// The best of the nodes seen so far and v: the one of less degree, the one seen before on a tie. O(1).
-fn lesser_of(n: usize, starts: &[u32], neighbours: &[u16], best: u16, v: u16) -> u16
+// The better of the best node seen so far and v: the one of less degree, the one seen before on a tie; v where none was seen yet. O(1).
+fn better_of(n: usize, starts: &[u32], neighbours: &[u16], best: u16, v: u16) -> u16
     requires { ⌜ Checked (lent n (now starts) (now neighbours)) × (v < n) × (best ≢ none → best < n) ⌝ }
-    ensures { λ r. ⌜ r ≡ betterOf (lent n (now (starts .entry)) (now (neighbours .entry))) best v ⌝ }
+    ensures { λ r. ⌜ ((region : List ℕ) → r ≡ betterOf (degreeIn (lent n (now (starts .entry)) (now (neighbours .entry))) region) best v) ⌝ }
 {
     if best == NONE {
         return v;
@@ -78,13 +77,13 @@ fn compare(
     best: &mut [u16],
 )
     requires { ⌜ Checked (lent n (now starts) (now neighbours)) × (v < n) × (n ≤ length (now numbers)) × (count ≤ length (now best)) × Bests n count (now best) ⌝ }
-    ensures { λ _. ⌜ Compared (lent n (now (starts .entry)) (now (neighbours .entry))) v (now (numbers .entry)) count (now (best .entry)) (now (best .exit)) ⌝ }
+    ensures { λ _. ⌜ ((region : List ℕ) → Compared (degreeIn (lent n (now (starts .entry)) (now (neighbours .entry))) region) v (now (numbers .entry)) count (now (best .entry)) (now (best .exit))) ⌝ }
 {
     let c = node(numbers[node(v)]);
     if c >= count {
         return;
     }
-    best[c] = lesser_of(n, starts, neighbours, best[c], v);
+    best[c] = better_of(n, starts, neighbours, best[c], v);
 }
 
 // No group has a best node yet. O(count).
@@ -108,7 +107,7 @@ fn least(
     best: &mut [u16],
 )
     requires { ⌜ Checked (lent n (now starts) (now neighbours)) × Within n (now nodes) × (n ≤ length (now numbers)) × (count ≤ length (now best)) ⌝ }
-    ensures { λ _. ⌜ ((c : ℕ) → c < count → getD (now (best .exit)) c 0 ≡ bestOf (lent n (now (starts .entry)) (now (neighbours .entry))) (getD (grouped count (now (numbers .entry)) (now (nodes .entry))) c [])) ⌝ }
+    ensures { λ _. ⌜ ((c : ℕ) → c < count → getD (now (best .exit)) c 0 ≡ bestOf (degreeIn (lent n (now (starts .entry)) (now (neighbours .entry))) (now (nodes .entry))) (getD (grouped count (now (numbers .entry)) (now (nodes .entry))) c [])) ⌝ }
 {
     clear(count, best);
     for i in 0..nodes.len() {
@@ -122,8 +121,8 @@ pub struct Root {
     pub last: u16,
 }
 
-// The candidates of a root whose levels stand in the numbers: of each component of its last level a node of least degree. `found` has the places where the components begin until the
-// candidates are written over them. O(length + entries of the last level).
+// The candidates of a root whose levels stand in the numbers: of each component of its last level a node of least degree. Their number is returned.
+// `found` has the places where the components begin until the candidates are written over them. O(length + entries of the last level).
 fn candidates(
     n: usize,
     starts: &[u32],
@@ -144,7 +143,8 @@ fn candidates(
     count
 }
 
-// The levels from node r: they stand in the numbers, and the number of the last one is returned. O(length + entries of the region).
+// The levels from node r, which then stand in the numbers. Returned is the root r with the number of its last level.
+// O(length + entries of the region).
 fn levels_from(
     n: usize,
     starts: &[u32],
@@ -163,7 +163,8 @@ fn levels_from(
     Root { node: r, last }
 }
 
-// The first of the candidates whose last level has a greater number than the root's, whose levels then stand in the numbers; the root where there is none. O(candidates · entries of the region).
+// The first of the candidates whose last level has a greater number than the root's, whose levels then stand in the numbers; the root where there
+// is none. O(candidates · entries of the region).
 fn first_better(
     n: usize,
     starts: &[u32],
@@ -217,7 +218,8 @@ fn improve(
     )
 }
 
-// The number of the last level from the region's pseudo-peripheral root, whose levels then stand in the numbers. Each turn of the search has more levels than the one before. O(candidates tried · entries of the region).
+// The number of the last level from the region's pseudo-peripheral root, whose levels then stand in the numbers. Each turn of the search has
+// more levels than the one before. O(candidates tried · entries of the region).
 pub fn search(
     n: usize,
     starts: &[u32],

@@ -40,8 +40,8 @@ separate-requires c κs =
     let lt = c .before .if1 .left in
     (s .pre .0 .0, s .pre .0 .1, s .pre .0 .2, omega arith)
 
-open-requires : tie.Need-open-requires
-open-requires c κs =
+refresh-rest-requires : tie.Need-refresh-rest-requires
+refresh-rest-requires c κs =
     let s = c .before .before .before .before .before .before .before .before .before .before in
     record { ascends = s .pre .0 .1 .ascends; inside = λ v h. let lt = s .pre .0 .1 .inside v h in search needs }
 
@@ -50,7 +50,7 @@ returns-2 c =
     let e = c .before .before .before .before .before .before .before .before in
     let s = e .before .before .before .before .before in
     let p = c .before .before .before .before .before .before .separate in
-    parted-cut (mesh s) (s .args .nodes .now) (s .pre .0 .1) (s .args .last) (s .pre .1 .0) (s .args .numbers .now) (s .pre .1 .1) (s .pre .0 .0) (omega (arith, e .if1 .left)) (p .last .1 .1 .1 .1 .1 .0) _ (p .ensures) (c .before .before .«open» .ensures)
+    parted-cut (mesh s) (s .args .nodes .now) (s .pre .0 .1) (s .args .last) (s .pre .1 .0) (s .args .numbers .now) (s .pre .1 .1) (s .pre .0 .0) (omega (arith, e .if1 .left)) (p .last .1 .1 .1 .1 .1 .0) _ (p .ensures) (c .before .before .refresh-rest .ensures)
 
 pub choose-spec : {M : Type 1} → statement M
 choose-spec =
@@ -61,6 +61,6 @@ choose-spec =
     returns
     add-separate
     separate-requires
-    open-requires
+    refresh-rest-requires
     (λ c. search needs)
     returns-2)

@@ -43,15 +43,15 @@ label-requires c κs =
       (s .pre .2, search needs, search needs, search needs),
     )
 
-cast-close : tie.Need-cast-close
-cast-close c =
+cast-number-part : tie.Need-cast-number-part
+cast-number-part c =
     let f = c .before .before .before .before .before .before in
     let le = few f in
     let limit = start (searched (chosen f)) .pre .0 .checked .few in
     search needs
 
-close-requires : tie.Need-close-requires
-close-requires c κs =
+number-part-requires : tie.Need-number-part-requires
+number-part-requires c κs =
     let f = c .before .before .before .before .before .before .before in
     let r = start (searched (chosen f)) .pre .0 in
     record { ascends = r .within .ascends; inside = λ v h. let lt = r .within .inside v h in search needs }
@@ -60,8 +60,8 @@ returns : tie.Need-returns
 returns c =
     let f = c .before .before .before .before .before .before .before .before .before .before in
     let s = start (searched (chosen f)) in
-    divided (mesh s) (s .args .nodes .now) (s .args .at) (chosen f .choose .last .1 .1 .1 .1 .1 .0) (f .label .last .1 .1 .1 .1 .1 .0) (c .before .before .close .last .1 .1 .0) (f .label .last .1 .1 .1 .1 .1 .1 .1 .0)
-    (f .label .result) (omega (arith, few f, s .pre .0 .checked .few)) (chosen f .choose .ensures) (f .label .ensures) (c .before .before .close .ensures)
+    divided (mesh s) (s .args .nodes .now) (s .args .at) (chosen f .choose .last .1 .1 .1 .1 .1 .0) (f .label .last .1 .1 .1 .1 .1 .0) (c .before .before .number-part .last .1 .1 .0) (f .label .last .1 .1 .1 .1 .1 .1 .1 .0)
+    (f .label .result) (omega (arith, few f, s .pre .0 .checked .few)) (chosen f .choose .ensures) (f .label .ensures) (c .before .before .number-part .ensures)
 
 pub divide-spec : {M : Type 1} → statement M
 divide-spec =
@@ -70,8 +70,8 @@ divide-spec =
     (λ c κs. search needs)
     choose-requires
     label-requires
-    cast-close
-    close-requires
+    cast-number-part
+    number-part-requires
     (λ c. search needs)
     (λ c. search needs)
     (λ c. search needs)

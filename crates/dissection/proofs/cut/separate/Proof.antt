@@ -1,23 +1,20 @@
 -- `cut::separate` meets its contract: of the nodes passed, those of the separator are left out.
-use mathlib.Core.Path.{_≡_, refl, sym, ap, _∙_}
-use mathlib.Core.Bool.{_||_}
-use Prim.Native.Nat.{ℕ, _+_, _-_, _<_}
+use mathlib.Core.Path.{_≡_, refl, ap, _∙_}
+use Prim.Native.Nat.{_-_, _<_}
 use native.Mathlib.Omega.{arith}
-use lib.Dec.{eqb}
-use lib.ListN.{length, getD, take, set, length-set}
-use lib.Seq.{take-all}
+use lib.ListN.{length, getD}
 use borrow.Author.Needs.{needs}
-use Rattle.plan.specs.Lists.{isIn}
 use Rattle.plan.specs.Mesh.{Mesh}
-use Rattle.theory.proofs.Lists.{isIn-getD, exists-more}
+use Rattle.theory.proofs.Lists.{isIn-getD}
 use Rattle.mesh.specs.Lent.{lent}
-use Rattle.dissection.proofs.Cuts.{LeftOut, left-out-as, left-out-more}
+use Rattle.dissection.proofs.Renumbering.{Renumbering, renumbering-none, renumbering-more, renumbering-all}
+use Rattle.dissection.proofs.Cuts.{leftOut, left-out-next}
 use Rattle.dissection.proofs.cut.separate.Statement.{statement}
 use Rattle.dissection.proofs.cut.separate.Tie as tie
 
 abbrev Inv-loop : tie.InvT-loop
 Inv-loop n starts neighbours nodes j numbers₀ i₀ i-end numbers i =
-    (length numbers ≡ length numbers₀) × LeftOut (lent n starts neighbours) j (λ v. isIn v (take i nodes)) numbers₀ numbers
+    (i-end ≡ length nodes) × Renumbering (leftOut (lent n starts neighbours) j numbers₀) nodes numbers₀ i numbers
 
 abbrev μ-loop : tie.MeasureT-loop
 μ-loop n starts neighbours nodes j numbers₀ i₀ i-end numbers i = i-end - i
@@ -38,7 +35,7 @@ inside c =
     rw (c .node .ensures) (s .pre .1 .inside (getD (s .args .nodes .now) (l .loop .i) 0) (isIn-getD (s .args .nodes .now) (l .loop .i) 0 (c .before .before .loop-test .taken)))
 
 loop-holds : tie.Need-loop-holds Inv-loop μ-loop
-loop-holds c = (refl, λ v. refl)
+loop-holds c = (refl, renumbering-none _ _ _)
 
 separated-requires : tie.Need-separated-requires Inv-loop μ-loop
 separated-requires c κs = let lt = inside (c .before) in search needs
@@ -54,21 +51,18 @@ loop-again c =
     let l = c .before .before .before .before .before in
     let s = start l in
     let a = s .args in
-    let u : ℕ = c .before .before .node .result in
-    let i : ℕ = l .loop .i in (
-      length-set (l .loop .numbers) u (c .separated .result) ∙ l .loop .inv .0,
-      left-out-as (mesh s) (a .j) (a .numbers .now) (λ v. isIn v (take i (a .nodes .now)) || eqb v u) (λ v. isIn v (take (i + 1) (a .nodes .now))) (set (l .loop .numbers) u (c .separated .result))
-          (λ v. exists-more (eqb v) (a .nodes .now) i (omega arith) ∙ ap (λ (x : ℕ). isIn v (take i (a .nodes .now)) || eqb v x) (sym (c .before .before .node .ensures)))
-          (rw (c .separated .ensures)
-          (left-out-more (mesh s) (a .j) (a .numbers .now) (omega (arith, s .pre .3, s .pre .0 .few)) (λ v. isIn v (take i (a .nodes .now))) (l .loop .numbers) (l .loop .inv .1) u (slice-write-numbers c))),
+    let r = l .loop .inv .1 in
+    let same = c .before .before .node .ensures in
+    let within = s .pre .1 in (
+      refl,
+      renumbering-more r same (omega arith) (λ v h. omega (arith, within .inside v h, s .pre .2)) (c .separated .result)
+          (c .separated .ensures
+          ∙ ap (leftOut (mesh s) (a .j) (l .loop .numbers)) same
+          ∙ left-out-next (mesh s) (a .j) (omega (arith, s .pre .3, s .pre .0 .few)) r (omega arith) (within .ascends)),
     )
 
 returns : tie.Need-returns Inv-loop μ-loop
-returns c =
-    let l = c .before in
-    let s = start l in
-    left-out-as (mesh s) (s .args .j) (s .args .numbers .now) (λ v. isIn v (take (l .loop .i) (s .args .nodes .now))) (λ v. isIn v (s .args .nodes .now)) (l .loop .numbers)
-    (λ v. sym (ap (isIn v) (take-all (l .loop .i) (s .args .nodes .now) (omega arith)))) (l .loop .inv .1)
+returns c = renumbering-all (c .before .loop .inv .1) (omega arith)
 
 pub separate-spec : {M : Type 1} → statement M
 separate-spec =

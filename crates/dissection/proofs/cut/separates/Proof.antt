@@ -13,7 +13,7 @@ returns c =
 returns-2 : tie.Need-returns-2
 returns-2 c =
     let a = c .before .before .before .before .before .before .args in
-    rw (eq-eqb (getD (a .numbers .now) (a .v) 0) (a .j) (c .before .if1 .left)) (c .borders .ensures)
+    rw (eq-eqb (getD (a .numbers .now) (a .v) 0) (a .j) (c .before .if1 .left)) (c .next-to .ensures)
 
 pub separates-spec : {M : Type 1} → statement M
 separates-spec =

@@ -21,6 +21,14 @@ Inv-loop n starts neighbours root numbers₀ queue₀ first last₀ lo₀ hi₀ 
 abbrev μ-loop : tie.MeasureT-loop
 μ-loop n starts neighbours root numbers₀ queue₀ first last₀ lo₀ hi₀ numbers queue last lo hi = n - lo
 
+-- the start, seen from the loop
+abbrev start : tie.At-loop Inv-loop μ-loop → tie.Start Inv-loop μ-loop
+start t = t .before .before .before .before .before .before
+
+-- the turn of the loop in which a level was advanced
+abbrev turn : tie.After-advance Inv-loop μ-loop → tie.At-loop Inv-loop μ-loop
+turn a = a .before .before .before
+
 -- the edges
 abbrev edge : tie.Start Inv-loop μ-loop → Graph
 edge s = adjacent (lent (s .args .n) (s .args .starts .now) (s .args .neighbours .now))
@@ -39,18 +47,18 @@ old c =
 
 -- what holds between two levels
 walking : (c : tie.At-loop Inv-loop μ-loop) →
-    let l = c .loop in let s = c .before .before .before .before .before .before in
+    let l = c .loop in let s = start c in
     Walking (s .args .n) (edge s) (s .args .root) (s .args .numbers .now) (l .last) (l .lo) (l .hi) (l .numbers) (l .queue)
 walking c =
-    let s = c .before .before .before .before .before .before in
+    let s = start c in
     walking-as (edge s) (s .args .root) (old (c .before)) (c .loop .inv .2)
 
 -- there are fewer levels than nodes, and few nodes
 few : (c : tie.At-loop Inv-loop μ-loop) →
-    let n = c .before .before .before .before .before .before .args .n in
+    let n = start c .args .n in
     (c .loop .hi ≤ n) × (c .loop .last < c .loop .hi) × (n ≤ 4096)
 few c =
-    let s = c .before .before .before .before .before .before in
+    let s = start c in
     let f = stand-few (walking c) in
     (f .0, f .1, s .pre .0 .few)
 
@@ -58,17 +66,17 @@ loop-holds : tie.Need-loop-holds Inv-loop μ-loop
 loop-holds c =
     let s = c .before .before .before .before .before in
     let a = s .args in
-    let start = walk-start (a .n) (edge s) (a .numbers .now) (a .root) (a .queue .now) (s .pre .1) (s .pre .2) (s .pre .3) (s .pre .4) in (
+    let begun = walk-start (a .n) (edge s) (a .numbers .now) (a .root) (a .queue .now) (s .pre .1) (s .pre .2) (s .pre .3) (s .pre .4) in (
       refl,
       refl,
-      walking-as (edge s) (a .root) (sym (old c)) (rw (c .node .ensures) start),
+      walking-as (edge s) (a .root) (sym (old c)) (rw (c .node .ensures) begun),
     )
 
 advance-requires : tie.Need-advance-requires Inv-loop μ-loop
 advance-requires c κs =
     let t = c .before .before in
     let l = t .loop in
-    let s = t .before .before .before .before .before .before in
+    let s = start t in
     let w = walking t in
     let f = few t in (
       s .pre .0,
@@ -80,16 +88,17 @@ advance-requires c κs =
 
 loop-less : tie.Need-loop-less Inv-loop μ-loop
 loop-less c =
-    let t = c .before .before .before .before .before .before .before .before in
+    let t = turn (c .before .before .before .before .before) in
     omega (arith, few t, walking t .some)
 
 loop-again : tie.Need-loop-again Inv-loop μ-loop
 loop-again c =
-    let t = c .before .before .before .before .before .before .before .before in
+    let v = c .before .before .before .before .before in
+    let t = turn v in
     let l = t .loop in
-    let s = t .before .before .before .before .before .before in
+    let s = start t in
     let a = s .args in
-    let r = c .before .before .before .before .before .advance in (
+    let r = v .advance in (
       r .ensures .numbersLength ∙ l .inv .0,
       r .ensures .queueLength ∙ l .inv .1,
       walking-as (edge s) (a .root) (sym (old (t .before)))
@@ -98,20 +107,23 @@ loop-again c =
 
 same-length : tie.Need-same-length Inv-loop μ-loop
 same-length c =
-    let t = c .before .before .before .before .before .before .before .before in
-    c .before .before .before .before .before .advance .ensures .numbersLength ∙ t .loop .inv .0 ∙ simp length-set
+    let v = c .before .before .before .before .before in
+    let t = turn v in
+    v .advance .ensures .numbersLength ∙ t .loop .inv .0 ∙ simp length-set
 
 same-length-2 : tie.Need-same-length-2 Inv-loop μ-loop
 same-length-2 c =
-    let t = c .before .before .before .before .before .before .before .before in
-    c .before .before .before .before .before .advance .ensures .queueLength ∙ t .loop .inv .1 ∙ simp length-set
+    let v = c .before .before .before .before .before in
+    let t = turn v in
+    v .advance .ensures .queueLength ∙ t .loop .inv .1 ∙ simp length-set
 
 returns : tie.Need-returns Inv-loop μ-loop
 returns c =
-    let t = c .before .before .before .before .before .before .before .before in
+    let v = c .before .before .before .before .before in
+    let t = turn v in
     let l = t .loop in
-    let s = t .before .before .before .before .before .before in
-    let r = c .before .before .before .before .before .advance in
+    let s = start t in
+    let r = v .advance in
     walk-end (s .args .n) (edge s) (inside s) (omega (arith, few t)) (s .args .numbers .now) (s .args .root) (s .pre .1) (s .pre .2) (l .last) (l .lo) (l .hi) (l .numbers) (l .queue) _ _ (r .result)
     (walking t) (r .ensures) (c .if1 .taken)
 
@@ -128,7 +140,7 @@ walk-spec =
     loop-holds
     (λ c. omega (arith, few c))
     advance-requires
-    (λ c. omega (arith, few (c .before .before .before .before .before .before .before .before)))
+    (λ c. omega (arith, few (turn (c .before .before .before .before .before))))
     loop-less
     loop-again
     same-length

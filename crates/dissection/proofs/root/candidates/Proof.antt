@@ -4,7 +4,7 @@ use native.Mathlib.Omega.{arith}
 use borrow.Author.Needs.{needs}
 use Rattle.plan.specs.Mesh.{Mesh}
 use Rattle.mesh.specs.Lent.{lent}
-use Rattle.dissection.proofs.Roots.{fresh-inside, level-high, labelled-only, candidates-found}
+use Rattle.dissection.proofs.Roots.{fresh-inside, level-high, candidates-only, candidates-found}
 use Rattle.dissection.proofs.root.candidates.Statement.{statement}
 use Rattle.dissection.proofs.root.candidates.Tie as tie
 
@@ -55,7 +55,7 @@ returns c =
       candidates-found (mesh s) (s .args .nodes .now) (s .pre .0 .0) (s .pre .1 .0) (s .pre .1 .1) (k .keep-level .last .1 .1 .0) (k .keep-level .ensures) (l .label .ensures)
           (e .last .1 .1 .1 .1 .1 .1 .0) (omega (arith, few l, c .before .found2 .given, c .before .before .before .before .before .before .found .given, s .pre .0 .1)) (e .ensures),
       few l,
-      labelled-only (mesh s) (s .args .nodes .now) (s .pre .0 .0) (s .pre .1 .0) (s .pre .1 .1) (k .keep-level .last .1 .1 .0) (k .keep-level .ensures) (l .label .ensures),
+      candidates-only (mesh s) (s .args .nodes .now) (s .pre .0 .0) (s .pre .1 .0) (s .pre .1 .1) (k .keep-level .last .1 .1 .0) (k .keep-level .ensures) (l .label .ensures),
     )
 
 pub candidates-spec : {M : Type 1} → statement M

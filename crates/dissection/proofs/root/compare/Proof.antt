@@ -5,6 +5,7 @@ use native.Mathlib.Omega.{arith}
 use lib.ListN.{getD}
 use borrow.Author.Needs.{needs}
 use Rattle.plan.specs.Mesh.{Mesh}
+use Rattle.plan.specs.Choice.{degreeIn}
 use Rattle.mesh.specs.Lent.{lent}
 use Rattle.dissection.proofs.Roots.{compared-not, compared-set}
 use Rattle.dissection.proofs.root.compare.Statement.{statement}
@@ -23,21 +24,21 @@ group : (c : tie.After-node2) → c .node2 .result ≡ getD (entry c .args .numb
 group c = c .node2 .ensures ∙ ap (λ (i : ℕ). getD (entry c .args .numbers .now) i 0) (c .before .before .node .ensures)
 
 returns : tie.Need-returns
-returns c =
+returns c region =
     let s = entry (c .before) in
-    compared-not (mesh s) (s .args .v) (s .args .numbers .now) (s .args .count) (s .args .best .now) (omega (arith, group (c .before), c .if1 .taken))
+    compared-not (degreeIn (mesh s) region) (s .args .v) (s .args .numbers .now) (s .args .count) (s .args .best .now) (omega (arith, group (c .before), c .if1 .taken))
 
-lesser-of-requires : tie.Need-lesser-of-requires
-lesser-of-requires c κs =
+better-of-requires : tie.Need-better-of-requires
+better-of-requires c κs =
     let s = entry (c .before .before) in
     (s .pre .0, s .pre .1, s .pre .4 (c .before .before .node2 .result) (c .before .if1 .left))
 
 returns-2 : tie.Need-returns-2
-returns-2 c =
+returns-2 c region =
     let n = c .before .before .before in
     let s = entry n in
-    rw (c .lesser-of .ensures)
-    (compared-set (mesh s) (s .args .v) (s .args .numbers .now) (s .args .count) (s .args .best .now) (n .node2 .result) (group n) (omega arith))
+    rw (c .better-of .ensures region)
+    (compared-set (degreeIn (mesh s) region) (s .args .v) (s .args .numbers .now) (s .args .count) (s .args .best .now) (n .node2 .result) (group n) (omega arith))
 
 pub compare-spec : {M : Type 1} → statement M
 compare-spec =
@@ -50,7 +51,7 @@ compare-spec =
     returns
     (λ c. search needs)
     (λ c. search needs)
-    lesser-of-requires
+    better-of-requires
     (λ c. search needs)
     (λ c. search needs)
     (λ c. search needs)

@@ -17,9 +17,9 @@ sub-result c =
     rw (c .before .before .node .ensures) (checked-within (mesh s) (s .pre .0) (s .args .v) (s .pre .1) .ordered)
 
 returns : tie.Need-returns
-returns c =
+returns c region =
     let s = c .before .before .before .before .before in
-    rw (c .before .before .node .ensures) (degree-is (mesh s) (s .pre .0) (s .args .v) (s .pre .1))
+    rw (c .before .before .node .ensures) (degree-is (mesh s) (s .pre .0) region (s .args .v) (s .pre .1))
 
 pub degree-spec : {M : Type 1} → statement M
 degree-spec =

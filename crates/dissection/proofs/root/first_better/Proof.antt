@@ -7,13 +7,14 @@ use native.Mathlib.Omega.{arith}
 use lib.ListN.{length, getD, take, drop}
 use lib.Seq.{length-take-le, getD-take}
 use borrow.Author.Needs.{needs}
+use borrow.Author.Tests.{lt-ltb, le-ltb}
 use Rattle.plan.specs.Lists.{keep}
 use Rattle.plan.specs.Mesh.{Mesh}
 use Rattle.plan.specs.Choice.{improves}
 use Rattle.theory.proofs.Lists.{isIn-getD, scan-miss, scan-hit, scan-none}
 use Rattle.mesh.specs.Lent.{lent}
 use Rattle.dissection.specs.Standing.{Regional}
-use Rattle.dissection.proofs.Roots.{regional-again, better-walked, better-same, improves-more, improves-not}
+use Rattle.dissection.proofs.Roots.{regional-again, better-walked, better-same, improves-is}
 use Rattle.dissection.proofs.root.first_better.Statement.{statement}
 use Rattle.dissection.proofs.root.first_better.Tie as tie
 
@@ -68,7 +69,7 @@ returns c =
       e .0
           ∙ sym (candidate t lt)
           ∙ sym (scan-hit (passes t) (listed t) (t .loop .c) (s .args .root .node) (omega (arith, many t)) (t .loop .inv .4)
-          (ap (passes t) (candidate t lt) ∙ improves-more (mesh s) nodes (s .pre .0 .1) (e .1) (c .if1 .taken))),
+          (ap (passes t) (candidate t lt) ∙ improves-is (mesh s) nodes (s .pre .0 .1) (e .1) ∙ lt-ltb (s .args .root .last) (f .levels-from .result .last) (omega (arith, c .if1 .taken)))),
       better-walked (mesh s) nodes (e .0) (e .1) (e .2),
     )
 
@@ -87,7 +88,7 @@ loop-again c =
       after ∙ t .loop .inv .2,
       regional-again (mesh s) nodes (t .loop .inv .3) (e .2 .only) new after,
       scan-miss (passes t) (listed t) (t .loop .c) (omega (arith, many t)) (t .loop .inv .4)
-          (ap (passes t) (candidate t lt) ∙ improves-not (mesh s) nodes (s .pre .0 .1) (e .1) (c .if1 .left)),
+          (ap (passes t) (candidate t lt) ∙ improves-is (mesh s) nodes (s .pre .0 .1) (e .1) ∙ le-ltb (s .args .root .last) (f .levels-from .result .last) (omega (arith, c .if1 .left))),
     )
 
 returns-2 : tie.Need-returns-2 Inv-loop μ-loop

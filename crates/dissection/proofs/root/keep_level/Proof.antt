@@ -1,16 +1,16 @@
 -- `root::keep_level` meets its contract: the loop renumbers one node after the other.
-use mathlib.Core.Path.{_≡_, refl, ap, _∙_}
-use Prim.Native.Nat.{ℕ, _-_}
+use mathlib.Core.Path.{_≡_, refl}
+use Prim.Native.Nat.{_-_}
 use native.Mathlib.Omega.{arith}
 use borrow.Author.Needs.{needs}
 use lib.ListN.{length, getD}
 use Rattle.dissection.specs.Standing.{onlyLevel}
-use Rattle.dissection.proofs.Renumbering.{Renumbering, renumbering-none, renumbering-inside, renumbering-next, renumbering-more, renumbering-all}
+use Rattle.dissection.proofs.Renumbering.{Renumbering, renumbering-none, renumbering-inside, renumbering-each, renumbering-all}
 use Rattle.dissection.proofs.root.keep_level.Statement.{statement}
 use Rattle.dissection.proofs.root.keep_level.Tie as tie
 
 abbrev Inv-loop : tie.InvT-loop
-Inv-loop nodes last numbers₀ i₀ i-end numbers i = (i-end ≡ length nodes) × Renumbering (onlyLevel last) nodes numbers₀ i numbers
+Inv-loop nodes last numbers₀ i₀ i-end numbers i = (i-end ≡ length nodes) × Renumbering (λ v. onlyLevel last (getD numbers₀ v 0)) nodes numbers₀ i numbers
 
 abbrev μ-loop : tie.MeasureT-loop
 μ-loop nodes last numbers₀ i₀ i-end numbers i = i-end - i
@@ -24,19 +24,13 @@ mul-only-level c = omega (arith, c .before .shared-slice-known2 .given (c .befor
 slice-read-only-level : tie.Need-slice-read-only-level Inv-loop μ-loop
 slice-read-only-level c =
     let k = c .before .before .before .before in
-    rw (c .before .node .ensures) (renumbering-inside (k .loop .inv .1) (omega arith) (k .before .before .before .pre .inside))
+    renumbering-inside (k .loop .inv .1) (c .before .node .ensures) (omega arith) (k .before .before .before .pre .inside)
 
 loop-again : tie.Need-loop-again Inv-loop μ-loop
 loop-again c =
     let k = c .before .before .before .before .before in
     let s = k .before .before .before in
-    let f : ℕ → ℕ = onlyLevel (s .args .last) in
-    let e = c .before .before .node .ensures in
-    rw e (
-      refl,
-      renumbering-more (k .loop .inv .1) (omega arith) (s .pre .inside) (c .only-level .result)
-          (c .only-level .ensures ∙ ap (λ (v : ℕ). f (getD (k .loop .numbers) v 0)) e ∙ ap f (renumbering-next (k .loop .inv .1) (omega arith) (s .pre .ascends))),
-    )
+    (refl, renumbering-each (onlyLevel (s .args .last)) (k .loop .inv .1) (c .before .before .node .ensures) (omega arith) (s .pre) (c .only-level .ensures))
 
 returns : tie.Need-returns Inv-loop μ-loop
 returns c = renumbering-all (c .before .loop .inv .1) (omega arith)

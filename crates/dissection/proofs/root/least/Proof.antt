@@ -1,10 +1,10 @@
 -- `root::least` meets its contract: after i nodes each group's best node is that of its nodes among them.
 use mathlib.Core.Path.{_≡_}
-use Prim.Native.Nat.{_-_, _≤_}
+use Prim.Native.Nat.{ℕ, _-_, _≤_}
 use native.Mathlib.Omega.{arith}
 use lib.ListN.{length, getD, take}
 use borrow.Author.Needs.{needs}
-use Rattle.plan.specs.Mesh.{Mesh}
+use Rattle.plan.specs.Choice.{degreeIn}
 use Rattle.theory.proofs.Lists.{isIn-getD}
 use Rattle.mesh.specs.Lent.{lent}
 use Rattle.dissection.proofs.Roots.{Leading, leading-bests, leading-more, leading-all}
@@ -13,14 +13,14 @@ use Rattle.dissection.proofs.root.least.Tie as tie
 
 abbrev Inv-loop : tie.InvT-loop
 Inv-loop n starts neighbours nodes numbers count best₀ i₀ i-end best i =
-    (i ≤ length nodes) × (i-end ≡ length nodes) × (length best ≡ length best₀) × Leading (lent n starts neighbours) numbers count (take i nodes) best
+    (i ≤ length nodes) × (i-end ≡ length nodes) × (length best ≡ length best₀) × Leading (degreeIn (lent n starts neighbours) nodes) numbers count (take i nodes) best
 
 abbrev μ-loop : tie.MeasureT-loop
 μ-loop n starts neighbours nodes numbers count best₀ i₀ i-end best i = length nodes - i
 
--- the mesh
-abbrev mesh : tie.Start Inv-loop μ-loop → Mesh
-mesh s = lent (s .args .n) (s .args .starts .now) (s .args .neighbours .now)
+-- the degree of a node
+abbrev degree : tie.Start Inv-loop μ-loop → ℕ → ℕ
+degree s = degreeIn (lent (s .args .n) (s .args .starts .now) (s .args .neighbours .now)) (s .args .nodes .now)
 
 -- the function's entry
 abbrev entry : tie.At-loop Inv-loop μ-loop → tie.Start Inv-loop μ-loop
@@ -36,7 +36,7 @@ compare-requires c κs =
       s .pre .1 .inside (getD nodes (l .i) 0) (isIn-getD nodes (l .i) 0 (omega arith)),
       s .pre .2,
       search needs,
-      leading-bests (mesh s) (s .pre .0) nodes (s .pre .1) (s .args .numbers .now) (s .args .count) (l .i) (l .best) (l .inv .3),
+      leading-bests (s .args .n) (s .pre .0 .few) (degree s) nodes (s .pre .1) (s .args .numbers .now) (s .args .count) (l .i) (l .best) (l .inv .3),
     )
 
 loop-again : tie.Need-loop-again Inv-loop μ-loop
@@ -48,15 +48,15 @@ loop-again c =
       search needs,
       search needs,
       search needs,
-      leading-more (mesh s) (s .pre .0) (s .args .nodes .now) (s .pre .1) (s .args .numbers .now) (s .args .count) (l .i) (l .best) (k .last .1 .1 .1 .1 .1 .1 .0) (omega arith) (l .inv .3)
-          (k .ensures),
+      leading-more (s .args .n) (s .pre .0 .few) (degree s) (s .args .nodes .now) (s .pre .1) (s .args .numbers .now) (s .args .count) (l .i) (l .best) (k .last .1 .1 .1 .1 .1 .1 .0) (omega arith) (l .inv .3)
+          (k .ensures (s .args .nodes .now)),
     )
 
 returns : tie.Need-returns Inv-loop μ-loop
 returns c =
     let s = entry (c .before) in
     let l = c .before .loop in
-    leading-all (mesh s) (s .pre .0) (s .args .nodes .now) (s .pre .1) (s .args .numbers .now) (s .args .count) (l .i) (l .best) (omega arith) (l .inv .3)
+    leading-all (s .args .n) (s .pre .0 .few) (degree s) (s .args .nodes .now) (s .pre .1) (s .args .numbers .now) (s .args .count) (l .i) (l .best) (omega arith) (l .inv .3)
 
 pub least-spec : {M : Type 1} → statement M
 least-spec =

@@ -1,9 +1,9 @@
--- `cut::open_one` meets its contract.
+-- `cut::part_numbered` meets its contract.
 use mathlib.Core.Path.{sym}
 use borrow.Author.Tests.{eq-eqb, ne-eqb}
 use Rattle.theory.proofs.Bools.{cond-true, cond-false}
-use Rattle.dissection.proofs.cut.open_one.Statement.{statement}
-use Rattle.dissection.proofs.cut.open_one.Tie as tie
+use Rattle.dissection.proofs.cut.part_numbered.Statement.{statement}
+use Rattle.dissection.proofs.cut.part_numbered.Tie as tie
 
 returns : tie.Need-returns
 returns c = sym (cond-true _ _ _ (eq-eqb _ _ (c .if1 .taken)))
@@ -11,5 +11,5 @@ returns c = sym (cond-true _ _ _ (eq-eqb _ _ (c .if1 .taken)))
 returns-2 : tie.Need-returns-2
 returns-2 c = sym (cond-false _ _ _ (ne-eqb _ _ (c .if1 .left)))
 
-pub open-one-spec : {M : Type 1} → statement M
-open-one-spec = tie.close (tie.spec returns returns-2)
+pub part-numbered-spec : {M : Type 1} → statement M
+part-numbered-spec = tie.close (tie.spec returns returns-2)

@@ -1,4 +1,4 @@
--- `cut::borders` meets its contract: the loop tries each entry of the node's list.
+-- `cut::next_to` meets its contract: the loop tries each entry of the node's list.
 use mathlib.Core.Path.{_≡_, refl, sym, ap, _∙_}
 use mathlib.Core.List.{List}
 use Prim.Native.Nat.{ℕ, _-_, _<_}
@@ -12,8 +12,8 @@ use Rattle.mesh.specs.Lent.{lent}
 use Rattle.mesh.proofs.Lists.{checked-within, entry-node}
 use Rattle.mesh.proofs.Scans.{Clear, clear-more, elementAt, found-in, none-in}
 use Rattle.dissection.proofs.Grouped.{hasNumber}
-use Rattle.dissection.proofs.cut.borders.Statement.{statement}
-use Rattle.dissection.proofs.cut.borders.Tie as tie
+use Rattle.dissection.proofs.cut.next_to.Statement.{statement}
+use Rattle.dissection.proofs.cut.next_to.Tie as tie
 
 abbrev Inv-loop : tie.InvT-loop
 Inv-loop n starts neighbours v x numbers entries k₀ k-end k = Clear (elementAt (hasNumber numbers x) entries) k
@@ -72,8 +72,8 @@ returns-2 c =
     let a = start l .args in
     sym (ap (exists (hasNumber (a .numbers .now) (a .x))) (sym (whole l)) ∙ none-in (hasNumber (a .numbers .now) (a .x)) (entries l) (l .loop .k) (omega arith) (l .loop .inv))
 
-pub borders-spec : {M : Type 1} → statement M
-borders-spec =
+pub next-to-spec : {M : Type 1} → statement M
+next-to-spec =
     tie.close
     (tie.spec
     Inv-loop

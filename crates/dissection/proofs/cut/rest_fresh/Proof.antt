@@ -1,9 +1,9 @@
--- `cut::close_one` meets its contract.
+-- `cut::rest_fresh` meets its contract.
 use mathlib.Core.Path.{sym}
 use borrow.Author.Tests.{eq-eqb, ne-eqb}
 use Rattle.theory.proofs.Bools.{cond-true, cond-false}
-use Rattle.dissection.proofs.cut.close_one.Statement.{statement}
-use Rattle.dissection.proofs.cut.close_one.Tie as tie
+use Rattle.dissection.proofs.cut.rest_fresh.Statement.{statement}
+use Rattle.dissection.proofs.cut.rest_fresh.Tie as tie
 
 returns : tie.Need-returns
 returns c = sym (cond-true _ _ _ (eq-eqb _ _ (c .if1 .taken)))
@@ -11,5 +11,5 @@ returns c = sym (cond-true _ _ _ (eq-eqb _ _ (c .if1 .taken)))
 returns-2 : tie.Need-returns-2
 returns-2 c = sym (cond-false _ _ _ (ne-eqb _ _ (c .if1 .left)))
 
-pub close-one-spec : {M : Type 1} → statement M
-close-one-spec = tie.close (tie.spec returns returns-2)
+pub rest-fresh-spec : {M : Type 1} → statement M
+rest-fresh-spec = tie.close (tie.spec returns returns-2)

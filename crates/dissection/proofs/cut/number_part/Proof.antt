@@ -1,0 +1,57 @@
+-- `cut::number_part` meets its contract: the loop renumbers one node after the other.
+use mathlib.Core.Path.{_≡_, refl}
+use Prim.Native.Nat.{_-_}
+use native.Mathlib.Omega.{arith}
+use borrow.Author.Needs.{needs}
+use lib.ListN.{length, getD}
+use Rattle.dissection.specs.Standing.{partNumbered}
+use Rattle.dissection.proofs.Renumbering.{Renumbering, renumbering-none, renumbering-inside, renumbering-each, renumbering-all}
+use Rattle.dissection.proofs.cut.number_part.Statement.{statement}
+use Rattle.dissection.proofs.cut.number_part.Tie as tie
+
+abbrev Inv-loop : tie.InvT-loop
+Inv-loop nodes k numbers₀ i₀ i-end numbers i = (i-end ≡ length nodes) × Renumbering (λ v. partNumbered k (getD numbers₀ v 0)) nodes numbers₀ i numbers
+
+abbrev μ-loop : tie.MeasureT-loop
+μ-loop nodes k numbers₀ i₀ i-end numbers i = i-end - i
+
+loop-holds : tie.Need-loop-holds Inv-loop μ-loop
+loop-holds c = (refl, renumbering-none _ _ _)
+
+mul-part-numbered : tie.Need-mul-part-numbered Inv-loop μ-loop
+mul-part-numbered c = omega (arith, c .before .shared-slice-known2 .given (c .before .before .before .loop .i))
+
+slice-read-part-numbered : tie.Need-slice-read-part-numbered Inv-loop μ-loop
+slice-read-part-numbered c =
+    let k = c .before .before .before .before in
+    renumbering-inside (k .loop .inv .1) (c .before .node .ensures) (omega arith) (k .before .before .before .pre .inside)
+
+loop-again : tie.Need-loop-again Inv-loop μ-loop
+loop-again c =
+    let k = c .before .before .before .before .before in
+    let s = k .before .before .before in
+    (refl, renumbering-each (partNumbered (s .args .k)) (k .loop .inv .1) (c .before .before .node .ensures) (omega arith) (s .pre) (c .part-numbered .ensures))
+
+returns : tie.Need-returns Inv-loop μ-loop
+returns c = renumbering-all (c .before .loop .inv .1) (omega arith)
+
+pub number-part-spec : {M : Type 1} → statement M
+number-part-spec =
+    tie.close
+    (tie.spec
+    Inv-loop
+    μ-loop
+    loop-holds
+    (λ c. search needs)
+    (λ c. search needs)
+    (λ c κs. search needs)
+    mul-part-numbered
+    slice-read-part-numbered
+    (λ c κs. search needs)
+    (λ c. mul-part-numbered (c .before .before))
+    (λ c. slice-read-part-numbered (c .before))
+    (λ c. search needs)
+    (λ c. search needs)
+    loop-again
+    (λ c. search needs)
+    returns)
