@@ -10,10 +10,12 @@ use lib.ListN.{length, getD}
 use borrow.Author.Tests.{lt-leb, eq-eqb, ne-eqb}
 use Rattle.plan.specs.Lists.{isIn, indexOf, listAt, ascending}
 use Rattle.plan.specs.Refusals.{firstFault}
+use Rattle.plan.specs.Mesh.{maxNodes}
 use Rattle.plan.specs.Answers.{accepted, refused, slotCase, diagonalCase, noSlotCase}
 use Rattle.plan.specs.Questions.{layoutChecks, positionOutside, questionChecks, slotOf, pairFound, pairQuestion, columnRefusal, spanFound, columnSpan}
 use Rattle.theory.proofs.Bools.{cond-true, cond-false}
 use Rattle.theory.proofs.Lists.{isIn-head}
+use Rattle.theory.proofs.Checked.{node-count}
 use Rattle.theory.proofs.ColumnRule.{good-column, good-columns}
 use Rattle.mesh.specs.Lent.{ListWithin}
 use Rattle.mesh.proofs.Lists.{good-starts-within}
@@ -80,7 +82,13 @@ module _ (n : ℕ) (columnStarts rows : List ℕ) (j : ℕ) where
       let q = good-question n columnStarts rows (j ∷ []) h in
       (q .0, q .1 j (isIn-head j []))
 
-  -- the stretch where it is refused, and where it is not
+  -- so j is a small number, and column j lies within the rows
+  pub column-there : columnRefusal n columnStarts rows j ≡ 0 → (j < maxNodes) × ListWithin columnStarts rows j
+  column-there h =
+      let k = column-asked h in
+      (omega (arith, k .1, node-count n (k .0 .count)), good-within n columnStarts rows (k .0) j (k .1))
+
+  -- the span where it is refused, and where it is not
   pub span-refused : _≢_ {A = ℕ} (columnRefusal n columnStarts rows j) 0 → columnSpan n columnStarts rows j ≡ record { start = 0; count = 0 }
   unfolding columnSpan spanFound
   span-refused = go (columnRefusal n columnStarts rows j)
@@ -96,10 +104,8 @@ module _ (n : ℕ) (columnStarts rows : List ℕ) (j : ℕ) where
   -- in either case it lies within the rows
   pub span-within : columnSpan n columnStarts rows j .start + columnSpan n columnStarts rows j .count ≤ length rows
   unfolding columnSpan spanFound
-  span-within = go (columnRefusal n columnStarts rows j) column-asked
+  span-within = go (columnRefusal n columnStarts rows j) (λ h. column-there h .1)
     where
-      go : (k : ℕ) → (k ≡ 0 → GoodLayout n columnStarts rows × (j < n)) → spanFound k columnStarts j .start + spanFound k columnStarts j .count ≤ length rows
-      go zero asked =
-          let w : ListWithin columnStarts rows j = good-within n columnStarts rows (asked refl .0) j (asked refl .1) in
-          omega (arith, w .ordered, w .ended)
-      go (suc k) asked = omega arith
+      go : (k : ℕ) → (k ≡ 0 → ListWithin columnStarts rows j) → spanFound k columnStarts j .start + spanFound k columnStarts j .count ≤ length rows
+      go zero within = omega (arith, within refl .ordered, within refl .ended)
+      go (suc k) within = omega arith

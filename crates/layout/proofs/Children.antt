@@ -9,13 +9,13 @@ use native.Mathlib.Numerals.{add-one}
 use native.Mathlib.Omega.{arith}
 use lib.Dec.{eqb}
 use lib.ListN.{length, set, getD, length-set}
-use lib.Seq.{getD-set-same, getD-set-other}
 use borrow.Author.Tests.{eqb-true, eq-eqb, ne-eqb}
 use Rattle.plan.specs.Lists.{exists, upFrom, below, isIn}
 use Rattle.theory.proofs.Bools.{or-cases, or-left, or-right, and-left, and-right, and-both, iff-eq, cond-true, cond-false, eq-or-ne, lt-or-le}
 use Rattle.theory.proofs.Lists.{exists-isIn, isIn-exists}
 use Rattle.theory.proofs.Ranges.{isIn-upFrom, upFrom-isIn}
 use Rattle.layout.specs.Arrays.{none, childBelow, Children, Marked}
+use Rattle.layout.proofs.Stores.{getD-set-cases}
 use Rattle.layout.proofs.Marks.{marked-as, marked-both}
 
 -- ---- the greatest child below a bound
@@ -61,13 +61,6 @@ module _ (tree : List ℕ) (p : ℕ) where
 
 -- ---- linking
 
--- one place more is set to none
-pub unlinked-more : (firsts : List ℕ) (p : ℕ) → p < length firsts → ((k : ℕ) → k < p → getD firsts k 0 ≡ none) → (k : ℕ) → k < p + 1 → getD (set firsts p none) k 0 ≡ none
-unlinked-more firsts p lt h k lk = elim (eq-or-ne k p) [
-  | inl e ↦ rw e (getD-set-same firsts p none 0 lt)
-  | inr e ↦ getD-set-other firsts p k none 0 e ∙ h k (omega arith)
-]
-
 module _ (n : ℕ) (tree firsts nexts : List ℕ) where
   -- no column is linked yet
   pub children-start : ((p : ℕ) → p < n → getD firsts p 0 ≡ none) → n ≤ length firsts → n ≤ length nexts → Children n tree 0 firsts nexts
@@ -93,25 +86,20 @@ module _ (n : ℕ) (tree firsts nexts : List ℕ) where
     -- column c comes before the children of its parent
     pub children-link : c < n → getD tree c 0 < n → Children n tree (c + 1) (set firsts (getD tree c 0) c) (set nexts c (getD firsts (getD tree c 0) 0))
     children-link lt inside = record {
-      first = λ p lp. rw add-one (firsts-now p lp (eq-or-ne p (getD tree c 0)));
-      next = λ k lk below. nexts-now k lk below (eq-or-ne k c);
+      first = λ p lp. rw add-one
+          (getD-set-cases (λ x. x ≡ childBelow tree p (suc c)) firsts (getD tree c 0) c p (omega (arith, h .firstRoom))
+          (λ e. sym (child-here tree p c (sym e))) (λ ne. h .first p lp ∙ sym (child-before tree p c (λ e. ne (sym e)))));
+      next = λ k lk below.
+          getD-set-cases (λ x. x ≡ childBelow tree (getD tree k 0) k) nexts c (getD firsts (getD tree c 0) 0) k (omega (arith, h .nextRoom))
+          (λ e. rw e (h .first (getD tree c 0) inside)) (λ ne. h .next k (omega arith) below);
       firstRoom = rw length-set (h .firstRoom);
       nextRoom = rw length-set (h .nextRoom);
     }
-      where
-        firsts-now : (p : ℕ) → p < n → (p ≡ getD tree c 0) ⊎ (p ≢ getD tree c 0) → getD (set firsts (getD tree c 0) c) p 0 ≡ childBelow tree p (suc c)
-        firsts-now p lp (inl e) = rw e (getD-set-same firsts (getD tree c 0) c 0 (omega (arith, h .firstRoom)) ∙ sym (child-here tree (getD tree c 0) c refl))
-        firsts-now p lp (inr ne) = getD-set-other firsts (getD tree c 0) p c 0 ne ∙ h .first p lp ∙ sym (child-before tree p c (λ e. ne (sym e)))
-
-        nexts-now : (k : ℕ) → k < c + 1 → getD tree k 0 < n → (k ≡ c) ⊎ (k ≢ c)
-            → getD (set nexts c (getD firsts (getD tree c 0) 0)) k 0 ≡ childBelow tree (getD tree k 0) k
-        nexts-now k lk below (inl e) = rw e (getD-set-same nexts c (getD firsts (getD tree c 0) 0) 0 (omega (arith, h .nextRoom)) ∙ h .first (getD tree c 0) inside)
-        nexts-now k lk below (inr ne) = getD-set-other nexts c k (getD firsts (getD tree c 0) 0) 0 ne ∙ h .next k (omega arith) below
 
 -- ---- walking
 
 -- whether a child of p among the columns from `from` up to n passes
-abbrev pub childFrom : ℕ → List ℕ → ℕ → (ℕ → Bool) → ℕ → Bool
+abbrev childFrom : ℕ → List ℕ → ℕ → (ℕ → Bool) → ℕ → Bool
 childFrom n tree p r from = exists (λ c. eqb (getD tree c 0) p && r c) (upFrom from (n - from))
 
 module _ (n : ℕ) (tree : List ℕ) (p : ℕ) (r : ℕ → Bool) where

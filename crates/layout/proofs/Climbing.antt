@@ -23,8 +23,9 @@ use Rattle.theory.proofs.Counting.{unit, count-append, count-cons, count-le}
 use Rattle.theory.proofs.Columns.{column-keep}
 use Rattle.mesh.proofs.Lists.{entry-node}
 use Rattle.theory.proofs.EliminationTree.{row-neighbour, row-range, row-of-first, row-closure, first-le, first-later}
-use Rattle.layout.specs.Arrays.{none, Ordered, parentBelow, rowsBelow, CountedBelow}
-use Rattle.layout.specs.Climbing.{Unmarked, counted, Climbing, Climbed}
+use Rattle.layout.specs.Arrays.{none, Ordered, Unmarked, parentBelow, rowCountBelow, CountedBelow}
+use Rattle.layout.specs.Climbing.{countedUpTo, Climbing, Climbed}
+use Rattle.layout.proofs.Stores.{getD-set-cases}
 use Rattle.layout.proofs.Inverse.{order-of-inverse, inverse-of-order}
 
 -- On the way up from column `start`: k is next to be looked at.
@@ -39,7 +40,7 @@ module _ (m : Mesh) (order : List ℕ) where
   -- ---- rows below i, and below i + 1
 
   -- a first row that is a position is a row
-  pub first-is-row : (k : ℕ) → firstRow m order k < m .nodes → isRow m order (firstRow m order k) k ≡ true
+  first-is-row : (k : ℕ) → firstRow m order k < m .nodes → isRow m order (firstRow m order k) k ≡ true
   unfolding firstRow isRow headD
   first-is-row k h = go (column m order k) refl h
     where
@@ -48,8 +49,8 @@ module _ (m : Mesh) (order : List ℕ) where
       go (p ∷ rest) e lt = ap (isIn p) e ∙ isIn-head p rest
 
   -- row i is counted
-  pub rows-more : (i k : ℕ) → rowsBelow m order (i + 1) k ≡ rowsBelow m order i k + unit (isRow m order i k)
-  rows-more i k =
+  row-count-more : (i k : ℕ) → rowCountBelow m order (i + 1) k ≡ rowCountBelow m order i k + unit (isRow m order i k)
+  row-count-more i k =
       let t = ap (count (λ r. isRow m order r k)) (ap (upFrom 0) (add-one i) ∙ upFrom-snoc 0 i) in
       let s = count-append (λ r. isRow m order r k) (below i) ((0 + i) ∷ []) in
       let c = count-cons (λ r. isRow m order r k) (0 + i) [] in
@@ -58,15 +59,15 @@ module _ (m : Mesh) (order : List ℕ) where
       omega arith
 
   -- there are at most i
-  pub rows-few : (i k : ℕ) → rowsBelow m order i k ≤ i
-  rows-few i k = omega (arith, count-le (λ r. isRow m order r k) (below i), length-upFrom i 0)
+  row-count-few : (i k : ℕ) → rowCountBelow m order i k ≤ i
+  row-count-few i k = omega (arith, count-le (λ r. isRow m order r k) (below i), length-upFrom i 0)
 
   -- a column that has row i has its parent by then
-  pub parent-here : (i k : ℕ) → isRow m order i k ≡ true → parentBelow m order (i + 1) k ≡ firstRow m order k
+  parent-here : (i k : ℕ) → isRow m order i k ≡ true → parentBelow m order (i + 1) k ≡ firstRow m order k
   parent-here i k h = cond-true (ltb (firstRow m order k) (i + 1)) (firstRow m order k) none (lt-ltb (firstRow m order k) (i + 1) (omega (arith, first-le m order i k h)))
 
   -- a column that does not have row i keeps the parent that it has, if any
-  pub parent-same : (i k : ℕ) → i < m .nodes → isRow m order i k ≡ false → parentBelow m order (i + 1) k ≡ parentBelow m order i k
+  parent-same : (i k : ℕ) → i < m .nodes → isRow m order i k ≡ false → parentBelow m order (i + 1) k ≡ parentBelow m order i k
   parent-same i k li h = elim (lt-or-le (firstRow m order k) i) [
     | inl l ↦
         let a : ltb (firstRow m order k) (i + 1) ≡ true = lt-ltb (firstRow m order k) (i + 1) (omega arith) in
@@ -82,7 +83,7 @@ module _ (m : Mesh) (order : List ℕ) where
   ]
 
   -- what is stored as a column's parent once row i touches it
-  pub parent-touched : (i k : ℕ) → i < none → isRow m order i k ≡ true
+  parent-touched : (i k : ℕ) → i < none → isRow m order i k ≡ true
       → cond (eqb (parentBelow m order i k) none) i (parentBelow m order i k) ≡ firstRow m order k
   parent-touched i k few h = elim (lt-or-le (firstRow m order k) i) [
     | inl l ↦
@@ -111,7 +112,7 @@ module _ (m : Mesh) (order : List ℕ) where
         | inr e ↦ rw (other k e, fresh k l)
       ];
       rows = λ k l. c .rows k l ∙ elim (eq-or-ne k i) [
-        | inl e ↦ rw (e, own, eq-eqb i i refl) (let t = rows-more i i in let z : unit (isRow m order i i) ≡ 0 = rw own-row in omega arith)
+        | inl e ↦ rw (e, own, eq-eqb i i refl) (let t = row-count-more i i in let z : unit (isRow m order i i) ≡ 0 = rw own-row in omega arith)
         | inr e ↦ rw (other k e, fresh k l)
       ];
       self = own;
@@ -120,10 +121,7 @@ module _ (m : Mesh) (order : List ℕ) where
         | inl q ↦ absurd (let t : firstRow m order i < i = rw q at f in omega (arith, first-later m order i (omega arith)))
         | inr q ↦ absurd (u k i l (omega arith) li (sym (other k q) ∙ e))
       ];
-      unmarked = λ k r l le lr e. elim (eq-or-ne k i) [
-        | inl q ↦ let t : getD (set marks i i) i 0 ≡ r = rw q at e in omega (arith, own)
-        | inr q ↦ u k r l (omega arith) lr (sym (other k q) ∙ e)
-      ];
+      unmarked = λ k r l le lr. getD-set-cases (λ y. y ≢ r) marks i i k room (λ q. omega arith) (λ q. u k r l (omega arith) lr);
     }
       where
         own : getD (set marks i i) i 0 ≡ i
@@ -136,7 +134,7 @@ module _ (m : Mesh) (order : List ℕ) where
         fresh k l = ne-eqb (getD marks k 0) i (u k i l (omega arith) li)
 
     -- another parent may be next where this one is marked, or is not before i
-    pub climbing-next : (next other : ℕ) (tree marks counts : List ℕ) → (next < i → getD marks next 0 ≡ i)
+    climbing-next : (next other : ℕ) (tree marks counts : List ℕ) → (next < i → getD marks next 0 ≡ i)
         → Climbing m order i next tree marks counts → Climbing m order i other tree marks counts
     climbing-next next other tree marks counts f c = record {
       parent = c .parent;
@@ -151,7 +149,7 @@ module _ (m : Mesh) (order : List ℕ) where
     }
 
     -- column k, which has row i, is counted and marked; then its parent is next
-    pub climbing-step : (k : ℕ) (tree marks counts : List ℕ) → k < length tree → k < length marks → k < length counts
+    climbing-step : (k : ℕ) (tree marks counts : List ℕ) → k < length tree → k < length marks → k < length counts
         → isRow m order i k ≡ true → getD marks k 0 ≢ i → Climbing m order i k tree marks counts
         → Climbing m order i (firstRow m order k) (set tree k (firstRow m order k)) (set marks k i) (set counts k (getD counts k 0 + 1))
     climbing-step k tree marks counts rt rm rc h ne c = record {
@@ -161,25 +159,16 @@ module _ (m : Mesh) (order : List ℕ) where
       ];
       rows = λ x l. elim (eq-or-ne x k) [
         | inl e ↦ rw (e, getD-set-same counts k (getD counts k 0 + 1) 0 rc, own, eq-eqb i i refl)
-            (let t = rows-more i k in let z : unit (isRow m order i k) ≡ 1 = rw h in let q : getD counts k 0 ≡ rowsBelow m order i k = rw (ne-eqb (getD marks k 0) i ne) at (c .rows k lk) in omega arith)
+            (let t = row-count-more i k in let z : unit (isRow m order i k) ≡ 1 = rw h in let q : getD counts k 0 ≡ rowCountBelow m order i k = rw (ne-eqb (getD marks k 0) i ne) at (c .rows k lk) in omega arith)
         | inr e ↦ rw (getD-set-other counts k x (getD counts k 0 + 1) 0 e, other x e) (c .rows x l)
       ];
       self = rw (other i (omega (arith, below-row))) (c .self);
-      sound = λ x l n e. elim (eq-or-ne x k) [
-        | inl q ↦ rw q h
-        | inr q ↦ c .sound x l n (sym (other x q) ∙ e)
-      ];
+      sound = λ x l n. getD-set-cases (λ y. y ≡ i → isRow m order i x ≡ true) marks k i x rm (λ q e. rw q h) (λ q. c .sound x l n);
       closed = λ x l e lt n. elim (eq-or-ne x k) [
         | inl q ↦ absurd (n (ap (firstRow m order) q))
-        | inr q ↦ elim (eq-or-ne (firstRow m order x) k) [
-          | inl p ↦ rw p own
-          | inr p ↦ rw (other (firstRow m order x) p) (c .closed x l (sym (other x q) ∙ e) lt p)
-        ]
+        | inr q ↦ getD-set-cases (λ y. y ≡ i) marks k i (firstRow m order x) rm (λ p. refl) (c .closed x l (sym (other x q) ∙ e) lt)
       ];
-      unmarked = λ x r l le lr e. elim (eq-or-ne x k) [
-        | inl q ↦ let t : getD (set marks k i) k 0 ≡ r = rw q at e in omega (arith, own)
-        | inr q ↦ c .unmarked x r l le lr (sym (other x q) ∙ e)
-      ];
+      unmarked = λ x r l le lr. getD-set-cases (λ y. y ≢ r) marks k i x rm (λ q. omega arith) (λ q. c .unmarked x r l le lr);
     }
       where
         below-row : k < i
@@ -197,8 +186,8 @@ module _ (m : Mesh) (order : List ℕ) where
     -- no count is above i + 1
     pub climbing-few : (next k : ℕ) (tree marks counts : List ℕ) → Climbing m order i next tree marks counts → k < m .nodes → getD counts k 0 ≤ i + 1
     climbing-few next k tree marks counts c l =
-        let few = rows-few (counted marks i k) k in
-        let here : counted marks i k ≤ i + 1 = elim (tested (eqb (getD marks k 0) i)) [ inl e ↦ rw e (omega arith) | inr e ↦ rw e (omega arith) ] in
+        let few = row-count-few (countedUpTo marks i k) k in
+        let here : countedUpTo marks i k ≤ i + 1 = elim (tested (eqb (getD marks k 0) i)) [ inl e ↦ rw e (omega arith) | inr e ↦ rw e (omega arith) ] in
         omega (arith, c .rows k l)
 
     -- ---- one way up
@@ -237,14 +226,8 @@ module _ (m : Mesh) (order : List ℕ) where
             climbing = climbing-step k tree marks counts rt rm rc row ne (way .climbing);
             low = first-le m order i k row;
             row = λ l. row-of-first m order i k row l;
-            reached = λ n. elim (eq-or-ne start k) [
-              | inl q ↦ rw q (getD-set-same marks k i 0 rm)
-              | inr q ↦ getD-set-other marks k start i 0 q ∙ way .reached q
-            ];
-            kept = λ x h. elim (eq-or-ne x k) [
-              | inl q ↦ rw q (getD-set-same marks k i 0 rm)
-              | inr q ↦ getD-set-other marks k x i 0 q ∙ way .kept x h
-            ];
+            reached = λ n. getD-set-cases (λ y. y ≡ i) marks k i start rm (λ q. refl) (way .reached);
+            kept = λ x h. getD-set-cases (λ y. y ≡ i) marks k i x rm (λ q. refl) (λ q. way .kept x h);
           },
         )
           where
@@ -269,7 +252,7 @@ module _ (m : Mesh) (order : List ℕ) where
       ];
       rows = λ k l. c .rows k l ∙ elim (tested (eqb (getD marks k 0) i)) [
         | inl e ↦ rw e
-        | inr e ↦ rw e (let t = rows-more i k in let z : unit (isRow m order i k) ≡ 0 = rw (unmarked k e) in omega arith)
+        | inr e ↦ rw e (let t = row-count-more i k in let z : unit (isRow m order i k) ≡ 0 = rw (unmarked k e) in omega arith)
       ];
     }
       where

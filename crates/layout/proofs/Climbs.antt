@@ -92,7 +92,7 @@ module _ (marks : List ℕ) (j : ℕ) where
 -- ---- the way up
 
 -- the way up from j has come to k, and the marked positions up to k are written
-pub record Climbed (n j : ℕ) (tree marks found rows : List ℕ) (k at : ℕ) : Type 0 where
+pub record Ascent (n j : ℕ) (tree marks found rows : List ℕ) (k at : ℕ) : Type 0 where
   pub known : k < n
   pub later : j ≤ k
   pub above : Ancestor tree j k
@@ -101,26 +101,26 @@ pub record Climbed (n j : ℕ) (tree marks found rows : List ℕ) (k at : ℕ) :
 
 module _ (n j : ℕ) (tree marks found : List ℕ) (small : n ≤ none) (h : Meets n j tree marks) where
   -- nothing is written
-  pub climbed-start : j < n → Climbed n j tree marks found found j 0
-  climbed-start lt = record { known = lt; later = omega arith; above = self; many = rw (marked-none marks j); so = rw (marked-none marks j) }
+  pub ascent-start : j < n → Ascent n j tree marks found found j 0
+  ascent-start lt = record { known = lt; later = omega arith; above = self; many = rw (marked-none marks j); so = rw (marked-none marks j) }
 
-  module _ (rows : List ℕ) (k at : ℕ) (c : Climbed n j tree marks found rows k at) where
+  module _ (rows : List ℕ) (k at : ℕ) (c : Ascent n j tree marks found rows k at) where
     -- where not all are written there is a parent
-    pub climbed-parent : at < length (markedBelow marks j n) → (k < getD tree k 0) × (getD tree k 0 < n)
-    climbed-parent lt =
+    pub ascent-parent : at < length (markedBelow marks j n) → (k < getD tree k 0) × (getD tree k 0 < n)
+    ascent-parent lt =
         let i = marked-left marks j (k + 1) n (omega (arith, c .known)) (omega (arith, c .many)) in
         let le = h .met k (i .0) (c .above) (omega (arith, i .1)) (i .2) (i .3) in
         h .rising k (c .known) (omega (arith, le, i .2))
 
     -- it is written if it has the mark
-    pub climbed-more : (rows′ : List ℕ) (at′ : ℕ) → at < length (markedBelow marks j n) → at < length found
+    pub ascent-more : (rows′ : List ℕ) (at′ : ℕ) → at < length (markedBelow marks j n) → at < length found
         → at′ ≡ cond (eqb (getD marks (getD tree k 0) 0) j) (at + 1) at
         → rows′ ≡ cond (eqb (getD marks (getD tree k 0) 0) j) (set rows at (getD tree k 0)) rows
-        → Climbed n j tree marks found rows′ (getD tree k 0) at′
-    climbed-more rows′ at′ lt room e f = go (tested (eqb (getD marks (getD tree k 0) 0) j))
+        → Ascent n j tree marks found rows′ (getD tree k 0) at′
+    ascent-more rows′ at′ lt room e f = go (tested (eqb (getD marks (getD tree k 0) 0) j))
       where
         up : (k < getD tree k 0) × (getD tree k 0 < n)
-        up = climbed-parent lt
+        up = ascent-parent lt
 
         some : getD tree k 0 ≢ none
         some q = omega (arith, up .1)
@@ -135,7 +135,7 @@ module _ (n j : ℕ) (tree marks found : List ℕ) (small : n ≤ none) (h : Mee
         passed : eqb (getD marks (getD tree k 0) 0) j ≡ false → markedBelow marks j (getD tree k 0 + 1) ≡ markedBelow marks j (k + 1)
         passed t = next ∙ ap (λ (l : List ℕ). markedBelow marks j (k + 1) ++ l) (cond-false _ (getD tree k 0 ∷ []) [] t) ∙ append-nil (markedBelow marks j (k + 1))
 
-        go : (eqb (getD marks (getD tree k 0) 0) j ≡ true) ⊎ (eqb (getD marks (getD tree k 0) 0) j ≡ false) → Climbed n j tree marks found rows′ (getD tree k 0) at′
+        go : (eqb (getD marks (getD tree k 0) 0) j ≡ true) ⊎ (eqb (getD marks (getD tree k 0) 0) j ≡ false) → Ascent n j tree marks found rows′ (getD tree k 0) at′
         go (inl t) = record {
           known = up .1;
           later = omega (arith, up .0, c .later);
@@ -156,8 +156,8 @@ module _ (n j : ℕ) (tree marks found : List ℕ) (small : n ≤ none) (h : Mee
         }
 
     -- all are written
-    pub climbed-end : length (markedBelow marks j n) ≤ at → rows ≡ written (markedBelow marks j n) found
-    climbed-end le =
+    pub ascent-end : length (markedBelow marks j n) ≤ at → rows ≡ written (markedBelow marks j n) found
+    ascent-end le =
         c .so ∙ ap (λ (l : List ℕ). written l found) (marked-all marks j (k + 1) n (omega (arith, c .known)) (omega (arith, c .many)))
 
 -- ---- the elimination tree of a mesh

@@ -1,20 +1,20 @@
 -- The inverse of an order: the positions that a loop over the order has written, and how positions and nodes lead to each other.
 use mathlib.Core.Path.{_≡_, sym, ap, _∙_}
-use mathlib.Core.Logic.{inl, inr}
+use mathlib.Core.Logic.{_≢_}
 use mathlib.Core.List.{List}
 use Prim.Native.Nat.{ℕ, _+_, _≤_, _<_}
 use native.Mathlib.Omega.{arith}
 use lib.ListN.{length, getD, set, length-set}
-use lib.Seq.{getD-set-same, getD-set-other}
+use lib.Seq.{getD-set-other}
 use Rattle.plan.specs.Lists.{indexOf, written}
 use Rattle.plan.specs.Mesh.{Mesh}
 use Rattle.plan.specs.Dissection.{positions}
 use Rattle.theory.specs.Counting.{Order}
-use Rattle.theory.proofs.Bools.{eq-or-ne}
 use Rattle.theory.proofs.Ranges.{length-map-upFrom, getD-map-below}
 use Rattle.theory.proofs.Orders.{order-inside, order-distinct, position-inside, order-of-position, position-of-order}
 use Rattle.layout.specs.Arrays.{Ordered}
 use Rattle.theory.proofs.Written.{written-all}
+use Rattle.layout.proofs.Stores.{getD-set-cases}
 
 -- the first i nodes of an order have their positions, and what does not belong to a node is as found
 pub record Inverted (n : ℕ) (order : List ℕ) (i : ℕ) (found inverse : List ℕ) : Type 0 where
@@ -27,10 +27,9 @@ module _ (n : ℕ) (order : List ℕ) (once : Order n order) (found inverse : Li
   pub inverted-more : (i : ℕ) → i < n → Inverted n order i found inverse → Inverted n order (i + 1) found (set inverse (getD order i 0) i)
   inverted-more i h t = record {
     long = length-set inverse (getD order i 0) i ∙ t .long;
-    placed = λ p l. elim (eq-or-ne p i) [
-      | inl e ↦ rw e (getD-set-same inverse (getD order i 0) i 0 (omega (arith, t .long, order-inside n order once i h)))
-      | inr e ↦ getD-set-other inverse (getD order i 0) (getD order p 0) i 0 (λ q. e (order-distinct n order once p i (omega (arith, e)) h q)) ∙ t .placed p (omega (arith, e))
-    ];
+    placed = λ p l. getD-set-cases (λ x. x ≡ p) inverse (getD order i 0) i (getD order p 0) (omega (arith, t .long, order-inside n order once i h))
+        (λ e. sym (order-distinct n order once p i (omega arith) h e))
+        (λ e. t .placed p (let ne : p ≢ i = λ q. e (ap (λ (x : ℕ). getD order x 0) q) in omega arith));
     rest = λ v l. getD-set-other inverse (getD order i 0) v i 0 (λ q. omega (arith, order-inside n order once i h)) ∙ t .rest v l;
   }
 

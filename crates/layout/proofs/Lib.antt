@@ -1,3 +1,4 @@
+pub mod Stores
 pub mod Inverse
 pub mod Climbing
 pub mod Totals

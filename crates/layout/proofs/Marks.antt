@@ -1,29 +1,20 @@
--- Marks: which positions got the mark j. One relation serves every loop that marks: the positions that a test tells have it, and the others are as before.
+-- Marks: which positions got the mark j. One relation serves every loop that marks: the positions that a test tells have it, and the others
+-- are as before.
 use mathlib.Core.Path.{_≡_, refl, sym, ap, _∙_}
-use mathlib.Core.Logic.{inl, inr}
 use mathlib.Core.Bool.{Bool, true, false, cond, _||_}
 use mathlib.Core.List.{List}
 use Prim.Native.Nat.{ℕ, _+_, _<_}
 use lib.Dec.{eqb}
 use lib.ListN.{length, take, set, getD}
-use lib.Seq.{getD-set-same, getD-set-other}
-use borrow.Author.Tests.{eqb-true, eqb-false, eq-eqb}
+use borrow.Author.Tests.{eqb-true, eq-eqb, ne-eqb}
 use Rattle.plan.specs.Lists.{exists, isIn}
 use Rattle.plan.specs.Mesh.{Mesh, neighboursOf, adjacent}
 use Rattle.theory.specs.Rows.{edgeAt}
-use Rattle.theory.proofs.Bools.{tested, iff-eq}
+use Rattle.theory.proofs.Bools.{iff-eq}
 use Rattle.theory.proofs.Lists.{exists-isIn, isIn-exists, exists-more}
 use Rattle.layout.specs.Arrays.{Ordered, Marked, neighbourPosition}
+use Rattle.layout.proofs.Stores.{getD-set-cases}
 use Rattle.layout.proofs.Inverse.{order-of-inverse, inverse-of-order}
-
--- ---- lists
-
--- what stands at a place after a store
-getD-set : (l : List ℕ) (k x i : ℕ) → k < length l → getD (set l k x) i 0 ≡ cond (eqb i k) x (getD l i 0)
-getD-set l k x i lt = elim (tested (eqb i k)) [
-  | inl e ↦ rw (e, eqb-true i k e) (getD-set-same l k x 0 lt)
-  | inr e ↦ rw e (getD-set-other l k i x 0 (eqb-false i k e))
-]
 
 -- ---- marks
 
@@ -34,7 +25,7 @@ module _ (j : ℕ) where
 
   -- one position gets the mark
   marked-one : (k : ℕ) (marks : List ℕ) → k < length marks → Marked j (λ i. eqb i k) marks (set marks k j)
-  marked-one k marks lt i = getD-set marks k j i lt
+  marked-one k marks lt i = getD-set-cases (λ x. x ≡ cond (eqb i k) j (getD marks i 0)) marks k j i lt (λ e. rw (eq-eqb i k e)) (λ e. rw (ne-eqb i k e))
 
   -- first some positions, then others
   pub marked-both : (s t : ℕ → Bool) (before between after : List ℕ) → Marked j s before between → Marked j t between after → Marked j (λ i. s i || t i) before after

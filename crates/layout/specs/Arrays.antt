@@ -1,6 +1,6 @@
 -- What the working arrays of the layout hold.
 use mathlib.Core.Path.{_≡_}
-use mathlib.Core.Logic.{_⊎_, _≢_}
+use mathlib.Core.Logic.{_≢_}
 use mathlib.Core.Bool.{Bool, cond, _&&_}
 use mathlib.Core.List.{List, map, flatten}
 use Prim.Native.Nat.{ℕ, zero, suc, _≤_, _<_}
@@ -29,13 +29,13 @@ abbrev pub parentBelow : Mesh → List ℕ → ℕ → ℕ → ℕ
 parentBelow m order i k = cond (ltb (firstRow m order k) i) (firstRow m order k) none
 
 -- the rows of column k below i, counted
-abbrev pub rowsBelow : Mesh → List ℕ → ℕ → ℕ → ℕ
-rowsBelow m order i k = count (λ r. isRow m order r k) (below i)
+abbrev pub rowCountBelow : Mesh → List ℕ → ℕ → ℕ → ℕ
+rowCountBelow m order i k = count (λ r. isRow m order r k) (below i)
 
 -- the elimination tree and the counts as far as the rows below i tell
 pub record CountedBelow (m : Mesh) (order : List ℕ) (i : ℕ) (tree counts : List ℕ) : Type 0 where
   pub parent : (k : ℕ) → k < m .nodes → getD tree k 0 ≡ parentBelow m order i k
-  pub rows : (k : ℕ) → k < m .nodes → getD counts k 0 ≡ rowsBelow m order i k
+  pub rows : (k : ℕ) → k < m .nodes → getD counts k 0 ≡ rowCountBelow m order i k
 
 -- the elimination tree: each column's parent is its first row; none where it has no row
 abbrev pub Tree : Mesh → List ℕ → List ℕ → Type 0
@@ -50,7 +50,8 @@ unfoldable pub childBelow : List ℕ → ℕ → ℕ → ℕ
 childBelow tree p zero = none
 childBelow tree p (suc bound) = cond (eqb (getD tree bound 0) p) bound (childBelow tree p bound)
 
--- the children of each column among the columns below `bound`, the greatest first: the first one of p, and behind each column with a parent the next one of the same parent
+-- the children of each column among the columns below `bound`, the greatest first: the first one of p, and behind each column with a
+-- parent the next one of the same parent
 pub record Children (n : ℕ) (tree : List ℕ) (bound : ℕ) (firsts nexts : List ℕ) : Type 0 where
   pub first : (p : ℕ) → p < n → getD firsts p 0 ≡ childBelow tree p bound
   pub next : (c : ℕ) → c < bound → getD tree c 0 < n → getD nexts c 0 ≡ childBelow tree (getD tree c 0) c
@@ -61,9 +62,9 @@ pub record Children (n : ℕ) (tree : List ℕ) (bound : ℕ) (firsts nexts : Li
 abbrev pub Marked : ℕ → (ℕ → Bool) → List ℕ → List ℕ → Type 0
 Marked j touched before after = (i : ℕ) → getD after i 0 ≡ cond (touched i) j (getD before i 0)
 
--- the mark of each of n positions is below j, or none
-abbrev pub MarksBelow : ℕ → ℕ → List ℕ → Type 0
-MarksBelow n j marks = (i : ℕ) → i < n → (getD marks i 0 < j) ⊎ (getD marks i 0 ≡ none)
+-- none of n positions has a position from j on as its mark
+abbrev pub Unmarked : ℕ → ℕ → List ℕ → Type 0
+Unmarked n j marks = (i r : ℕ) → i < n → j ≤ r → r < n → getD marks i 0 ≢ r
 
 -- whether i is the position of a neighbour of the node at position j
 unfoldable pub neighbourPosition : Mesh → List ℕ → List ℕ → ℕ → ℕ → Bool
@@ -88,5 +89,5 @@ pub record Meets (n j : ℕ) (tree marks : List ℕ) : Type 0 where
   pub met : (k i : ℕ) → Ancestor tree j k → k < i → i < n → getD marks i 0 ≡ j → getD tree k 0 ≤ i
 
 -- the rows of the first j columns, one column after the other
-unfoldable pub rowsOf : Mesh → List ℕ → ℕ → List ℕ
-rowsOf m order j = flatten (map (column m order) (below j))
+unfoldable pub rowsBefore : Mesh → List ℕ → ℕ → List ℕ
+rowsBefore m order j = flatten (map (column m order) (below j))

@@ -8,20 +8,17 @@ use lib.Dec.{eqb}
 use lib.ListN.{length, getD}
 use Rattle.plan.specs.Mesh.{Mesh, maxNodes}
 use Rattle.theory.specs.Rows.{isRow, firstRow}
-use Rattle.layout.specs.Arrays.{parentBelow, rowsBelow}
-
--- no row from i on has marked a column
-abbrev pub Unmarked : ℕ → ℕ → List ℕ → Type 0
-Unmarked n i marks = (k r : ℕ) → k < n → i ≤ r → r < n → getD marks k 0 ≢ r
+use Rattle.layout.specs.Arrays.{Unmarked, parentBelow, rowCountBelow}
 
 -- the first row that is not counted in column k: i + 1 where the column has row i's mark, i elsewhere
-abbrev pub counted : List ℕ → ℕ → ℕ → ℕ
-counted marks i k = cond (eqb (getD marks k 0) i) (i + 1) i
+abbrev pub countedUpTo : List ℕ → ℕ → ℕ → ℕ
+countedUpTo marks i k = cond (eqb (getD marks k 0) i) (i + 1) i
 
--- Row i, counted as far as its marks tell: the marked columns have the row, and with a column its parent is marked, but for the parent `next`, which is yet to be looked at. Position i has the mark too.
+-- Row i, counted as far as its marks tell: the marked columns have the row, and with a column its parent is marked, but for the parent
+-- `next`, which is yet to be looked at. Position i has the mark too.
 pub record Climbing (m : Mesh) (order : List ℕ) (i next : ℕ) (tree marks counts : List ℕ) : Type 0 where
-  pub parent : (k : ℕ) → k < m .nodes → getD tree k 0 ≡ parentBelow m order (counted marks i k) k
-  pub rows : (k : ℕ) → k < m .nodes → getD counts k 0 ≡ rowsBelow m order (counted marks i k) k
+  pub parent : (k : ℕ) → k < m .nodes → getD tree k 0 ≡ parentBelow m order (countedUpTo marks i k) k
+  pub rows : (k : ℕ) → k < m .nodes → getD counts k 0 ≡ rowCountBelow m order (countedUpTo marks i k) k
   pub self : getD marks i 0 ≡ i
   pub sound : (k : ℕ) → k < m .nodes → k ≢ i → getD marks k 0 ≡ i → isRow m order i k ≡ true
   pub closed : (k : ℕ) → k < m .nodes → getD marks k 0 ≡ i → firstRow m order k < i → firstRow m order k ≢ next → getD marks (firstRow m order k) 0 ≡ i

@@ -1,4 +1,5 @@
 // The rows of the columns, each column written at its start in the lent rows.
+use crate::positions::NONE;
 use mesh::index;
 use mesh::list;
 use mesh::node;
@@ -11,12 +12,9 @@ ghost use lib.ListN.{length, take, set, getD};
 ghost use Rattle.plan.specs.Lists.{written, isIn, listAt};
 ghost use Rattle.plan.specs.Elimination.{columns, startsOf};
 ghost use Rattle.mesh.specs.Lent.{lent, ListWithin};
-ghost use Rattle.layout.specs.Arrays.{none, Ordered, Tree, Rising, Children, Marked, MarksBelow, neighbourPosition, childRow, markedBelow, Meets, rowsOf};
+ghost use Rattle.layout.specs.Arrays.{none, Ordered, Tree, Rising, Children, Marked, Unmarked, neighbourPosition, childRow, markedBelow, Meets, rowsBefore};
 
-// no position
-const NONE: u16 = 65535;
-
-// Column c is put before the children of its parent, where it has one. O(1).
+// Column c is put before the children of its parent, where it has one. `n` is for the contract alone. O(1).
 fn link(n: usize, c: usize, tree: &[u16], first: &mut [u16], next: &mut [u16])
     requires { ⌜ (n ≤ 4096) × (n ≤ length (now tree)) × Rising n (now tree) × (c < n) × Children n (now tree) c (now first) (now next) ⌝ }
     ensures { λ _. ⌜ Children n (now (tree .entry)) (c + 1) (now (first .exit)) (now (next .exit)) ⌝ }
@@ -29,28 +27,18 @@ fn link(n: usize, c: usize, tree: &[u16], first: &mut [u16], next: &mut [u16])
     first[node(p)] = c as u16;
 }
 
-// No column has a child yet. O(n).
-fn unlink(n: usize, first: &mut [u16])
-    requires { ⌜ n ≤ length (now first) ⌝ }
-    ensures { λ _. ⌜ ((p : ℕ) → p < n → getD (now (first .exit)) p 0 ≡ none) ⌝ }
-{
-    for p in 0..n {
-        first[p] = NONE;
-    }
-}
-
-// The children of each column in the elimination tree, the greatest first. O(n).
+// The children of each column in the elimination tree, the greatest first. `first` is lent with none at every place. O(n).
 fn link_children(n: usize, tree: &[u16], first: &mut [u16], next: &mut [u16])
     requires { ⌜ (n ≤ 4096) × (n ≤ length (now tree)) × Rising n (now tree) × (n ≤ length (now first)) × (n ≤ length (now next)) ⌝ }
+    requires { ⌜ ((p : ℕ) → p < n → getD (now first) p 0 ≡ none) ⌝ }
     ensures { λ _. ⌜ Children n (now (tree .entry)) n (now (first .exit)) (now (next .exit)) ⌝ }
 {
-    unlink(n, first);
     for c in 0..n {
         link(n, c, tree, first, next);
     }
 }
 
-// The neighbours of the node at position j get the mark j. O(degree).
+// The positions of the neighbours of the node at position j get the mark j. `n` is for the contract alone. O(degree).
 fn mark_neighbours(
     n: usize,
     starts: &[u32],
@@ -79,7 +67,7 @@ fn mark_rows(rows: &[u16], j: u16, marks: &mut [u16])
     }
 }
 
-// The rows of the children of column j get the mark j. O(their rows).
+// The rows of the children of column j get the mark j. `n` and `tree` are for the contract alone. O(their rows).
 fn mark_children(
     n: usize,
     tree: &[u16],
@@ -113,7 +101,8 @@ fn put(k: u16, j: u16, marks: &[u16], at: usize, rows: &mut [u16]) -> usize
     at + 1
 }
 
-// One column's rows are written at the front of a part of the rows: up the elimination tree from column j, each marked position is one, and they come ascending. O(the way to the last row).
+// One column's rows are written at the front of a part of the rows: up the elimination tree from column j, each marked position is one,
+// and they come ascending. `n` is for the contract alone. O(the way to the last row).
 fn write_column(n: usize, j: u16, count: usize, tree: &[u16], marks: &[u16], rows: &mut [u16])
     requires { ⌜ (n ≤ 4096) × (j < n) × (n ≤ length (now tree)) × (n ≤ length (now marks)) × Meets n j (now tree) (now marks) ⌝ }
     requires { ⌜ (count ≡ length (markedBelow (now marks) j n)) × (count ≤ length (now rows)) ⌝ }
@@ -127,7 +116,8 @@ fn write_column(n: usize, j: u16, count: usize, tree: &[u16], marks: &[u16], row
     }
 }
 
-// Column j: its later neighbours and the rows of its children, marked and written at the column's start. O(degree + rows of the children + the way to the last row).
+// Column j: its later neighbours and the rows of its children, marked and written at the column's start. O(degree + rows of the children +
+// the way to the last row).
 fn add_column(
     n: usize,
     starts: &[u32],
@@ -144,8 +134,8 @@ fn add_column(
 )
     requires { ⌜ Ordered (lent n (now starts) (now neighbours)) (now order) (now positions) × (n ≤ length (now tree)) × Tree (lent n (now starts) (now neighbours)) (now order) (now tree) × Children n (now tree) n (now first) (now next) ⌝ }
     requires { ⌜ (take (n + 1) (now columnStarts) ≡ startsOf (columns (lent n (now starts) (now neighbours)) (now order))) × (length (flatten (columns (lent n (now starts) (now neighbours)) (now order))) ≤ length (now rows)) × (j < n) ⌝ }
-    requires { ⌜ (n ≤ length (now marks)) × MarksBelow n j (now marks) × (now rows ≡ written (rowsOf (lent n (now starts) (now neighbours)) (now order) j) (now rows)) ⌝ }
-    ensures { λ _. ⌜ MarksBelow n (j + 1) (now (marks .exit)) × (now (rows .exit) ≡ written (rowsOf (lent n (now (starts .entry)) (now (neighbours .entry))) (now (order .entry)) (j + 1)) (now (rows .entry))) ⌝ }
+    requires { ⌜ (n ≤ length (now marks)) × Unmarked n j (now marks) × (now rows ≡ written (rowsBefore (lent n (now starts) (now neighbours)) (now order) j) (now rows)) ⌝ }
+    ensures { λ _. ⌜ Unmarked n (j + 1) (now (marks .exit)) × (now (rows .exit) ≡ written (rowsBefore (lent n (now (starts .entry)) (now (neighbours .entry))) (now (order .entry)) (j + 1)) (now (rows .entry))) ⌝ }
 {
     mark_neighbours(n, starts, neighbours, order, positions, j, marks);
     mark_children(n, tree, columnStarts, rows, first, next, j, marks);

@@ -1,4 +1,6 @@
-// The elimination tree and the column counts, without storing a row: for each row the columns that have it are those met by climbing from its earlier neighbours.
+// The elimination tree and the column counts, without storing a row: for each row the columns that have it are those met by climbing from
+// its earlier neighbours.
+use crate::positions::NONE;
 use mesh::list;
 use mesh::node;
 ghost use mathlib.Core.Path.{_≡_};
@@ -10,11 +12,8 @@ ghost use lib.ListN.{length, take, getD};
 ghost use Rattle.plan.specs.Lists.{total, runningSums, written};
 ghost use Rattle.plan.specs.Elimination.{columns, multiplications};
 ghost use Rattle.mesh.specs.Lent.{lent};
-ghost use Rattle.layout.specs.Arrays.{none, Ordered, CountedBelow, Tree};
-ghost use Rattle.layout.specs.Climbing.{Unmarked, Climbable, Climbed};
-
-// no position
-const NONE: u16 = 65535;
+ghost use Rattle.layout.specs.Arrays.{none, Ordered, CountedBelow, Tree, Unmarked};
+ghost use Rattle.layout.specs.Climbing.{Climbable, Climbed};
 
 // A column's parent once row i has touched it: i, unless an earlier row did. O(1).
 fn parent_of(parent: u16, i: u16) -> u16
@@ -26,7 +25,8 @@ fn parent_of(parent: u16, i: u16) -> u16
     parent
 }
 
-// From a neighbour's position up the elimination tree: each column that row i has not marked yet gets the mark and one row more. The mark of i itself ends the way. O(columns marked + 1).
+// From a neighbour's position up the elimination tree: each column that row i has not marked yet gets the mark and one row more. The mark
+// of i itself ends the way. O(columns marked + 1).
 fn climb(i: u16, start: u16, tree: &mut [u16], marks: &mut [u16], counts: &mut [u16])
     requires { ⌜ Climbable i start (now tree) (now marks) (now counts) ⌝ }
     ensures { λ _. ⌜ ((w : Climbable i start (now (tree .entry)) (now (marks .entry)) (now (counts .entry))) → Climbed (w .mesh) (w .order) i start (now (marks .entry)) (now (tree .exit)) (now (marks .exit)) (now (counts .exit))) ⌝ }
@@ -44,7 +44,7 @@ fn climb(i: u16, start: u16, tree: &mut [u16], marks: &mut [u16], counts: &mut [
     }
 }
 
-// Row i: up from each of its earlier neighbours. O(columns that have row i + degree).
+// Row i: up from each of its earlier neighbours. `n` is for the contract alone. O(columns that have row i + degree).
 fn count_row(
     n: usize,
     starts: &[u32],

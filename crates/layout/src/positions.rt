@@ -1,4 +1,4 @@
-// The positions of the nodes in an order.
+// The positions of the nodes in an order, and the number that is none.
 use mesh::node;
 ghost use mathlib.Core.Path.{_≡_};
 ghost use Prim.Native.Nat.{_≤_};
@@ -6,6 +6,9 @@ ghost use lib.ListN.{length};
 ghost use Rattle.plan.specs.Lists.{written};
 ghost use Rattle.plan.specs.Dissection.{positions as positionsOf};
 ghost use Rattle.theory.specs.Counting.{Order};
+
+// no position
+pub(crate) const NONE: u16 = 65535;
 
 // Each node gets its position (document 01: place). O(n).
 pub fn invert(order: &[u16], positions: &mut [u16])

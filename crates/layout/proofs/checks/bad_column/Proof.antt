@@ -1,4 +1,5 @@
--- `checks::bad_column` meets its contract: behind k rows, the last of them `before`, the rule is that of column `before` for the rows to come.
+-- `layout::checks::bad_column` meets its contract: behind k rows, the last of them `before`, the rule is that of column `before` for the
+-- rows to come.
 use mathlib.Core.Path.{_≡_, refl, sym}
 use Prim.Native.Nat.{_-_}
 use native.Mathlib.Omega.{arith}

@@ -1,4 +1,4 @@
--- `checks::bad_columns` meets its contract: the loop tries each column.
+-- `layout::checks::bad_columns` meets its contract: the loop tries each column.
 use mathlib.Core.Path.{_≡_, refl, sym, ap, _∙_}
 use mathlib.Core.Bool.{Bool}
 use mathlib.Core.List.{List}

@@ -12,11 +12,10 @@ use Rattle.plan.specs.Elimination.{column}
 use Rattle.theory.specs.Rows.{isRow}
 use Rattle.theory.proofs.EliminationTree.{row-range}
 use Rattle.mesh.specs.Lent.{lent}
-use Rattle.layout.specs.Arrays.{markedBelow, Meets, rowsOf}
+use Rattle.layout.specs.Arrays.{rowsBefore}
 use Rattle.theory.proofs.Written.{written-grow}
 use Rattle.layout.proofs.Grown.{rows-more, starts-long, start-at, start-next, column-found, column-within}
-use Rattle.layout.proofs.Climbs.{tree-meets}
-use Rattle.layout.proofs.Rows.{Listed, child-column, marks-below, row-marked, marked-column}
+use Rattle.layout.proofs.Rows.{Listed, child-column, Marking, still-unmarked, marked-column, marked-meets}
 use Rattle.layout.proofs.columns.add_column.Statement.{statement}
 use Rattle.layout.proofs.columns.add_column.Tie as tie
 
@@ -32,7 +31,7 @@ listed s c lt = column-found (mesh s) (s .args .order .now) (s .args .columnStar
 bounds : (s : tie.Start) →
     let a : ℕ = getD (s .args .columnStarts .now) (s .args .j) 0 in
     let e : ℕ = getD (s .args .columnStarts .now) (s .args .j + 1) 0 in
-    (s .args .n ≤ 4096) × (s .args .n < length (s .args .columnStarts .now)) × (a ≡ length (rowsOf (mesh s) (s .args .order .now) (s .args .j))) × (e ≡ a + length (column (mesh s) (s .args .order .now) (s .args .j))) × (e ≤ length (s .args .rows .now))
+    (s .args .n ≤ 4096) × (s .args .n < length (s .args .columnStarts .now)) × (a ≡ length (rowsBefore (mesh s) (s .args .order .now) (s .args .j))) × (e ≡ a + length (column (mesh s) (s .args .order .now) (s .args .j))) × (e ≤ length (s .args .rows .now))
 bounds s =
     let m = mesh s in
     let order = s .args .order .now in
@@ -49,79 +48,92 @@ bounds s =
 room : (s : tie.Start) → length (s .args .rows .now) * 2 < 2 ^ 63
 room s = omega arith
 
--- the function's start, seen from the marks
-abbrev start : tie.After-mark-children → tie.Start
-start c = c .before .before .before .before .before .before .before .before .before .before .before .before .before .before .before .before .before
+-- ---- column j is marked
 
--- the marks after the neighbours
-abbrev between : tie.After-mark-children → List ℕ
-between c = c .before .before .before .before .before .mark-neighbours .last .1 .1 .1 .1 .1 .1 .0
+-- where its neighbours were marked, and the function's start
+abbrev near : tie.After-mark-children → tie.After-mark-neighbours
+near k = k .before .before .before .before .before
 
--- and after the children
+abbrev start : tie.After-mark-neighbours → tie.Start
+start b = b .before .before .before .before .before .before .before .before .before .before .before .before
+
+-- the marks after the neighbours, and after the children
+abbrev between : tie.After-mark-neighbours → List ℕ
+between b = b .mark-neighbours .last .1 .1 .1 .1 .1 .1 .0
+
 abbrev after : tie.After-mark-children → List ℕ
-after c = c .mark-children .last .1 .1 .1 .1 .1 .1 .1 .0
+after k = k .mark-children .last .1 .1 .1 .1 .1 .1 .1 .0
 
--- the marks tell column j's rows
-whole : (c : tie.After-mark-children) → markedBelow (after c) (start c .args .j) (start c .args .n) ≡ column (mesh (start c)) (start c .args .order .now) (start c .args .j)
-whole c =
-    let s = start c in
+-- with both, the column is marked
+marking : (k : tie.After-mark-children) →
+    let s = start (near k) in
     let a = s .args in
-    marked-column (mesh s) (a .order .now) (a .tree .now) (a .columnStarts .now) (a .rows .now) (s .pre .0 .2) (omega (arith, bounds s .0)) (a .j) (s .pre .1 .0 .2) (a .positions .now) (s .pre .0 .0) (listed s)
-    (a .marks .now) (between c) (after c) (s .pre .1 .1 .1) (c .before .before .before .before .before .mark-neighbours .ensures) (c .mark-children .ensures)
-
--- the way up meets them
-meets : (c : tie.After-mark-children) → Meets (start c .args .n) (start c .args .j) (start c .args .tree .now) (after c)
-meets c =
-    let s = start c in
-    let a = s .args in
-    tree-meets (mesh s) (a .order .now) (a .tree .now) (s .pre .0 .2) (a .j) (after c) (s .pre .1 .0 .2)
-    (row-marked (mesh s) (a .order .now) (a .tree .now) (a .columnStarts .now) (a .rows .now) (s .pre .0 .2) (omega (arith, bounds s .0)) (a .j) (s .pre .1 .0 .2) (a .positions .now) (s .pre .0 .0) (listed s)
-    (a .marks .now) (between c) (after c) (s .pre .1 .1 .1) (c .before .before .before .before .before .mark-neighbours .ensures) (c .mark-children .ensures))
+    Marking (mesh s) (a .order .now) (a .positions .now) (a .tree .now) (a .columnStarts .now) (a .rows .now) (a .j) (a .marks .now) (between (near k)) (after k)
+marking k =
+    let s = start (near k) in
+    record {
+      ordered = s .pre .0 .0;
+      parents = s .pre .0 .2;
+      few = omega (arith, bounds s .0);
+      inside = s .pre .1 .0 .2;
+      listed = listed s;
+      clear = s .pre .1 .1 .1;
+      neighbours = near k .mark-neighbours .ensures;
+      children = k .mark-children .ensures;
+    }
 
 -- a row of a child is a position
 inside : (s : tie.Start) (k : ℕ) → k < s .args .n → getD (s .args .tree .now) k 0 ≡ s .args .j → (i : ℕ) → isIn i (listAt (s .args .columnStarts .now) (s .args .rows .now) k) ≡ true → i < s .args .n
 unfolding isRow
 inside s k lk e i h =
     let a = s .args in
-    let f = child-column (mesh s) (a .order .now) (a .tree .now) (a .columnStarts .now) (a .rows .now) (s .pre .0 .2) (omega (arith, bounds s .0)) (a .j) (s .pre .1 .0 .2) k lk e in
+    let f = child-column (mesh s) (a .order .now) (a .tree .now) (s .pre .0 .2) (omega (arith, bounds s .0)) (a .j) (s .pre .1 .0 .2) k lk e in
     row-range (mesh s) (a .order .now) i k (ap (isIn i) (sym (listed s k (f .1))) ∙ h) .1
 
 mark-children-requires : tie.Need-mark-children-requires
 mark-children-requires c κs =
-    let s = c .before .before .before .before .before .before .before .before .before .before .before .before .before .before .before .before in
-    let m = mesh s in
-    let order = s .args .order .now in (
+    let b = c .before .before .before .before in
+    let s = start b in (
       (bounds s .0, s .pre .0 .3, s .pre .1 .0 .2),
       λ k lk e. (
-        column-within m order (s .args .columnStarts .now) (s .pre .1 .0 .0) (s .args .rows .now) (s .pre .1 .0 .1) k lk,
-        λ i h. omega (arith, inside s k lk e i h, s .pre .1 .1 .0, c .before .before .before .before .mark-neighbours .kept .1 .1 .1 .1 .1 .1 .0),
+        column-within (mesh s) (s .args .order .now) (s .args .columnStarts .now) (s .pre .1 .0 .0) (s .args .rows .now) (s .pre .1 .0 .1) k lk,
+        λ i h. omega (arith, inside s k lk e i h, s .pre .1 .1 .0, b .mark-neighbours .kept .1 .1 .1 .1 .1 .1 .0),
       ),
     )
 
+-- ---- the column is written
+
+-- where the children were marked
+abbrev far : tie.After-index2 → tie.After-mark-children
+far e = e .before .before .before .before .before .before
+
 write-column-requires : tie.Need-write-column-requires
 write-column-requires c κs =
-    let k = c .before .before .before .before .before .before .before .before in
-    let s = start k in
+    let e = c .before .before in
+    let k = far e in
+    let s = start (near k) in
     let b = bounds s in
-    let count : c .before .before .index2 .result - c .before .before .before .before .index .result ≡ length (column (mesh s) (s .args .order .now) (s .args .j)) =
-    omega (arith, b, c .before .before .index2 .ensures, c .before .before .before .before .index .ensures) in (
-      (b .0, s .pre .1 .0 .2, s .pre .0 .1, omega (arith, s .pre .1 .1 .0, k .mark-children .kept .1 .1 .1 .1 .1 .1 .1 .0, k .before .before .before .before .before .mark-neighbours .kept .1 .1 .1 .1 .1 .1 .0), meets k),
-      (count ∙ sym (ap length (whole k)), simp (length-take, length-drop) (omega (arith, b, count, c .before .before .index2 .ensures, c .before .before .before .before .index .ensures))),
+    let first = e .before .before .index in
+    let end = e .index2 in
+    let count : end .result - first .result ≡ length (column (mesh s) (s .args .order .now) (s .args .j)) = omega (arith, b, end .ensures, first .ensures) in (
+      (b .0, s .pre .1 .0 .2, s .pre .0 .1, omega (arith, s .pre .1 .1 .0, k .mark-children .kept .1 .1 .1 .1 .1 .1 .1 .0, near k .mark-neighbours .kept .1 .1 .1 .1 .1 .1 .0), marked-meets (marking k)),
+      (count ∙ sym (ap length (marked-column (marking k))), simp (length-take, length-drop) (omega (arith, b, count, end .ensures, first .ensures))),
     )
 
 returns : tie.Need-returns
 returns c =
     let w = c .before .before in
-    let i = w .before .before .before .before .before in
-    let k = i .before .before .before .before in
-    let s = start k in
-    let a = s .args in
-    let order = a .order .now in (
-      marks-below (mesh s) order (a .tree .now) (a .columnStarts .now) (a .rows .now) (s .pre .0 .2) (omega (arith, bounds s .0)) (a .j) (s .pre .1 .0 .2) (a .positions .now) (s .pre .0 .0) (listed s)
-          (a .marks .now) (between k) (after k) (s .pre .1 .1 .1) (k .before .before .before .before .before .mark-neighbours .ensures) (k .mark-children .ensures),
-      rw (rows-more (mesh s) order (a .j))
-          (written-grow (a .rows .now) (a .rows .now) (rowsOf (mesh s) order (a .j)) (column (mesh s) order (a .j)) (w .write-column .last .1 .1 .1 .1 .1 .0) (i .index .result) (s .pre .1 .1 .2)
-          (i .index .ensures ∙ bounds s .2) (w .write-column .ensures ∙ ap (λ (l : List ℕ). written l (take (length (a .rows .now) - i .index .result) (drop (i .index .result) (a .rows .now)))) (whole k))),
+    let e = w .before .before .before in
+    let k = far e in
+    let s = start (near k) in
+    let i = e .before .before .index in
+    let rows = s .args .rows .now in
+    let order = s .args .order .now in
+    let j = s .args .j in (
+      still-unmarked (marking k),
+      rw (rows-more (mesh s) order j)
+          (written-grow rows rows (rowsBefore (mesh s) order j) (column (mesh s) order j) (w .write-column .last .1 .1 .1 .1 .1 .0) (i .result) (s .pre .1 .1 .2)
+          (i .ensures ∙ bounds s .2) (w .write-column .ensures ∙ ap (λ (l : List ℕ). written l (take (length rows - i .result) (drop (i .result) rows))) (marked-column (marking k)))),
     )
 
 pub add-column-spec : {M : Type 1} → statement M
@@ -131,17 +143,17 @@ add-column-spec =
     (λ c κs. search needs)
     mark-children-requires
     (λ c. search needs)
-    (λ c. let b = bounds (start (c .before .before .before)) in omega arith)
+    (λ c. let b = bounds (start (near (c .before .before .before))) in omega arith)
     (λ c κs. search needs)
     (λ c. search needs)
-    (λ c. let b = bounds (start (c .before .before .before .before)) in omega arith)
-    (λ c. let b = bounds (start (c .before .before .before .before .before)) in omega arith)
+    (λ c. let b = bounds (start (near (c .before .before .before .before))) in omega arith)
+    (λ c. let b = bounds (start (near (c .before .before .before .before .before))) in omega arith)
     (λ c κs. search needs)
-    (λ c. let s = start (c .before .before .before .before .before .before) in omega (arith, bounds s .0, s .pre .1 .0 .2))
-    (λ c. let b = bounds (start (c .before .before .before .before .before .before)) in omega (arith, c .index2 .ensures, c .before .before .index .ensures))
-    (λ c. let b = bounds (start (c .before .before .before .before .before .before .before)) in omega (arith, c .before .before .before .index .ensures, room (start (c .before .before .before .before .before .before .before))))
-    (λ c. let b = bounds (start (c .before .before .before .before .before .before .before)) in omega (arith, c .before .before .before .index .ensures))
-    (λ c. let b = bounds (start (c .before .before .before .before .before .before .before)) in omega (arith, c .before .before .before .index .ensures))
+    (λ c. let s = start (near (far c)) in omega (arith, bounds s .0, s .pre .1 .0 .2))
+    (λ c. let b = bounds (start (near (far c))) in omega (arith, c .index2 .ensures, c .before .before .index .ensures))
+    (λ c. let s = start (near (far (c .before))) in let b = bounds s in omega (arith, c .before .before .before .index .ensures, room s))
+    (λ c. let b = bounds (start (near (far (c .before)))) in omega (arith, c .before .before .before .index .ensures))
+    (λ c. let b = bounds (start (near (far (c .before)))) in omega (arith, c .before .before .before .index .ensures))
     (λ c. search needs)
     write-column-requires
     (λ c. search needs)

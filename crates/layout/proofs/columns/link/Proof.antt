@@ -1,4 +1,5 @@
--- `layout::columns::link` meets its contract: a column without a parent leaves the lists as they are, and another one comes before the children of its parent.
+-- `layout::columns::link` meets its contract: a column without a parent leaves the lists as they are, and another one comes before the
+-- children of its parent.
 use Prim.Native.Nat.{_≤_, _<_}
 use native.Mathlib.Omega.{arith}
 use borrow.Author.Needs.{needs}
@@ -7,11 +8,15 @@ use Rattle.layout.proofs.Children.{children-none, children-link}
 use Rattle.layout.proofs.columns.link.Statement.{statement}
 use Rattle.layout.proofs.columns.link.Tie as tie
 
+-- the function's start, seen from the parent
+abbrev start : tie.After-node → tie.Start
+start c = c .before .before .before .before .before .before
+
 -- the parent is a column
-inside : (c : tie.After-node) → (c .node .result < c .before .before .before .before .before .before .args .n) × (c .before .before .before .before .before .before .args .n ≤ length (c .before .before .before .before .before .before .args .first .now))
+inside : (c : tie.After-node) → let a = start c .args in (c .node .result < a .n) × (a .n ≤ length (a .first .now))
 inside c =
-    let s = c .before .before .before .before .before .before in
-    (rw (c .node .ensures) (s .pre .2 (s .args .c) (s .pre .3) (c .before .if1 .left) .1), s .pre .4 .firstRoom)
+    let s = start c in
+    (omega (arith, c .node .ensures, s .pre .2 (s .args .c) (s .pre .3) (c .before .if1 .left) .1), s .pre .4 .firstRoom)
 
 returns : tie.Need-returns
 returns c =
@@ -20,10 +25,11 @@ returns c =
 
 returns-2 : tie.Need-returns-2
 returns-2 c =
-    let s = c .before .before .before .before .before .before .before .before in
-    rw (c .node2 .ensures, c .before .before .node .ensures)
+    let p = c .before .before in
+    let s = start p in
+    rw (c .node2 .ensures, p .node .ensures)
     (children-link (s .args .n) (s .args .tree .now) (s .args .first .now) (s .args .next .now) (s .args .c) (s .pre .4) (s .pre .3)
-    (rw (c .before .before .node .ensures) at (inside (c .before .before) .0)))
+    (omega (arith, p .node .ensures, inside p .0)))
 
 pub link-spec : {M : Type 1} → statement M
 link-spec =

@@ -15,21 +15,19 @@ Inv-loop n tree first₀ next₀ c₀ first next c = (c ≤ n) × (length first 
 abbrev μ-loop : tie.MeasureT-loop
 μ-loop n tree first₀ next₀ c₀ first next c = n - c
 
+-- the function's start, seen from the loop
+abbrev start : tie.At-loop Inv-loop μ-loop → tie.Start Inv-loop μ-loop
+start l = l .before .before .before .before
+
 loop-holds : tie.Need-loop-holds Inv-loop μ-loop
 loop-holds c =
-    let u = c .before .before in
-    let s = c .before .before .before .before .before .before .before in (
-      omega arith,
-      refl,
-      refl,
-      children-start (s .args .n) (s .args .tree .now) (u .unlink .last .1 .0) (s .args .next .now) (u .unlink .ensures) (omega (arith, u .unlink .kept .1 .0)) (omega arith),
-    )
+    let s = c .before .before .before in
+    (omega arith, refl, refl, children-start (s .args .n) (s .args .tree .now) (s .args .first .now) (s .args .next .now) (s .pre .1) (s .pre .0 .3) (s .pre .0 .4))
 
 link-requires : tie.Need-link-requires Inv-loop μ-loop
 link-requires c κs =
     let l = c .before .before .before in
-    let s = l .before .before .before .before .before .before .before .before in
-    (omega arith, search needs, s .pre .2, c .before .before .loop-test .taken, l .loop .inv .3)
+    (omega arith, search needs, start l .pre .0 .2, c .before .before .loop-test .taken, l .loop .inv .3)
 
 loop-again : tie.Need-loop-again Inv-loop μ-loop
 loop-again c =
@@ -37,15 +35,9 @@ loop-again c =
     let l = k .before .before .before .before in
     (search needs, k .link .kept .1 .1 .1 .0 ∙ l .loop .inv .1, k .link .kept .1 .1 .1 .1 .0 ∙ l .loop .inv .2, k .link .ensures)
 
-same-length : tie.Need-same-length Inv-loop μ-loop
-same-length c = c .before .loop .inv .1 ∙ c .before .before .before .before .unlink .kept .1 .0
-
-same-length-2 : tie.Need-same-length-2 Inv-loop μ-loop
-same-length-2 c = c .before .loop .inv .2
-
 returns : tie.Need-returns Inv-loop μ-loop
 returns c =
-    let e : c .before .loop .c ≡ c .before .before .before .before .before .before .before .before .before .args .n = omega arith in
+    let e : c .before .loop .c ≡ start (c .before) .args .n = omega arith in
     rw e at (c .before .loop .inv .3)
 
 pub link-children-spec : {M : Type 1} → statement M
@@ -54,12 +46,11 @@ link-children-spec =
     (tie.spec
     Inv-loop
     μ-loop
-    (λ c κs. search needs)
     loop-holds
     link-requires
     (λ c. search needs)
     (λ c. search needs)
     loop-again
-    same-length
-    same-length-2
+    (λ c. search needs)
+    (λ c. search needs)
     returns)

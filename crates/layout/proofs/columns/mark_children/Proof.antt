@@ -20,6 +20,10 @@ abbrev μ-loop : tie.MeasureT-loop
 abbrev start : tie.At-loop Inv-loop μ-loop → tie.Start Inv-loop μ-loop
 start l = l .before .before .before .before .before .before .before .before
 
+-- the turn of the loop, seen from the next child
+abbrev turn : tie.After-node2 Inv-loop μ-loop → tie.In-loop Inv-loop μ-loop
+turn c = c .before .before .before .before .before .before .before
+
 -- the child that is met
 child : (c : tie.In-loop Inv-loop μ-loop) → (c .before .loop .c < start (c .before) .args .n) × (getD (start (c .before) .args .tree .now) (c .before .loop .c) 0 ≡ start (c .before) .args .j)
 child c =
@@ -29,10 +33,10 @@ child c =
 
 -- the next one
 next-child : (c : tie.After-node2 Inv-loop μ-loop) →
-    let l = c .before .before .before .before .before .before .before .before in
+    let l = turn c .before in
     getD (start l .args .next .now) (c .node2 .result) 0 ≡ childBelow (start l .args .tree .now) (start l .args .j) (l .loop .c)
 next-child c =
-    let k = c .before .before .before .before .before .before .before in
+    let k = turn c in
     let l = k .before in
     let s = start l in
     let here = child k in
@@ -63,7 +67,7 @@ mark-rows-requires c κs i m =
 
 loop-less : tie.Need-loop-less Inv-loop μ-loop
 loop-less c =
-    let k = c .before .before .before .before .before .before .before .before in
+    let k = turn (c .before) in
     let l = k .before in
     rw (next-child (c .before)) (way-down (start l .args .tree .now) (start l .args .j) (l .loop .c) (k .loop-test .taken))
 
@@ -102,9 +106,9 @@ mark-children-spec =
     (λ c. search needs)
     mark-rows-requires
     (λ c κs. search needs)
-    (λ c. let h = child (c .before .before .before .before .before .before .before) in omega (arith, c .node2 .ensures))
+    (λ c. let h = child (turn c) in omega (arith, c .node2 .ensures))
     (λ c.
-    let k = c .before .before .before .before .before .before .before .before in
+    let k = turn (c .before) in
     let h = child k in
     omega (arith, c .before .node2 .ensures, start (k .before) .pre .0 .1 .nextRoom))
     loop-less

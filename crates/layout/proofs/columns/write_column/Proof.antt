@@ -4,12 +4,12 @@ use Prim.Native.Nat.{ℕ, _-_, _<_}
 use native.Mathlib.Omega.{arith}
 use borrow.Author.Needs.{needs}
 use lib.ListN.{length, getD}
-use Rattle.layout.proofs.Climbs.{Climbed, climbed-start, climbed-parent, climbed-more, climbed-end}
+use Rattle.layout.proofs.Climbs.{Ascent, ascent-start, ascent-parent, ascent-more, ascent-end}
 use Rattle.layout.proofs.columns.write_column.Statement.{statement}
 use Rattle.layout.proofs.columns.write_column.Tie as tie
 
 abbrev Inv-loop : tie.InvT-loop
-Inv-loop n j count tree marks rows₀ k₀ at₀ rows k at = (length rows ≡ length rows₀) × Climbed n j tree marks rows₀ rows k at
+Inv-loop n j count tree marks rows₀ k₀ at₀ rows k at = (length rows ≡ length rows₀) × Ascent n j tree marks rows₀ rows k at
 
 abbrev μ-loop : tie.MeasureT-loop
 μ-loop n j count tree marks rows₀ k₀ at₀ rows k at = n - k
@@ -26,13 +26,13 @@ up : (c : tie.In-loop Inv-loop μ-loop) →
 up c =
     let l = c .before in
     let s = start l in
-    climbed-parent (s .args .n) (s .args .j) (s .args .tree .now) (s .args .marks .now) (s .args .rows .now) (omega arith) (s .pre .0 .4) (l .loop .rows) (l .loop .k) (l .loop .at) (l .loop .inv .1)
+    ascent-parent (s .args .n) (s .args .j) (s .args .tree .now) (s .args .marks .now) (s .args .rows .now) (omega arith) (s .pre .0 .4) (l .loop .rows) (l .loop .k) (l .loop .at) (l .loop .inv .1)
     (omega (arith, c .loop-test .taken, s .pre .1 .0))
 
 loop-holds : tie.Need-loop-holds Inv-loop μ-loop
 loop-holds c =
     let s = c .before .before .before in
-    (refl, climbed-start (s .args .n) (s .args .j) (s .args .tree .now) (s .args .marks .now) (s .args .rows .now) (omega arith) (s .pre .0 .4) (omega arith))
+    (refl, ascent-start (s .args .n) (s .args .j) (s .args .tree .now) (s .args .marks .now) (s .args .rows .now) (omega arith) (s .pre .0 .4) (omega arith))
 
 put-requires : tie.Need-put-requires Inv-loop μ-loop
 put-requires c κs =
@@ -52,7 +52,7 @@ loop-again c =
     let here = p .before .before .before .node .ensures in (
       p .put .kept .1 .1 .1 .1 .0 ∙ l .loop .inv .0,
       rw here
-          (climbed-more (s .args .n) (s .args .j) (s .args .tree .now) (s .args .marks .now) (s .args .rows .now) (omega arith) (s .pre .0 .4) (l .loop .rows) (l .loop .k) (l .loop .at) (l .loop .inv .1)
+          (ascent-more (s .args .n) (s .args .j) (s .args .tree .now) (s .args .marks .now) (s .args .rows .now) (omega arith) (s .pre .0 .4) (l .loop .rows) (l .loop .k) (l .loop .at) (l .loop .inv .1)
           (p .put .last .1 .1 .1 .1 .0) (p .put .result) (omega (arith, k .loop-test .taken, s .pre .1 .0)) (omega (arith, k .loop-test .taken, s .pre .1 .1))
           (rw here at (p .put .ensures .0)) (rw here at (p .put .ensures .1))),
     )
@@ -61,7 +61,7 @@ returns : tie.Need-returns Inv-loop μ-loop
 returns c =
     let l = c .before in
     let s = start l in
-    climbed-end (s .args .n) (s .args .j) (s .args .tree .now) (s .args .marks .now) (s .args .rows .now) (omega arith) (s .pre .0 .4) (l .loop .rows) (l .loop .k) (l .loop .at) (l .loop .inv .1)
+    ascent-end (s .args .n) (s .args .j) (s .args .tree .now) (s .args .marks .now) (s .args .rows .now) (omega arith) (s .pre .0 .4) (l .loop .rows) (l .loop .k) (l .loop .at) (l .loop .inv .1)
     (omega (arith, c .loop-test .left, s .pre .1 .0))
 
 pub write-column-spec : {M : Type 1} → statement M

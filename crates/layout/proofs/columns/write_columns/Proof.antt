@@ -1,6 +1,5 @@
 -- `layout::columns::write_columns` meets its contract: the loop writes one column more each turn.
 use mathlib.Core.Path.{_≡_, refl, sym, ap, _∙_}
-use mathlib.Core.Logic.{inr}
 use mathlib.Core.List.{List}
 use Prim.Native.Nat.{ℕ, _+_, _-_, _≤_, _<_}
 use native.Mathlib.Omega.{arith}
@@ -10,7 +9,7 @@ use Rattle.plan.specs.Lists.{written}
 use Rattle.plan.specs.Mesh.{Mesh}
 use Rattle.plan.specs.Elimination.{column}
 use Rattle.mesh.specs.Lent.{lent}
-use Rattle.layout.specs.Arrays.{MarksBelow, rowsOf}
+use Rattle.layout.specs.Arrays.{Unmarked, rowsBefore}
 use Rattle.theory.proofs.Written.{written-again, written-over}
 use Rattle.layout.proofs.Grown.{rows-none, rows-more, rows-all}
 use Rattle.layout.proofs.Climbs.{tree-rising}
@@ -19,7 +18,7 @@ use Rattle.layout.proofs.columns.write_columns.Tie as tie
 
 abbrev Inv-loop : tie.InvT-loop
 Inv-loop n starts neighbours order positions tree columnStarts rows₀ first next marks₀ j₀ rows marks j =
-    (j ≤ n) × (length rows ≡ length rows₀) × (length marks ≡ 4096) × MarksBelow n j marks × (rows ≡ written (rowsOf (lent n starts neighbours) order j) rows₀)
+    (j ≤ n) × (length rows ≡ length rows₀) × (length marks ≡ 4096) × Unmarked n j marks × (rows ≡ written (rowsBefore (lent n starts neighbours) order j) rows₀)
 
 abbrev μ-loop : tie.MeasureT-loop
 μ-loop n starts neighbours order positions tree columnStarts rows₀ first next marks₀ j₀ rows marks j = n - j
@@ -28,31 +27,41 @@ abbrev μ-loop : tie.MeasureT-loop
 abbrev mesh : tie.Start Inv-loop μ-loop → Mesh
 mesh s = lent (s .args .n) (s .args .starts .now) (s .args .neighbours .now)
 
--- the function's start, seen from the loop
-abbrev start : tie.At-loop Inv-loop μ-loop → tie.Start Inv-loop μ-loop
-start l = l .before .before .before .before .before .before .before .before .before .before .before .before .before .before .before .before
+-- where the working arrays were made, and the function's start
+abbrev made : tie.At-loop Inv-loop μ-loop → tie.After-no-positions3 Inv-loop μ-loop
+made l = l .before .before .before .before .before .before
+
+abbrev start : tie.After-no-positions3 Inv-loop μ-loop → tie.Start Inv-loop μ-loop
+start p = p .before .before .before .before .before .before .before .before .before .before
 
 link-children-requires : tie.Need-link-children-requires Inv-loop μ-loop
 link-children-requires c κs =
-    let s = c .before .before .before .before .before .before .before .before .before .before .before .before in
-    let few = s .pre .0 .0 .checked .few in (
-      few,
-      s .pre .0 .1,
-      tree-rising (mesh s) (s .args .order .now) (s .args .tree .now) (s .pre .0 .2),
-      omega (arith, few, c .before .before .before .before .no-positions .ensures .0),
-      omega (arith, few, c .before .before .before .no-positions2 .ensures .0),
+    let p = c .before .before in
+    let s = start p in
+    let few = s .pre .0 .0 .checked .few in
+    let clear = p .before .before .no-positions .ensures in (
+      (
+        few,
+        s .pre .0 .1,
+        tree-rising (mesh s) (s .args .order .now) (s .args .tree .now) (s .pre .0 .2),
+        omega (arith, few, clear .0),
+        omega (arith, few, p .before .no-positions2 .ensures .0),
+      ),
+      λ k lt. clear .1 k (omega (arith, few)),
     )
 
 loop-holds : tie.Need-loop-holds Inv-loop μ-loop
 loop-holds c =
-    let s = c .before .before .before .before .before .before .before .before .before .before .before .before .before .before .before in
     let p = c .before .before .before .before .before in
-    (omega arith, refl, p .no-positions3 .ensures .0, λ i lt. inr (p .no-positions3 .ensures .1 i (omega (arith, s .pre .0 .0 .checked .few))), rw (rows-none (mesh s) (s .args .order .now)))
+    let s = start p in
+    let few = s .pre .0 .0 .checked .few in
+    let clear = p .no-positions3 .ensures in
+    (omega arith, refl, clear .0, λ i r li le lr e. omega (arith, few, clear .1 i (omega (arith, few))), rw (rows-none (mesh s) (s .args .order .now)))
 
 add-column-requires : tie.Need-add-column-requires Inv-loop μ-loop
 add-column-requires c κs =
     let l = c .before .before .before .before .before in
-    let s = start l in
+    let s = start (made l) in
     let order = s .args .order .now in
     let v = l .loop .inv in
     let lt : l .loop .j < s .args .n = omega arith in (
@@ -62,7 +71,7 @@ add-column-requires c κs =
         (
           omega (arith, v .2, s .pre .0 .0 .checked .few),
           v .3,
-          v .4 ∙ sym (ap (written (rowsOf (mesh s) order (l .loop .j))) (v .4) ∙ written-again (rowsOf (mesh s) order (l .loop .j)) (s .args .rows .now)),
+          v .4 ∙ sym (ap (written (rowsBefore (mesh s) order (l .loop .j))) (v .4) ∙ written-again (rowsBefore (mesh s) order (l .loop .j)) (s .args .rows .now)),
         ),
       ),
     )
@@ -71,7 +80,7 @@ loop-again : tie.Need-loop-again Inv-loop μ-loop
 loop-again c =
     let a = c .before .before .before in
     let l = a .before .before .before .before .before .before in
-    let s = start l in
+    let s = start (made l) in
     let m = mesh s in
     let order = s .args .order .now in
     let j : ℕ = l .loop .j in
@@ -81,16 +90,16 @@ loop-again c =
       a .add-column .kept .1 .1 .1 .1 .1 .1 .1 .1 .1 .1 .0 ∙ v .2,
       a .add-column .ensures .0,
       a .add-column .ensures .1
-          ∙ ap (written (rowsOf m order (j + 1))) (v .4)
-          ∙ rw (rows-more m order j) (written-over (rowsOf m order j) (column m order j) (s .args .rows .now)),
+          ∙ ap (written (rowsBefore m order (j + 1))) (v .4)
+          ∙ rw (rows-more m order j) (written-over (rowsBefore m order j) (column m order j) (s .args .rows .now)),
     )
 
 returns : tie.Need-returns Inv-loop μ-loop
 returns c =
     let l = c .before in
-    let s = start l in
+    let s = start (made l) in
     let e : l .loop .j ≡ s .args .n = omega arith in
-    l .loop .inv .4 ∙ ap (λ (x : List ℕ). written x (s .args .rows .now)) (ap (rowsOf (mesh s) (s .args .order .now)) e ∙ rows-all (mesh s) (s .args .order .now))
+    l .loop .inv .4 ∙ ap (λ (x : List ℕ). written x (s .args .rows .now)) (ap (rowsBefore (mesh s) (s .args .order .now)) e ∙ rows-all (mesh s) (s .args .order .now))
 
 pub write-columns-spec : {M : Type 1} → statement M
 write-columns-spec =

@@ -10,7 +10,8 @@ use Rattle.layout.proofs.Climbing.{Way, climbing-few, way-start, way-st
 use Rattle.layout.proofs.counts.climb.Statement.{statement}
 use Rattle.layout.proofs.counts.climb.Tie as tie
 
--- column k is next on the way from `start`, whatever the mesh and the order; it lies within the lists, which are as long as they were, and its count is small
+-- column k is next on the way from `start`, whatever the mesh and the order; it lies within the lists, which are as long as they were, and
+-- its count is small
 record Inv (i start : ℕ) (tree₀ marks₀ counts₀ tree marks counts : List ℕ) (k : ℕ) : Type 0 where
   way : (w : Climbable i start tree₀ marks₀ counts₀) → Way (w .mesh) (w .order) i start marks₀ tree marks counts k
   longTree : length tree ≡ length tree₀
@@ -26,6 +27,10 @@ Inv-loop i start tree₀ marks₀ counts₀ k₀ tree marks counts k = Inv i sta
 
 abbrev μ-loop : tie.MeasureT-loop
 μ-loop i start tree₀ marks₀ counts₀ k₀ tree marks counts k = i - k
+
+-- the function's start, seen from the loop
+abbrev start : tie.At-loop Inv-loop μ-loop → tie.Start Inv-loop μ-loop
+start l = l .before .before .before .before .before .before
 
 -- the invariant from its first parts
 invariant : {i start : ℕ} {tree₀ marks₀ counts₀ tree marks counts : List ℕ} {k : ℕ} → Climbable i start tree₀ marks₀ counts₀
@@ -57,38 +62,42 @@ loop-holds c =
 
 -- a turn's step up the way
 step : (c : tie.After-parent-of Inv-loop μ-loop) →
-    let l = c .before .before .before .before .loop in
-    let a = c .before .before .before .before .before .before .before .before .before .before .args in
+    let at = c .before .before .before .before in
+    let l = at .loop in
+    let a = start at .args in
     let p = c .parent-of .result in
     (w : Climbable (a .i) (a .start) (a .tree .now) (a .marks .now) (a .counts .now)) → (l .k < p)
     × Way (w .mesh) (w .order) (a .i) (a .start) (a .marks .now) (set (l .tree) (l .k) p) (set (l .marks) (l .k) (a .i)) (set (l .counts) (l .k) (getD (l .counts) (l .k) 0 + 1)) p
 step c w =
-    let l = c .before .before .before .before .loop in
-    let a = c .before .before .before .before .before .before .before .before .before .before .args in
+    let at = c .before .before .before .before in
+    let l = at .loop in
+    let a = start at .args in
     way-step (w .mesh) (w .order) (a .i) (w .inside) (a .start) (a .marks .now) (l .tree) (l .marks) (l .counts) (l .k) (l .inv .way w) (c .parent-of .result)
     (l .inv .inTree) (l .inv .inMarks) (l .inv .inCounts) (omega (arith, w .few, w .inside)) (c .before .before .if2 .taken) (c .parent-of .ensures)
 
 loop-less : tie.Need-loop-less Inv-loop μ-loop
 loop-less c =
-    let s = c .before .before .before .before .before .before .before .before .before .before .before .before in
-    let t = step (c .before .before) (s .pre) in
+    let p = c .before .before in
+    let t = step p (start (p .before .before .before .before) .pre) in
     omega (arith, t .0, t .1 .low, c .node2 .ensures)
 
 loop-again : tie.Need-loop-again Inv-loop μ-loop
 loop-again c =
-    let l = c .before .before .before .before .before .before .loop in
-    let s = c .before .before .before .before .before .before .before .before .before .before .before .before in
-    let p = c .before .before .parent-of .result in
+    let t = c .before .before in
+    let at = t .before .before .before .before in
+    let l = at .loop in
+    let s = start at in
+    let p = t .parent-of .result in
     invariant (s .pre)
     (length-set (l .tree) (l .k) p ∙ l .inv .longTree)
     (length-set (l .marks) (l .k) (s .args .i) ∙ l .inv .longMarks)
     (length-set (l .counts) (l .k) (getD (l .counts) (l .k) 0 + 1) ∙ l .inv .longCounts)
-    (λ w. rw (c .node2 .ensures) (step (c .before .before) w .1))
+    (λ w. rw (c .node2 .ensures) (step t w .1))
 
 returns-2 : tie.Need-returns-2 Inv-loop μ-loop
 returns-2 c = λ w.
     let l = c .before .before .loop in
-    let a = c .before .before .before .before .before .before .before .before .args in
+    let a = start (c .before .before) .args in
     way-end (w .mesh) (w .order) (a .i) (w .inside) (a .start) (a .marks .now) (l .tree) (l .marks) (l .counts) (l .k) (l .inv .way w) (c .if2 .left)
 
 pub climb-spec : {M : Type 1} → statement M

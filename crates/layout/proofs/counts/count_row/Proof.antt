@@ -1,4 +1,5 @@
--- `layout::counts::count_row` meets its contract: the loop climbs from each neighbour of the node at position i, and with them all columns that have row i are counted.
+-- `layout::counts::count_row` meets its contract: the loop climbs from each neighbour of the node at position i, and with them all columns
+-- that have row i are counted.
 use mathlib.Core.Path.{_≡_, refl, sym, ap, _∙_}
 use mathlib.Core.Logic.{inl, inr}
 use mathlib.Core.Bool.{true}
@@ -40,6 +41,10 @@ abbrev μ-loop : tie.MeasureT-loop
 abbrev mesh : tie.Start Inv-loop μ-loop → Mesh
 mesh s = lent (s .args .n) (s .args .starts .now) (s .args .neighbours .now)
 
+-- the function's start, seen from the node at position i
+abbrev start : tie.After-node Inv-loop μ-loop → tie.Start Inv-loop μ-loop
+start v = v .before .before .before .before .before .before .before .before .before
+
 shared-slice-read-node : tie.Need-shared-slice-read-node Inv-loop μ-loop
 shared-slice-read-node c =
     let s = c .before .before .before .before .before .before .before .before in
@@ -47,14 +52,14 @@ shared-slice-read-node c =
 
 list-requires : tie.Need-list-requires Inv-loop μ-loop
 list-requires c κs =
-    let s = c .before .before .before .before .before .before .before .before .before in
+    let s = start c in
     checked-within (mesh s) (s .pre .0 .0 .checked) (c .node .result)
     (omega (arith, c .node .ensures, order-inside (s .args .n) (s .args .order .now) (s .pre .0 .0 .once) (s .args .i) (s .pre .0 .1)))
 
 loop-holds : tie.Need-loop-holds Inv-loop μ-loop
 unfolding neighboursOf
 loop-holds c =
-    let s = c .before .before .before .before .before .before .before .before .before .before in
+    let s = start (c .before) in
     let a = s .args in
     record {
       near = c .list .ensures ∙ ap (listAt (a .starts .now) (a .neighbours .now)) (c .before .node .ensures);
@@ -68,13 +73,15 @@ loop-holds c =
 
 -- what a neighbour's position is
 placed : (c : tie.After-node2 Inv-loop μ-loop) →
-    let l = c .before .before .before .loop in
-    let s = c .before .before .before .before .before .before .before .before .before .before .before .before .before .before in
+    let at = c .before .before .before in
+    let l = at .loop in
+    let s = start (at .before .before) in
     (c .node2 .result < s .args .n)
     × (getD (s .args .positions .now) (c .node2 .result) 0 < s .args .i → isRow (mesh s) (s .args .order .now) (s .args .i) (getD (s .args .positions .now) (c .node2 .result) 0) ≡ true)
 placed c =
-    let l = c .before .before .before .loop in
-    let s = c .before .before .before .before .before .before .before .before .before .before .before .before .before .before in
+    let at = c .before .before .before in
+    let l = at .loop in
+    let s = start (at .before .before) in
     let lt : l .e < length (neighboursOf (mesh s) (getD (s .args .order .now) (s .args .i) 0)) = omega (arith, ap length (l .inv .near)) in
     rw (c .node2 .ensures, l .inv .near) (
       entry-node (mesh s) (s .pre .0 .0 .checked) (getD (s .args .order .now) (s .args .i) 0) (l .e) lt,
@@ -89,12 +96,14 @@ shared-slice-read-climb c = omega (arith, placed (c .before) .0)
 
 -- the climb from it
 able : (c : tie.After-node2 Inv-loop μ-loop) →
-    let l = c .before .before .before .loop in
-    let s = c .before .before .before .before .before .before .before .before .before .before .before .before .before .before in
+    let at = c .before .before .before in
+    let l = at .loop in
+    let s = start (at .before .before) in
     Climbable (s .args .i) (getD (s .args .positions .now) (c .node2 .result) 0) (l .tree) (l .marks) (l .counts)
 able c =
-    let l = c .before .before .before .loop in
-    let s = c .before .before .before .before .before .before .before .before .before .before .before .before .before .before in
+    let at = c .before .before .before in
+    let l = at .loop in
+    let s = start (at .before .before) in
     record {
       mesh = mesh s;
       order = s .args .order .now;
@@ -136,7 +145,7 @@ loop-again c =
 returns : tie.Need-returns Inv-loop μ-loop
 returns c =
     let l = c .before .loop in
-    let s = c .before .before .before .before .before .before .before .before .before .before .before .before in
+    let s = start (c .before .before .before) in
     let a = s .args in (
       climbing-end (mesh s) (a .order .now) (a .i) (s .pre .0 .1) (l .tree) (l .marks) (l .counts) (s .pre .0 .0 .checked .symmetric) (l .inv .climbing)
           (entries-all (mesh s) (a .order .now) (a .positions .now) (s .pre .0 .0) (a .i) (s .pre .0 .1) (l .marks)
@@ -146,7 +155,7 @@ returns c =
 
 same-length-2 : tie.Need-same-length-2 Inv-loop μ-loop
 same-length-2 c =
-    let a = c .before .before .before .before .before .before .before .before .before .before .before .before .args in
+    let a = start (c .before .before .before) .args in
     c .before .loop .inv .longMarks ∙ length-set (a .marks .now) (a .i) (a .i)
 
 pub count-row-spec : {M : Type 1} → statement M

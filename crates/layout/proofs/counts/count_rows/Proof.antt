@@ -7,8 +7,7 @@ use borrow.Author.Needs.{needs}
 use lib.ListN.{length}
 use Rattle.plan.specs.Mesh.{Mesh}
 use Rattle.mesh.specs.Lent.{lent}
-use Rattle.layout.specs.Arrays.{CountedBelow}
-use Rattle.layout.specs.Climbing.{Unmarked}
+use Rattle.layout.specs.Arrays.{Unmarked, CountedBelow}
 use Rattle.layout.proofs.Climbing.{counted-none, counted-all}
 use Rattle.layout.proofs.counts.count_rows.Statement.{statement}
 use Rattle.layout.proofs.counts.count_rows.Tie as tie
@@ -33,13 +32,24 @@ abbrev μ-loop : tie.MeasureT-loop
 abbrev mesh : tie.Start Inv-loop μ-loop → Mesh
 mesh s = lent (s .args .n) (s .args .starts .now) (s .args .neighbours .now)
 
+-- where the marks were reset and where the tree was, and the function's start
+abbrev marks-reset : tie.After-reset3 Inv-loop μ-loop → tie.After-reset2 Inv-loop μ-loop
+marks-reset d = d .before .before .before .before
+
+abbrev tree-reset : tie.After-reset3 Inv-loop μ-loop → tie.After-reset Inv-loop μ-loop
+tree-reset d = marks-reset d .before .before .before .before
+
+abbrev start : tie.After-reset3 Inv-loop μ-loop → tie.Start Inv-loop μ-loop
+start d = tree-reset d .before .before .before .before .before .before .before .before .before
+
 loop-holds : tie.Need-loop-holds Inv-loop μ-loop
 loop-holds c =
     let d = c .before .before in
-    let s = c .before .before .before .before .before .before .before .before .before .before .before .before .before .before .before .before .before .before .before in
+    let s = start d in
+    let t = tree-reset d .reset in
     record {
-      counted = counted-none (mesh s) (s .args .order .now) (d .before .before .before .before .before .before .before .before .reset .last .1 .1 .0) (d .reset3 .last .1 .1 .0) (d .before .before .before .before .before .before .before .before .reset .ensures) (d .reset3 .ensures);
-      unmarked = λ k r l h lr e. omega (arith, d .before .before .before .before .reset2 .ensures k l, s .pre .0 .checked .few);
+      counted = counted-none (mesh s) (s .args .order .now) (t .last .1 .1 .0) (d .reset3 .last .1 .1 .0) (t .ensures) (d .reset3 .ensures);
+      unmarked = λ k r l h lr e. omega (arith, marks-reset d .reset2 .ensures k l, s .pre .0 .checked .few);
       low = search needs;
       longTree = refl;
       longMarks = refl;
@@ -48,16 +58,16 @@ loop-holds c =
 
 -- the lists stay as long as they were
 kept : (c : tie.At-loop Inv-loop μ-loop) →
-    let a = c .before .before .before .before .before .before .before .before .before .before .before .before .before .before .before .before .before .before .before .before .args in
+    let a = start (c .before .before .before) .args in
     (length (c .loop .tree) ≡ length (a .tree .now)) × (length (c .loop .marks) ≡ length (a .marks .now)) × (length (c .loop .counts) ≡ length (a .counts .now))
 kept c =
     let d = c .before .before .before in
-    (c .loop .inv .longTree ∙ d .before .before .before .before .before .before .before .before .reset .kept .1 .1 .0, c .loop .inv .longMarks ∙ d .before .before .before .before .reset2 .kept .1 .1 .0, c .loop .inv .longCounts ∙ d .reset3 .kept .1 .1 .0)
+    (c .loop .inv .longTree ∙ tree-reset d .reset .kept .1 .1 .0, c .loop .inv .longMarks ∙ marks-reset d .reset2 .kept .1 .1 .0, c .loop .inv .longCounts ∙ d .reset3 .kept .1 .1 .0)
 
 count-row-requires : tie.Need-count-row-requires Inv-loop μ-loop
 count-row-requires c κs =
     let l = c .before .before .before .before in
-    let s = l .before .before .before .before .before .before .before .before .before .before .before .before .before .before .before .before .before .before .before .before in
+    let s = start (l .before .before .before) in
     let t = kept l in
     ((s .pre .0, omega arith, omega arith, omega arith, omega arith), (l .loop .inv .counted, l .loop .inv .unmarked))
 
@@ -77,7 +87,7 @@ loop-again c =
 returns : tie.Need-returns Inv-loop μ-loop
 returns c =
     let l = c .before in
-    let s = l .before .before .before .before .before .before .before .before .before .before .before .before .before .before .before .before .before .before .before .before in
+    let s = start (l .before .before .before) in
     let t = kept l in
     let e : l .loop .i ≡ s .args .n = omega arith in
     let all = rw e at (l .loop .inv .counted) in

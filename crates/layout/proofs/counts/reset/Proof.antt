@@ -1,12 +1,10 @@
 -- `layout::counts::reset` meets its contract: the first k numbers are set.
-use mathlib.Core.Path.{_≡_, _∙_}
-use mathlib.Core.Logic.{inl, inr}
+use mathlib.Core.Path.{_≡_, refl, _∙_}
 use Prim.Native.Nat.{ℕ, _-_, _≤_, _<_}
 use native.Mathlib.Omega.{arith}
 use borrow.Author.Needs.{needs}
 use lib.ListN.{length, getD, length-set}
-use lib.Seq.{getD-set-same, getD-set-other}
-use Rattle.theory.proofs.Bools.{eq-or-ne}
+use Rattle.layout.proofs.Stores.{getD-set-cases}
 use Rattle.layout.proofs.counts.reset.Statement.{statement}
 use Rattle.layout.proofs.counts.reset.Tie as tie
 
@@ -22,10 +20,7 @@ loop-again c =
     let s = c .before .before in (
       search needs,
       length-set (l .numbers) (l .k) (s .args .x) ∙ l .inv .1,
-      λ j h. elim (eq-or-ne j (l .k)) [
-        | inl e ↦ rw e (getD-set-same (l .numbers) (l .k) (s .args .x) 0 (omega arith))
-        | inr e ↦ getD-set-other (l .numbers) (l .k) j (s .args .x) 0 e ∙ l .inv .2 j (omega (arith, e))
-      ],
+      λ j h. getD-set-cases (λ y. y ≡ s .args .x) (l .numbers) (l .k) (s .args .x) j (omega arith) (λ e. refl) (λ e. l .inv .2 j (omega (arith, e))),
     )
 
 returns : tie.Need-returns Inv-loop μ-loop

@@ -1,4 +1,4 @@
--- `questions::bad_layout` meets its contract: the three tests are those of `badLayout`.
+-- `layout::questions::bad_layout` meets its contract: the three tests are those of `badLayout`.
 use mathlib.Core.Path.{_≡_, sym, _∙_}
 use mathlib.Core.Bool.{false}
 use native.Mathlib.Omega.{arith}

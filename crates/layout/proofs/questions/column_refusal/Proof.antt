@@ -1,4 +1,4 @@
--- `questions::column_refusal` meets its contract: a fault of the layout comes first, then the position's.
+-- `layout::questions::column_refusal` meets its contract: a fault of the layout comes first, then the position's.
 use mathlib.Core.Path.{_≡_, sym, _∙_}
 use mathlib.Core.List.{[], _∷_}
 use borrow.Author.Tests.{le-leb, lt-leb}

@@ -1,4 +1,4 @@
--- `layout::questions::column_rows` meets its contract: the stretch lies within the rows, refused or not.
+-- `layout::questions::column_rows` meets its contract: the span lies within the rows, refused or not.
 use mathlib.Core.Path.{_≡_}
 use Prim.Native.Nat.{_+_, _-_, _≤_}
 use native.Mathlib.Omega.{arith}
@@ -9,7 +9,7 @@ use Rattle.layout.proofs.Answered.{span-within}
 use Rattle.layout.proofs.questions.column_rows.Statement.{statement}
 use Rattle.layout.proofs.questions.column_rows.Tie as tie
 
--- the stretch lies within the rows
+-- the span lies within the rows
 within : (c : tie.After-struct-known) → c .before .column-span .result .start + c .before .column-span .result .count ≤ length (c .before .before .before .before .args .rows .now)
 within c =
     let s = c .before .before .before .before .args in

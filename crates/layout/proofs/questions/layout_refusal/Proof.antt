@@ -1,4 +1,4 @@
--- `questions::layout_refusal` meets its contract: its tests are the two checks, in their order.
+-- `layout::questions::layout_refusal` meets its contract: its tests are the two checks, in their order.
 use mathlib.Core.Path.{_≡_, sym, _∙_}
 use mathlib.Core.Bool.{false}
 use borrow.Author.Needs.{needs}

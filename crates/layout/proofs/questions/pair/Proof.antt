@@ -1,4 +1,5 @@
--- `layout::questions::pair` meets its contract: its tests are the question's checks, and the slot is that of the later position in the earlier's column.
+-- `layout::questions::pair` meets its contract: its tests are the question's checks, and the slot is that of the later position in the
+-- earlier's column.
 use mathlib.Core.Path.{_≡_, sym, _∙_}
 use native.Mathlib.Omega.{arith}
 use lib.Dec.{leb}
@@ -12,8 +13,12 @@ use Rattle.layout.proofs.Answered.{good-within, good-ascends, pair-layo
 use Rattle.layout.proofs.questions.pair.Statement.{statement}
 use Rattle.layout.proofs.questions.pair.Tie as tie
 
+-- the function's start, seen from the test of the layout's fault
+abbrev start : tie.Else1 → tie.Start
+start e = e .before .before .before .before
+
 -- the layout has no fault
-no-layout-fault : (c : tie.Else1) → let s = c .before .before .before .before .args in firstFault (layoutChecks (s .n) (s .columnStarts .now) (s .rows .now)) ≡ 0
+no-layout-fault : (c : tie.Else1) → let s = start c .args in firstFault (layoutChecks (s .n) (s .columnStarts .now) (s .rows .now)) ≡ 0
 no-layout-fault c = sym (c .before .layout-refusal .ensures) ∙ c .if1 .left
 
 returns : tie.Need-returns
@@ -24,43 +29,50 @@ returns c =
 returns-2 : tie.Need-returns-2
 unfolding positionOutside
 returns-2 c =
-    let s = c .before .before .before .before .before .args in
-    sym (pair-outside (s .n) (s .columnStarts .now) (s .rows .now) (s .a) (s .b) (no-layout-fault (c .before)) (or-left (leb (s .n) (s .a)) _ (le-leb _ _ (c .if2 .taken))))
+    let e = c .before in
+    let s = start e .args in
+    sym (pair-outside (s .n) (s .columnStarts .now) (s .rows .now) (s .a) (s .b) (no-layout-fault e) (or-left (leb (s .n) (s .a)) _ (le-leb _ _ (c .if2 .taken))))
 
 returns-3 : tie.Need-returns-3
 unfolding positionOutside
 returns-3 c =
-    let s = c .before .before .before .before .before .before .args in
-    sym (pair-outside (s .n) (s .columnStarts .now) (s .rows .now) (s .a) (s .b) (no-layout-fault (c .before .before)) (or-right (leb (s .n) (s .a)) _ (or-left (leb (s .n) (s .b)) _ (le-leb _ _ (c .if3 .taken)))))
+    let e = c .before .before in
+    let s = start e .args in
+    sym (pair-outside (s .n) (s .columnStarts .now) (s .rows .now) (s .a) (s .b) (no-layout-fault e) (or-right (leb (s .n) (s .a)) _ (or-left (leb (s .n) (s .b)) _ (le-leb _ _ (c .if3 .taken)))))
 
 returns-4 : tie.Need-returns-4
 returns-4 c =
-    let s = c .before .before .before .before .before .before .before .args in
-    sym (pair-same (s .n) (s .columnStarts .now) (s .rows .now) (s .a) (s .b) (no-layout-fault (c .before .before .before)) (omega arith) (omega arith) (c .if4 .taken))
+    let e = c .before .before .before in
+    let s = start e .args in
+    sym (pair-same (s .n) (s .columnStarts .now) (s .rows .now) (s .a) (s .b) (no-layout-fault e) (omega arith) (omega arith) (c .if4 .taken))
 
 slot-requires : tie.Need-slot-requires
 slot-requires c κs =
-    let s = c .before .before .before .before .before .before .before .before .args in
-    let g : GoodLayout (s .n) (s .columnStarts .now) (s .rows .now) = good-layout (s .n) (s .columnStarts .now) (s .rows .now) (no-layout-fault (c .before .before .before .before)) in
+    let e = c .before .before .before .before in
+    let s = start e .args in
+    let g : GoodLayout (s .n) (s .columnStarts .now) (s .rows .now) = good-layout (s .n) (s .columnStarts .now) (s .rows .now) (no-layout-fault e) in
     (good-within (s .n) (s .columnStarts .now) (s .rows .now) g (s .a) (omega arith), good-ascends (s .n) (s .columnStarts .now) (s .rows .now) g (s .a) (omega arith))
 
 returns-5 : tie.Need-returns-5
 returns-5 c =
-    let s = c .before .before .before .before .before .before .before .before .before .args in
+    let e = c .before .before .before .before .before in
+    let s = start e .args in
     c .slot .ensures
-    ∙ sym (pair-slot (s .n) (s .columnStarts .now) (s .rows .now) (s .a) (s .b) (no-layout-fault (c .before .before .before .before .before)) (omega arith) (omega arith) (s .b) (s .a) (λ e. omega arith) (omega arith) (omega arith))
+    ∙ sym (pair-slot (s .n) (s .columnStarts .now) (s .rows .now) (s .a) (s .b) (no-layout-fault e) (omega arith) (omega arith) (s .b) (s .a) (λ same. omega arith) (omega arith) (omega arith))
 
 slot-requires-2 : tie.Need-slot-requires-2
 slot-requires-2 c κs =
-    let s = c .before .before .before .before .before .before .before .before .args in
-    let g : GoodLayout (s .n) (s .columnStarts .now) (s .rows .now) = good-layout (s .n) (s .columnStarts .now) (s .rows .now) (no-layout-fault (c .before .before .before .before)) in
+    let e = c .before .before .before .before in
+    let s = start e .args in
+    let g : GoodLayout (s .n) (s .columnStarts .now) (s .rows .now) = good-layout (s .n) (s .columnStarts .now) (s .rows .now) (no-layout-fault e) in
     (good-within (s .n) (s .columnStarts .now) (s .rows .now) g (s .b) (omega arith), good-ascends (s .n) (s .columnStarts .now) (s .rows .now) g (s .b) (omega arith))
 
 returns-6 : tie.Need-returns-6
 returns-6 c =
-    let s = c .before .before .before .before .before .before .before .before .before .args in
+    let e = c .before .before .before .before .before in
+    let s = start e .args in
     c .slot2 .ensures
-    ∙ sym (pair-slot (s .n) (s .columnStarts .now) (s .rows .now) (s .a) (s .b) (no-layout-fault (c .before .before .before .before .before)) (omega arith) (omega arith) (s .a) (s .b) (c .before .before .if4 .left) (omega arith) (omega arith))
+    ∙ sym (pair-slot (s .n) (s .columnStarts .now) (s .rows .now) (s .a) (s .b) (no-layout-fault e) (omega arith) (omega arith) (s .a) (s .b) (c .before .before .if4 .left) (omega arith) (omega arith))
 
 pub pair-spec : {M : Type 1} → statement M
 pair-spec =
