@@ -1,9 +1,10 @@
 -- Document 01, "The plan file, version 1": the bytes of a plan, what bytes say, and the checks of a plan that is supplied (13, 15 to 19).
+use mathlib.Core.Path.{_≡_}
 use mathlib.Core.Bool.{Bool, true, not, _&&_, _||_}
 use mathlib.Core.List.{List, [], _∷_, _++_, map, flatten}
 use Prim.Native.Nat.{ℕ, _+_, _-_, _*_, _/_, _%_}
 use lib.Dec.{ltb, eqb}
-use lib.ListN.{getD}
+use lib.ListN.{length, getD}
 use Rattle.plan.specs.Lists.{exists, every, below, isIn, listAt, eachOnce, total, runningSums, ascending}
 use Rattle.plan.specs.Refusals.{Checks}
 use Rattle.plan.specs.Mesh.{noParent, badNodeCount, badStarts}
@@ -88,6 +89,14 @@ parseAt at bytes =
 
 unfoldable pub parse : List ℕ → Contents
 parse bytes = parseAt nodesAt bytes
+
+-- a whole plan: each list is as long as its count says, the column starts n + 1
+pub record Whole (c : Contents) : Type 0 where
+  pub order : length (c .order) ≡ c .nodes
+  pub sizes : length (c .sizes) ≡ c .parts
+  pub parents : length (c .parents) ≡ c .parts
+  pub columnStarts : length (c .columnStarts) ≡ c .nodes + 1
+  pub rows : length (c .rows) ≡ c .slots
 
 -- 13: n not 1 to 4,096, p not 1 to n, or s above n(n − 1)/2
 unfoldable pub badHeader : Contents → Bool

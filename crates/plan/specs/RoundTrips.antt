@@ -15,7 +15,7 @@ use Rattle.plan.specs.Lists.{every, written}
 use Rattle.plan.specs.Answers.{accepted}
 use Rattle.plan.specs.Mesh.{Mesh}
 use Rattle.plan.specs.Planning.{Contents, contents, Buffers, Capacity, capacity, buffersTooShort, rowsTooShort, Outcome, handOut, Filled, planOf, planning}
-use Rattle.plan.specs.File.{decode16, magic, version, fileLength, encode, parse, badHeader, badOrder, badParts, badRows, notNested, notCovered}
+use Rattle.plan.specs.File.{decode16, magic, version, fileLength, encode, parse, Whole, badHeader, badOrder, badParts, badRows, notNested, notCovered}
 use Rattle.plan.specs.Reading.{reading}
 use Rattle.plan.specs.Writing.{used, WriteOutcome, writing, Wrote}
 
@@ -109,11 +109,9 @@ OtherVersions =
     → 17 ≤ length bytes → take 3 bytes ≡ magic → decode16 bytes 3 ≢ version
     → reading bytes room ≡ handOut 12 (parse bytes)
 
--- a plan without a fault of 13 or 15 to 19, each list as long as its count says (15 and 17 say it of the order and the column starts)
+-- a whole plan without a fault of 13 or 15 to 19
 pub record Sound (c : Contents) : Type 0 where
-  pub sizesMany : length (c .sizes) ≡ c .parts
-  pub parentsMany : length (c .parents) ≡ c .parts
-  pub rowsMany : length (c .rows) ≡ c .slots
+  pub whole : Whole c
   pub header : badHeader c ≡ false
   pub order : badOrder c ≡ false
   pub parts : badParts c ≡ false

@@ -14,9 +14,9 @@ use Rattle.theory.proofs.Bools.{refuted, iff-eq, eq-or-ne}
 use Rattle.theory.proofs.Lists.{getD-default}
 use Rattle.theory.proofs.PartAncestors.{Under, here, up, under-trans, under-of-test, under-le, under-chain, test-of-under}
 use Rattle.theory.proofs.PartChecks.{parent-is}
-use Rattle.planfile.specs.Supplied.{Parents}
+use Rattle.planfile.specs.Supplied.{SoundParents}
 
-module _ (parents : List ℕ) (passed : Parents parents) where
+module _ (parents : List ℕ) (passed : SoundParents parents) where
   -- a part's parent, where it has one, is a later part
   later : (q : ℕ) → parentOf parents q ≢ noParent → q < parentOf parents q
   later q has = parent-is parents (passed .good) q has .0
@@ -69,7 +69,7 @@ module _ (parents : List ℕ) (passed : Parents parents) where
         | inr has ↦ omega (arith, later r has)
       ]
 
-  -- a reaches that is no longer before `to` stands on it exactly where `to` is at or above
+  -- a part that is no longer before `to` is `to` itself exactly where `to` is at or above it
   pub reaches-end : (r to : ℕ) → to ≤ r → eqb r to ≡ atOrAbove parents r to
   reaches-end r to le = elim (eq-or-ne r to) [
     | inl e ↦ eq-eqb r to e ∙ sym (rw e (above-test to to here))

@@ -21,8 +21,9 @@ use Rattle.theory.proofs.Compressed.{sums-starts}
 use Rattle.theory.proofs.Coding.{decode16s-length, decode16s-drop}
 use Rattle.theory.proofs.Fitting.{Limits, header-limits, counts-few}
 use Rattle.theory.proofs.RoundTrips.{Header, header-says, read-whole}
-use Rattle.planfile.specs.Supplied.{orderAndParts, orderAndPartsChecks, partsAndRows, Exact, Parted, Started, rowsIn, rowCountsIn, Headed}
-use Rattle.planfile.proofs.Passing.{order-checks, exact-whole, exact-few, passed-parted}
+use Rattle.planfile.specs.Supplied.{orderAndParts, orderAndPartsChecks, partsAndRows, Exact, SoundParts, Started}
+use Rattle.planfile.specs.Filed.{rowsIn, rowCountsIn, Headed}
+use Rattle.planfile.proofs.Passing.{order-checks, exact-few, passed-parts}
 
 -- ---- the counts and the length
 
@@ -122,9 +123,9 @@ module _ (bytes : List ℕ) (n p s : ℕ) (h : Headed bytes n p s) where
   abbrev file : Contents
   file = parse bytes
 
-  -- it has passed 13, and each list in it is as long as its count says
+  -- it is whole and has passed 13
   exact : Exact file
-  exact = exact-whole file (header-says bytes (h .good) .good) (read-whole bytes)
+  exact = record { header = header-says bytes (h .good) .good; whole = read-whole bytes }
 
   -- an order that passed 15 can be inverted
   pub order-inverts : (nodes : List ℕ) → nodes ≡ file .order → firstFault (contentsChecks file) ≡ 0 → Order (length nodes) nodes × (length nodes ≡ n)
@@ -146,11 +147,11 @@ module _ (bytes : List ℕ) (n p s : ℕ) (h : Headed bytes n p s) where
 
     -- 15 and 16 look at the order and the parts
     pub file-ordered : firstFault (orderAndPartsChecks (orderAndParts (length order) order sizes parents)) ≡ firstFault (orderAndPartsChecks file)
-    file-ordered = rw (own .0, own .1, own .2) (order-checks file exact)
+    file-ordered = rw (own .0, own .1, own .2) (order-checks file (read-whole bytes))
 
     -- the parts have passed 16
-    pub file-parted : firstFault (orderAndPartsChecks file) ≡ 0 → Parted n sizes parents
-    file-parted ordered = rw (own .1, own .2, h .nodes) (passed-parted file exact ordered)
+    pub file-parts : firstFault (orderAndPartsChecks file) ≡ 0 → SoundParts n sizes parents
+    file-parts ordered = rw (own .1, own .2, h .nodes) (passed-parts file exact ordered)
 
     -- a start for each column, and one more
     pub starts-long : length columnStarts ≡ n + 1

@@ -11,7 +11,7 @@ use Rattle.theory.proofs.Coding.{decode16s-length, decode16s-segment}
 use Rattle.theory.proofs.Written.{front-written}
 use Rattle.mesh.specs.Lent.{ListWithin}
 use Rattle.mesh.proofs.Lists.{list-long}
-use Rattle.planfile.specs.Supplied.{rowsIn}
+use Rattle.planfile.specs.Filed.{rowsIn}
 
 module _ (starts bytes : List ℕ) (j : ℕ) (w : ListWithin starts (rowsIn bytes) j) where
   -- the column's bytes end within them

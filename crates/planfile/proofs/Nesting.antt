@@ -17,43 +17,43 @@ use Rattle.theory.proofs.PartOf.{part-mono, part-lt}
 use Rattle.theory.proofs.PartChecks.{parents-may, passes-tree}
 use Rattle.mesh.specs.Lent.{ListWithin}
 use Rattle.mesh.proofs.Lists.{good-starts-within}
-use Rattle.planfile.specs.Supplied.{orderAndParts, Parted, Parents, PartNumbers, outside, Started, LaidOut}
+use Rattle.planfile.specs.Supplied.{orderAndParts, SoundParts, SoundParents, PartNumbers, outside, Started, LaidOut}
 
 -- ---- parts that passed check 16
 
 -- they are a tree of parts
-pub parted-tree : (n : ℕ) (sizes parents : List ℕ) → Parted n sizes parents → PartTree n sizes parents
-parted-tree n sizes parents h = passes-tree (orderAndParts n [] sizes parents) (h .good) (h .asMany) refl
+pub parts-tree : (n : ℕ) (sizes parents : List ℕ) → SoundParts n sizes parents → PartTree n sizes parents
+parts-tree n sizes parents h = passes-tree (orderAndParts n [] sizes parents) (h .good) (h .asMany) refl
 
 -- their sizes sum to n
-pub parted-total : (n : ℕ) (sizes parents : List ℕ) → Parted n sizes parents → total sizes ≡ n
-parted-total n sizes parents h = parted-tree n sizes parents h .whole
+pub parts-total : (n : ℕ) (sizes parents : List ℕ) → SoundParts n sizes parents → total sizes ≡ n
+parts-total n sizes parents h = parts-tree n sizes parents h .whole
 
 -- they are no more than positions
-pub parted-few : (n : ℕ) (sizes parents : List ℕ) → Parted n sizes parents → length sizes ≤ n
-parted-few n sizes parents h =
-    let t : PartTree n sizes parents = parted-tree n sizes parents h in
+pub parts-few : (n : ℕ) (sizes parents : List ℕ) → SoundParts n sizes parents → length sizes ≤ n
+parts-few n sizes parents h =
+    let t : PartTree n sizes parents = parts-tree n sizes parents h in
     omega (arith, positive-few sizes (t .positive), t .whole)
 
 -- so the parents have passed check 16
-pub parted-parents : (n : ℕ) (sizes parents : List ℕ) → Parted n sizes parents → Parents parents
-parted-parents n sizes parents h =
+pub parts-parents : (n : ℕ) (sizes parents : List ℕ) → SoundParts n sizes parents → SoundParents parents
+parts-parents n sizes parents h =
     record {
-      few = omega (arith, h .few, h .asMany, parted-few n sizes parents h);
+      few = omega (arith, h .few, h .asMany, parts-few n sizes parents h);
       good = parents-may (orderAndParts n [] sizes parents) (h .good) (h .asMany);
     }
 
-module _ (n : ℕ) (sizes parents numbers : List ℕ) (h : Parted n sizes parents) (said : (i : ℕ) → i < total sizes → getD numbers i 0 ≡ partOf sizes i) where
+module _ (n : ℕ) (sizes parents numbers : List ℕ) (h : SoundParts n sizes parents) (said : (i : ℕ) → i < total sizes → getD numbers i 0 ≡ partOf sizes i) where
   -- a position's number is that of its part
   pub number-is : (i : ℕ) → i < n → getD numbers i 0 ≡ partOf sizes i
-  number-is i lt = said i (omega (arith, parted-total n sizes parents h))
+  number-is i lt = said i (omega (arith, parts-total n sizes parents h))
 
   -- the numbers of the parts, where there are enough of them
-  pub parted-numbers : n ≤ length numbers → PartNumbers n parents numbers
-  parted-numbers long =
+  pub parts-numbers : n ≤ length numbers → PartNumbers n parents numbers
+  parts-numbers long =
       record {
         long = long;
-        inside = λ i lt. omega (arith, number-is i lt, h .asMany, part-lt sizes i (omega (arith, parted-total n sizes parents h)));
+        inside = λ i lt. omega (arith, number-is i lt, h .asMany, part-lt sizes i (omega (arith, parts-total n sizes parents h)));
         rising = λ i k le lt. omega (arith, number-is i (omega arith), number-is k lt, part-mono sizes i k le);
       }
 

@@ -6,13 +6,11 @@ use Prim.Native.Nat.{_≤_}
 use native.Mathlib.Omega.{arith}
 use lib.ListN.{length}
 use Rattle.plan.specs.Refusals.{Checks, firstFault}
-use Rattle.plan.specs.Mesh.{badNodeCount}
 use Rattle.plan.specs.Planning.{Contents}
-use Rattle.plan.specs.File.{badHeader, badOrder, badParts, badRows, notNested, notCovered, contentsChecks}
+use Rattle.plan.specs.File.{Whole, badHeader, badOrder, badParts, badRows, notNested, notCovered, contentsChecks}
 use Rattle.theory.proofs.Refusals.{no-fault, first-some, first-none}
-use Rattle.theory.proofs.FileFields.{Whole}
 use Rattle.theory.proofs.Fitting.{header-limits, counts-few, GoodRows, good-rows}
-use Rattle.planfile.specs.Supplied.{countsOnly, orderAndParts, orderAndPartsChecks, partsAndRows, Exact, Parted, LaidOut}
+use Rattle.planfile.specs.Supplied.{countsOnly, orderAndParts, orderAndPartsChecks, partsAndRows, Exact, SoundParts, LaidOut}
 
 -- ---- the first fault
 
@@ -55,14 +53,14 @@ unfolding badHeader
 header-counts c = refl
 
 -- 15 and 16 at the order and the parts
-pub order-checks : (c : Contents) → Exact c → firstFault (orderAndPartsChecks (orderAndParts (length (c .order)) (c .order) (c .sizes) (c .parents))) ≡ firstFault (orderAndPartsChecks c)
+pub order-checks : (c : Contents) → Whole c → firstFault (orderAndPartsChecks (orderAndParts (length (c .order)) (c .order) (c .sizes) (c .parents))) ≡ firstFault (orderAndPartsChecks c)
 unfolding badOrder badParts
-order-checks c h = rw (h .order, h .sizes)
+order-checks c w = rw (w .order, w .sizes)
 
 -- 17 at the rows
-pub rows-check : (c : Contents) → Exact c → badRows (partsAndRows (c .nodes) [] [] (c .columnStarts) (c .rows)) ≡ badRows c
+pub rows-check : (c : Contents) → Whole c → badRows (partsAndRows (c .nodes) [] [] (c .columnStarts) (c .rows)) ≡ badRows c
 unfolding badRows
-rows-check c h = rw (h .rows)
+rows-check c w = rw (w .rows)
 
 -- 18 at the parts and the rows
 pub nested-check : (c : Contents) → notNested (partsAndRows (c .nodes) (c .sizes) (c .parents) (c .columnStarts) (c .rows)) ≡ notNested c
@@ -76,31 +74,23 @@ covered-check c = refl
 
 -- ---- what a plan tells that passed a check
 
--- 13, and lists as long as their counts
-pub exact-whole : (c : Contents) → badHeader c ≡ false → Whole c → Exact c
-exact-whole c header w =
-    record { header = header; order = w .order; sizes = w .sizes; parents = w .parents; columnStarts = w .columnStarts; rows = w .rows }
-
 module _ (c : Contents) (h : Exact c) where
-  -- 13: n is 1 to 4,096
-  pub exact-count : badNodeCount (c .nodes) ≡ false
-  exact-count = header-limits c (h .header) .count
-
-  -- and so the order, the sizes and the parents are few
+  -- 13: the order, the sizes and the parents are few
   pub exact-few : (length (c .order) ≤ 4096) × (length (c .sizes) ≤ 4096) × (length (c .parents) ≡ length (c .sizes))
   exact-few =
       let few = counts-few c (h .header) in
-      (omega (arith, few, h .order), omega (arith, few, h .sizes), h .parents ∙ sym (h .sizes))
+      let whole : Whole c = h .whole in
+      (omega (arith, few, whole .order), omega (arith, few, whole .sizes), whole .parents ∙ sym (whole .sizes))
 
   -- 15 and 16: the sizes and the parents are those of parts
-  pub passed-parted : firstFault (orderAndPartsChecks c) ≡ 0 → Parted (c .nodes) (c .sizes) (c .parents)
+  pub passed-parts : firstFault (orderAndPartsChecks c) ≡ 0 → SoundParts (c .nodes) (c .sizes) (c .parents)
   unfolding badParts
-  passed-parted ordered =
+  passed-parts ordered =
       let parts : badParts c ≡ false = no-fault 16 (badParts c) [] (omega arith) (no-fault 15 (badOrder c) ((16, badParts c) ∷ []) (omega arith) ordered .1) .0 in
-      record { few = header-limits c (h .header) .nodesFew; asMany = h .parents ∙ sym (h .sizes); good = rw (h .sizes) parts }
+      record { few = header-limits c (h .header) .nodesFew; asMany = h .whole .parents ∙ sym (h .whole .sizes); good = rw (h .whole .sizes) parts }
 
   -- 17: the rows are laid out
   pub passed-laid : badRows c ≡ false → LaidOut (c .nodes) (c .columnStarts) (c .rows)
   passed-laid good =
       let r : GoodRows c = good-rows c good in
-      record { started = record { few = header-limits c (h .header) .nodesFew; starts = r .starts; last = r .last ∙ sym (h .rows) }; good = r .columns }
+      record { started = record { few = header-limits c (h .header) .nodesFew; starts = r .starts; last = r .last ∙ sym (h .whole .rows) }; good = r .columns }

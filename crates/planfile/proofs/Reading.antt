@@ -18,7 +18,7 @@ use Rattle.plan.specs.Reading.{headerChecks, readChecks, reading}
 use Rattle.theory.proofs.Refusals.{fault-here, fault-later, first-nil, first-some, first-none}
 use Rattle.theory.proofs.FileFields.{counts-read}
 use Rattle.theory.proofs.Handed.{lengthsOf, filled-refused}
-use Rattle.planfile.specs.Supplied.{rowCountsIn, Headed}
+use Rattle.planfile.specs.Filed.{rowCountsIn, Headed}
 
 -- checks 8 and 9, behind those of the file
 abbrev late : List ℕ → Capacity → Checks

@@ -13,7 +13,7 @@ use Rattle.plan.specs.Lists.{written}
 use Rattle.plan.specs.Refusals.{firstFault}
 use Rattle.plan.specs.Answers.{refused}
 use Rattle.plan.specs.Planning.{Contents, rowCounts, contents}
-use Rattle.plan.specs.File.{fileLength, encode, contentsChecks}
+use Rattle.plan.specs.File.{fileLength, encode, Whole, contentsChecks}
 use Rattle.plan.specs.Writing.{badSupply, used, suppliedChecks, outputTooShort, writeChecks, WriteOutcome, writeOut, writing, Wrote}
 use Rattle.plan.specs.RoundTrips.{Sound}
 use Rattle.theory.proofs.Lists.{isIn-getD}
@@ -25,24 +25,23 @@ use Rattle.theory.proofs.FileFields.{counts-length}
 use Rattle.theory.proofs.Fitting.{passes-sound, sound-passes, good-rows, sound-fits}
 use Rattle.theory.proofs.RoundTrips.{used-long, supply-says}
 use Rattle.planfile.specs.Supplied.{Exact, NarrowColumns, lateChecks, WroteExact}
-use Rattle.planfile.proofs.Passing.{exact-whole}
 
 -- ---- slices that are as long as their counts say
 
--- all their entries are used
-used-exact : (c : Contents) → Exact c → used c ≡ c
+-- all entries of a whole plan are used
+used-whole : (c : Contents) → Whole c → used c ≡ c
 unfolding used
-used-exact c x = rw (
-  take-all (c .nodes) (c .order) (omega (arith, x .order)),
-  take-all (c .parts) (c .sizes) (omega (arith, x .sizes)),
-  take-all (c .parts) (c .parents) (omega (arith, x .parents)),
-  take-all (c .nodes + 1) (c .columnStarts) (omega (arith, x .columnStarts)),
-  take-all (c .slots) (c .rows) (omega (arith, x .rows)),
+used-whole c w = rw (
+  take-all (c .nodes) (c .order) (omega (arith, w .order)),
+  take-all (c .parts) (c .sizes) (omega (arith, w .sizes)),
+  take-all (c .parts) (c .parents) (omega (arith, w .parents)),
+  take-all (c .nodes + 1) (c .columnStarts) (omega (arith, w .columnStarts)),
+  take-all (c .slots) (c .rows) (omega (arith, w .rows)),
 )
 
--- 13 of slices as lent: their used entries are as many as the counts say
+-- 13 of slices as lent: their used entries are a whole plan that passed it
 pub exact-used : (c : Contents) → badSupply c ≡ false → Exact (used c)
-exact-used c h = let says = supply-says c h in exact-whole (used c) (says .0) (says .1)
+exact-used c h = let says = supply-says c h in record { header = says .0; whole = says .1 }
 
 -- the slices' fronts by themselves, with their lengths as the counts
 abbrev pub fronts : Contents → Contents
@@ -52,23 +51,19 @@ fronts c =
     contents (c .nodes) (length sizes) (length rows) (take (c .nodes) (c .order)) sizes (take (c .parts) (c .parents)) (take (c .nodes + 1) (c .columnStarts)) rows
 
 -- are the used entries
-fronts-used : (c : Contents) → Exact (used c) → fronts c ≡ used c
+fronts-used : (c : Contents) → Whole (used c) → fronts c ≡ used c
 unfolding used
-fronts-used c x = rw (x .sizes, x .rows)
+fronts-used c w = rw (w .sizes, w .rows)
 
--- so they are as long as their counts say
+-- so they are such a plan
 pub exact-fronts : (c : Contents) → badSupply c ≡ false → Exact (fronts c)
-exact-fronts c h = subst Exact (sym (fronts-used c (exact-used c h))) (exact-used c h)
+exact-fronts c h = let x = exact-used c h in subst Exact (sym (fronts-used c (x .whole))) x
 
--- where 13 and 15 to 19 find no fault, the plan has none
-exact-sound : (c : Contents) → Exact c → firstFault (contentsChecks c) ≡ 0 → Sound c
-exact-sound c x h = passes-sound c (record { order = x .order; sizes = x .sizes; parents = x .parents; columnStarts = x .columnStarts; rows = x .rows }) (x .header) h
-
--- so each column has a number of rows that fits 16 bits
+-- where 15 to 19 find no fault either, each column has a number of rows that fits 16 bits
 pub passes-narrow : (c : Contents) → Exact c → firstFault (contentsChecks c) ≡ 0 → NarrowColumns (c .nodes) (c .columnStarts)
 unfolding rowCounts
 passes-narrow c x h =
-    let sound : Sound c = exact-sound c x h in
+    let sound : Sound c = passes-sound c (x .whole) (x .header) h in
     let starts : List ℕ = c .columnStarts in
     let count : ℕ → ℕ = λ j. getD starts (j + 1) 0 - getD starts j 0 in
     let fits = sound-fits c sound in
@@ -102,7 +97,7 @@ module _ (c : Contents) (found : List ℕ) where
 
   -- none of them: 8 is left
   late-eight : Exact c → firstFault (contentsChecks c) ≡ 0 → firstFault (lateChecks c (length found)) ≡ firstFault ((8, outputTooShort c (length found)) ∷ [])
-  late-eight x e = sound-passes c ((8, outputTooShort c (length found)) ∷ []) (exact-sound c x e)
+  late-eight x e = sound-passes c ((8, outputTooShort c (length found)) ∷ []) (passes-sound c (x .whole) (x .header) e)
 
   -- too little room
   pub refused-room : Exact c → firstFault (contentsChecks c) ≡ 0 → length found < fileLength c → WroteExact c (Refused 8) found found
@@ -117,7 +112,7 @@ module _ (c : Contents) (found : List ℕ) where
       let first : firstFault (lateChecks c (length found)) ≡ 0 = late-eight x e ∙ fault-later 8 (outputTooShort c (length found)) [] (le-ltb (length found) (fileLength c) room) ∙ first-nil in
       record {
         reply = sym (ap (λ (k : ℕ). writeOut k c .reply) first);
-        output = bytes ∙ sym (ap (λ (k : ℕ). written (writeOut k c .bytes) found) first ∙ ap (λ (d : Contents). written (encode d) found) (used-exact c x));
+        output = bytes ∙ sym (ap (λ (k : ℕ). written (writeOut k c .bytes) found) first ∙ ap (λ (d : Contents). written (encode d) found) (used-whole c (x .whole)));
       }
 
   -- 13 of slices as lent
@@ -144,6 +139,6 @@ module _ (c : Contents) (found : List ℕ) where
   wrote-fronts answer left good wrote =
       let x : Exact (used c) = exact-used c good in
       let k : ℕ = firstFault (lateChecks (used c) (length found)) in
-      let same : writeOut k (used c) ≡ writing c (length found) = used-out k (used-exact (used c) x) ∙ sym (ap (λ (i : ℕ). writeOut i c) (used-late good)) in
-      let w : WroteExact (used c) answer found left = subst (λ (d : Contents). WroteExact d answer found left) (fronts-used c x) wrote in
+      let same : writeOut k (used c) ≡ writing c (length found) = used-out k (used-whole (used c) (x .whole)) ∙ sym (ap (λ (i : ℕ). writeOut i c) (used-late good)) in
+      let w : WroteExact (used c) answer found left = subst (λ (d : Contents). WroteExact d answer found left) (fronts-used c (x .whole)) wrote in
       record { reply = w .reply ∙ ap (λ (o : WriteOutcome). o .reply) same; output = w .output ∙ ap (λ (o : WriteOutcome). written (o .bytes) found) same }

@@ -8,7 +8,7 @@ use Rattle.plan.specs.Planning.{Contents, rowCounts}
 use Rattle.plan.specs.File.{encode16, encode32, encode16s, magic, version, encodeParts, encode}
 use Rattle.theory.proofs.Coding.{encode16-length}
 use Rattle.theory.proofs.FileFields.{encode-fields, word-length}
-use Rattle.planfile.specs.Supplied.{headerOf}
+use Rattle.planfile.specs.Filed.{headerOf}
 
 -- the file's first bytes, one number behind the other
 pub header-fields : (n p s : ℕ) → headerOf n p s ≡ (((magic ++ encode16 version) ++ encode32 n) ++ encode32 p) ++ encode32 s

@@ -1,1 +1,2 @@
 pub mod Supplied
+pub mod Filed

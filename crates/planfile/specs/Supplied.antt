@@ -1,8 +1,8 @@
--- What the functions' contracts cite besides the book: plans of some of their lists, checks 15 and 16 by themselves, and what is known of a plan once they are passed.
+-- What the functions' contracts cite of a plan, besides the book: plans of some of their lists, checks 15 and 16 by themselves, and what is known of a plan once they are passed.
 use mathlib.Core.Path.{_≡_}
 use mathlib.Core.Bool.{Bool, true, false, not}
-use mathlib.Core.List.{List, [], _∷_, _++_, flatten}
-use Prim.Native.Nat.{ℕ, _+_, _-_, _*_, _/_, _≤_, _<_}
+use mathlib.Core.List.{List, [], _∷_, _++_}
+use Prim.Native.Nat.{ℕ, _+_, _-_, _≤_, _<_}
 use lib.ListN.{length, getD}
 use Rattle.plan.specs.declared.WriteAnswer.{WriteAnswer}
 use Rattle.plan.specs.Lists.{exists, written}
@@ -11,8 +11,7 @@ use Rattle.plan.specs.Answers.{writeReply}
 use Rattle.plan.specs.Mesh.{badStarts}
 use Rattle.plan.specs.Parts.{atOrAbove}
 use Rattle.plan.specs.Planning.{Contents, contents}
-use Rattle.plan.specs.File.{encode16, encode32, decode16s, magic, version, parse, badHeader, mayBeParent, badOrder, badParts, badColumns, contentsChecks}
-use Rattle.plan.specs.Reading.{headerChecks}
+use Rattle.plan.specs.File.{Whole, badHeader, mayBeParent, badOrder, badParts, badColumns, contentsChecks}
 use Rattle.plan.specs.Writing.{outputTooShort, writeOut}
 
 -- a plan of its three counts alone: what check 13 looks at
@@ -30,23 +29,19 @@ orderAndPartsChecks c = (15, badOrder c) ∷ (16, badParts c) ∷ []
 abbrev pub partsAndRows : ℕ → List ℕ → List ℕ → List ℕ → List ℕ → Contents
 partsAndRows n sizes parents columnStarts rows = contents n (length sizes) (length rows) [] sizes parents columnStarts rows
 
--- a plan with counts that passed check 13, each list as long as its count says
+-- a whole plan that passed check 13
 pub record Exact (c : Contents) : Type 0 where
   pub header : badHeader c ≡ false
-  pub order : length (c .order) ≡ c .nodes
-  pub sizes : length (c .sizes) ≡ c .parts
-  pub parents : length (c .parents) ≡ c .parts
-  pub columnStarts : length (c .columnStarts) ≡ c .nodes + 1
-  pub rows : length (c .rows) ≡ c .slots
+  pub whole : Whole c
 
 -- sizes and parents of parts of n positions that passed check 16
-pub record Parted (n : ℕ) (sizes parents : List ℕ) : Type 0 where
+pub record SoundParts (n : ℕ) (sizes parents : List ℕ) : Type 0 where
   pub few : n ≤ 4096
   pub asMany : length parents ≡ length sizes
   pub good : badParts (orderAndParts n [] sizes parents) ≡ false
 
 -- parents that passed check 16
-pub record Parents (parents : List ℕ) : Type 0 where
+pub record SoundParents (parents : List ℕ) : Type 0 where
   pub few : length parents ≤ 4096
   pub good : (q : ℕ) → q < length parents → mayBeParent (length parents) q (getD parents q 0) ≡ true
 
@@ -71,33 +66,12 @@ pub record LaidOut (n : ℕ) (columnStarts rows : List ℕ) : Type 0 where
   pub started : Started n columnStarts rows
   pub good : badColumns n columnStarts rows ≡ false
 
--- rows in bytes, two for each
-abbrev pub rowsIn : List ℕ → List ℕ
-rowsIn bytes = decode16s bytes 0 2 (length bytes / 2)
-
 -- each of n columns has a number of rows that fits 16 bits
 pub record NarrowColumns (n : ℕ) (columnStarts : List ℕ) : Type 0 where
   pub rising : (j : ℕ) → j < n → getD columnStarts j 0 ≤ getD columnStarts (j + 1) 0
   pub narrow : (j : ℕ) → j < n → getD columnStarts (j + 1) 0 - getD columnStarts j 0 < 65536
 
--- the row counts in a file
-abbrev pub rowCountsIn : List ℕ → List ℕ
-rowCountsIn bytes =
-    let n : ℕ = parse bytes .nodes in
-    decode16s bytes (17 + 2 * n + 4 * parse bytes .parts) 2 n
-
--- the file's first bytes: mark, version and counts
-abbrev pub headerOf : ℕ → ℕ → ℕ → List ℕ
-headerOf n p s = flatten (magic ∷ encode16 version ∷ encode32 n ∷ encode32 p ∷ encode32 s ∷ [])
-
--- a file that passed checks 10 to 14, and the counts in it
-pub record Headed (bytes : List ℕ) (n p s : ℕ) : Type 0 where
-  pub good : firstFault (headerChecks bytes) ≡ 0
-  pub nodes : n ≡ parse bytes .nodes
-  pub parts : p ≡ parse bytes .parts
-  pub slots : s ≡ parse bytes .slots
-
--- the writer's checks where 13 found no fault and each list is as long as its count says: 15 to 19, then 8
+-- the writer's checks of a whole plan that passed check 13: 15 to 19, then 8
 abbrev pub lateChecks : Contents → ℕ → Checks
 lateChecks c room = contentsChecks c ++ ((8, outputTooShort c room) ∷ [])
 

@@ -1,6 +1,6 @@
 // Checks 17 to 19 of the rows in a file: `bytes` are its last ones, two for each row, and a column's rows are read into working memory when they are looked at.
+use crate::arrays::zeros;
 use crate::rules::contains_all;
-use crate::rules::no_numbers;
 use crate::rules::number_parts;
 use crate::rules::outside;
 use coding::read16s;
@@ -8,13 +8,14 @@ use layout::bad_column;
 use mesh::index;
 use mesh::node;
 ghost use mathlib.Core.Path.{_≡_};
-ghost use mathlib.Core.Bool.{not, false};
+ghost use mathlib.Core.Bool.{false};
 ghost use mathlib.Core.List.{[]};
 ghost use Prim.Native.Nat.{_+_, _-_, _≤_, _<_};
 ghost use lib.ListN.{length, take, getD};
 ghost use Rattle.plan.specs.Lists.{listAt};
 ghost use Rattle.plan.specs.File.{badColumn as badColumnOf, badColumns, notNested, covered, notCovered};
-ghost use Rattle.planfile.specs.Supplied.{partsAndRows, rowsIn, Parted, Parents, PartNumbers, outside as outsideOf, Started, LaidOut};
+ghost use Rattle.planfile.specs.Supplied.{partsAndRows, SoundParts, SoundParents, PartNumbers, outside as outsideOf, Started, LaidOut};
+ghost use Rattle.planfile.specs.Filed.{rowsIn};
 
 // How many rows column j has. O(1).
 fn count(columnStarts: &[u32], j: usize) -> usize
@@ -54,7 +55,7 @@ pub(crate) fn bad_columns(n: usize, columnStarts: &[u32], bytes: &[u8]) -> bool
     requires { ⌜ Started n (now columnStarts) (rowsIn (now bytes)) ⌝ }
     ensures { λ r. ⌜ r ≡ badColumns n (now (columnStarts .entry)) (rowsIn (now (bytes .entry))) ⌝ }
 {
-    let mut column = no_numbers();
+    let mut column = zeros();
     for j in 0..n {
         if bad_column_at(n, columnStarts, bytes, j, &mut column) {
             return true;
@@ -73,7 +74,7 @@ fn outside_at(
     j: usize,
     column: &mut [u16],
 ) -> bool
-    requires { ⌜ Parents (now parents) × PartNumbers n (now parents) (now numbers) × (j < n) ⌝ }
+    requires { ⌜ SoundParents (now parents) × PartNumbers n (now parents) (now numbers) × (j < n) ⌝ }
     requires { ⌜ LaidOut n (now columnStarts) (rowsIn (now bytes)) × (n ≤ length (now column)) ⌝ }
     ensures { λ r. ⌜ r ≡ outsideOf (now (numbers .entry)) (now (parents .entry)) j (listAt (now (columnStarts .entry)) (rowsIn (now (bytes .entry))) j) ⌝ }
 {
@@ -89,11 +90,11 @@ pub(crate) fn not_nested(
     columnStarts: &[u32],
     bytes: &[u8],
 ) -> bool
-    requires { ⌜ Parted n (now sizes) (now parents) × LaidOut n (now columnStarts) (rowsIn (now bytes)) ⌝ }
+    requires { ⌜ SoundParts n (now sizes) (now parents) × LaidOut n (now columnStarts) (rowsIn (now bytes)) ⌝ }
     ensures { λ r. ⌜ r ≡ notNested (partsAndRows n (now (sizes .entry)) (now (parents .entry)) (now (columnStarts .entry)) (rowsIn (now (bytes .entry)))) ⌝ }
 {
-    let mut numbers = no_numbers();
-    let mut column = no_numbers();
+    let mut numbers = zeros();
+    let mut column = zeros();
     number_parts(sizes, &mut numbers);
     for j in 0..n {
         if outside_at(n, &numbers, parents, columnStarts, bytes, j, &mut column) {
@@ -129,8 +130,8 @@ pub(crate) fn not_covered(n: usize, columnStarts: &[u32], bytes: &[u8]) -> bool
     requires { ⌜ LaidOut n (now columnStarts) (rowsIn (now bytes)) ⌝ }
     ensures { λ r. ⌜ r ≡ notCovered (partsAndRows n [] [] (now (columnStarts .entry)) (rowsIn (now (bytes .entry)))) ⌝ }
 {
-    let mut column = no_numbers();
-    let mut other = no_numbers();
+    let mut column = zeros();
+    let mut other = zeros();
     for j in 0..n {
         if !covered_at(n, columnStarts, bytes, j, &mut column, &mut other) {
             return true;

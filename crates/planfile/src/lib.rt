@@ -1,4 +1,5 @@
 // The plan file, version 1: reading it into lent buffers, and writing it from lent slices.
+mod arrays;
 mod encoded;
 mod header;
 mod order;

@@ -1,4 +1,6 @@
 // Reading a plan file: checks 10 to 19, then 8 and 9, then the plan in the lent buffers. Until all checks are passed only working memory is written.
+use crate::arrays::zero_starts;
+use crate::arrays::zeros;
 use crate::encoded::bad_columns;
 use crate::encoded::not_covered;
 use crate::encoded::not_nested;
@@ -6,7 +8,6 @@ use crate::header::HEADER;
 use crate::header::header_refusal;
 use crate::header::read_counts;
 use crate::order::order_and_parts_refusal;
-use crate::rules::no_numbers;
 use coding::read16s;
 use layout::buffers_too_short;
 use layout::invert;
@@ -16,22 +17,14 @@ use mesh::index;
 use plan::Plan;
 use plan::PlanAnswer;
 ghost use mathlib.Core.Path.{_≡_};
-ghost use mathlib.Core.Bool.{false};
 ghost use Prim.Native.Nat.{_≤_};
 ghost use lib.ListN.{length, take};
 ghost use Rattle.plan.specs.Lists.{written};
 ghost use Rattle.plan.specs.Refusals.{firstFault};
-ghost use Rattle.plan.specs.Planning.{buffers, lengths, capacity, buffersTooShort, rowsTooShort, handOut, Filled};
+ghost use Rattle.plan.specs.Planning.{buffers, capacity, Filled};
 ghost use Rattle.plan.specs.File.{parse, contentsChecks};
 ghost use Rattle.plan.specs.Reading.{headerChecks, reading};
-ghost use Rattle.planfile.specs.Supplied.{Headed, rowCountsIn};
-
-// 4,097 zeros. O(4,097).
-fn no_starts() -> [u32; 4097]
-    ensures { λ r. ⌜ length r ≡ 4097 ⌝ }
-{
-    [0; 4097]
-}
+ghost use Rattle.planfile.specs.Filed.{Headed, rowCountsIn};
 
 // The first refusal of checks 15 to 19, 0 for none; order, sizes, parents and column starts are those of the file. O(4,096 + slots + the ancestors of each column's part + the first rows' columns).
 fn decoded_refusal(
@@ -100,10 +93,10 @@ fn contents_refusal(bytes: &[u8], n: usize, p: usize, s: usize, counts: &[u16]) 
     requires { ⌜ Headed (now bytes) n p s × (n ≤ length (now counts)) × (take n (now counts) ≡ rowCountsIn (now bytes)) ⌝ }
     ensures { λ r. ⌜ r ≡ firstFault (contentsChecks (parse (now (bytes .entry)))) ⌝ }
 {
-    let mut order = no_numbers();
-    let mut sizes = no_numbers();
-    let mut parents = no_numbers();
-    let mut columnStarts = no_starts();
+    let mut order = zeros();
+    let mut sizes = zeros();
+    let mut parents = zeros();
+    let mut columnStarts = zero_starts();
     read_order_and_parts(bytes, n, p, s, &mut order, &mut sizes, &mut parents);
     write_starts(n, counts, &mut columnStarts);
     let orderAll = &order[..];
@@ -123,8 +116,8 @@ fn contents_refusal(bytes: &[u8], n: usize, p: usize, s: usize, counts: &[u16]) 
     )
 }
 
-// The plan in the lent buffers, and its counts. O(n + slots).
-fn hand_out(
+// Reading where checks 10 to 19 found no fault: 8 and 9, then the plan in the lent buffers, and its counts. O(n + slots).
+fn read_checked(
     bytes: &[u8],
     n: usize,
     p: usize,
@@ -138,11 +131,23 @@ fn hand_out(
     rows: &mut [u16],
 ) -> PlanAnswer
     requires { ⌜ Headed (now bytes) n p s × (n ≤ length (now counts)) × (take n (now counts) ≡ rowCountsIn (now bytes)) × (firstFault (contentsChecks (parse (now bytes))) ≡ 0) ⌝ }
-    requires { ⌜ (buffersTooShort n (lengths (length (now order)) (length (now positions)) (length (now sizes)) (length (now parents)) (length (now columnStarts)) 0) ≡ false) × (s ≤ length (now rows)) ⌝ }
-    ensures { λ r. ⌜ Filled (handOut 0 (parse (now (bytes .entry)))) r
+    ensures { λ r. ⌜ Filled (reading (now (bytes .entry)) (capacity (buffers (now (order .entry)) (now (positions .entry)) (now (sizes .entry)) (now (parents .entry)) (now (columnStarts .entry)) (now (rows .entry))))) r
         (buffers (now (order .entry)) (now (positions .entry)) (now (sizes .entry)) (now (parents .entry)) (now (columnStarts .entry)) (now (rows .entry)))
         (buffers (now (order .exit)) (now (positions .exit)) (now (sizes .exit)) (now (parents .exit)) (now (columnStarts .exit)) (now (rows .exit))) ⌝ }
 {
+    if buffers_too_short(
+        n,
+        order.len(),
+        positions.len(),
+        sizes.len(),
+        parents.len(),
+        columnStarts.len(),
+    ) {
+        return PlanAnswer::Refused(8);
+    }
+    if rows.len() < s {
+        return PlanAnswer::Refused(9);
+    }
     read_order_and_parts(bytes, n, p, s, order, sizes, parents);
     invert(&order[..n], positions);
     write_starts(n, counts, columnStarts);
@@ -151,7 +156,7 @@ fn hand_out(
     PlanAnswer::Accepted(Plan::new(n as u32, p as u32, s as u32, totals.multiplications))
 }
 
-// Reading where checks 10 to 14 found no fault. O(4,096 + slots + the ancestors of each column's part + the first rows' columns).
+// Reading where checks 10 to 14 found no fault: 15 to 19, then what is left. O(4,096 + slots + the ancestors of each column's part + the first rows' columns).
 fn read_headed(
     bytes: &[u8],
     order: &mut [u16],
@@ -170,26 +175,13 @@ fn read_headed(
     let n = c.nodes;
     let p = c.parts;
     let s = c.slots;
-    let mut counts = no_numbers();
+    let mut counts = zeros();
     read_row_counts(bytes, n, p, s, &mut counts);
     let fault = contents_refusal(bytes, n, p, s, &counts);
     if fault != 0 {
         return PlanAnswer::Refused(fault);
     }
-    if buffers_too_short(
-        n,
-        order.len(),
-        positions.len(),
-        sizes.len(),
-        parents.len(),
-        columnStarts.len(),
-    ) {
-        return PlanAnswer::Refused(8);
-    }
-    if rows.len() < s {
-        return PlanAnswer::Refused(9);
-    }
-    hand_out(
+    read_checked(
         bytes,
         n,
         p,

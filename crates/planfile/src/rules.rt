@@ -8,14 +8,7 @@ ghost use Rattle.plan.specs.Lists.{every, isIn, ascending, total};
 ghost use Rattle.plan.specs.Parts.{partOf, atOrAbove};
 ghost use Rattle.plan.specs.File.{badColumn};
 ghost use Rattle.mesh.specs.Lent.{LowerBound};
-ghost use Rattle.planfile.specs.Supplied.{Parents, PartNumbers, outside as outsideOf};
-
-// 4,096 zeros. O(4,096).
-pub(crate) fn no_numbers() -> [u16; 4096]
-    ensures { λ r. ⌜ length r ≡ 4096 ⌝ }
-{
-    [0; 4096]
-}
+ghost use Rattle.planfile.specs.Supplied.{SoundParents, PartNumbers, outside as outsideOf};
 
 // The number q at `count` places from place `at` on. O(count).
 fn fill(at: usize, count: usize, q: u16, numbers: &mut [u16])
@@ -42,7 +35,7 @@ pub(crate) fn number_parts(sizes: &[u16], numbers: &mut [u16])
 
 // Whether part `to` is `part` or an ancestor of it: up the parents, which are later parts, until one that is not before `to`. O(parts passed).
 fn reaches(parents: &[u16], part: u16, to: u16) -> bool
-    requires { ⌜ Parents (now parents) × (part < length (now parents)) × (to < length (now parents)) ⌝ }
+    requires { ⌜ SoundParents (now parents) × (part < length (now parents)) × (to < length (now parents)) ⌝ }
     ensures { λ r. ⌜ r ≡ atOrAbove (now (parents .entry)) part to ⌝ }
 {
     let mut r = part;
@@ -54,7 +47,7 @@ fn reaches(parents: &[u16], part: u16, to: u16) -> bool
 
 // Whether rows of column j break 18's rule: one lies outside the column's part and its ancestors (document 01: forefathers). The rows and the chain of ancestors are walked together. n is for the contract alone. O(rows + ancestors).
 pub(crate) fn outside(n: usize, numbers: &[u16], parents: &[u16], j: usize, column: &[u16]) -> bool
-    requires { ⌜ Parents (now parents) × PartNumbers n (now parents) (now numbers) × (j < n) × (badColumn n j (now column) ≡ false) ⌝ }
+    requires { ⌜ SoundParents (now parents) × PartNumbers n (now parents) (now numbers) × (j < n) × (badColumn n j (now column) ≡ false) ⌝ }
     ensures { λ r. ⌜ r ≡ outsideOf (now (numbers .entry)) (now (parents .entry)) j (now (column .entry)) ⌝ }
 {
     let mut part = numbers[j];

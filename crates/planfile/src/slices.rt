@@ -1,7 +1,7 @@
 // Checks 15 to 19 of a plan in lent slices, each as long as its count says: the writer's.
+use crate::arrays::zeros;
 use crate::order::order_and_parts_refusal;
 use crate::rules::contains_all;
-use crate::rules::no_numbers;
 use crate::rules::number_parts;
 use crate::rules::outside;
 use layout::bad_columns;
@@ -10,16 +10,16 @@ use mesh::index;
 use mesh::list;
 use mesh::node;
 ghost use mathlib.Core.Path.{_≡_};
-ghost use mathlib.Core.Bool.{not, false};
+ghost use mathlib.Core.Bool.{false};
 ghost use mathlib.Core.List.{[]};
-ghost use Prim.Native.Nat.{_+_, _<_};
+ghost use Prim.Native.Nat.{_<_};
 ghost use lib.ListN.{length};
 ghost use Rattle.plan.specs.Lists.{listAt};
 ghost use Rattle.plan.specs.Refusals.{firstFault};
 ghost use Rattle.plan.specs.Mesh.{badNodeCount};
 ghost use Rattle.plan.specs.Planning.{contents};
 ghost use Rattle.plan.specs.File.{badRows, notNested, covered, notCovered, contentsChecks};
-ghost use Rattle.planfile.specs.Supplied.{partsAndRows, Exact, Parted, LaidOut};
+ghost use Rattle.planfile.specs.Supplied.{partsAndRows, Exact, SoundParts, LaidOut};
 
 // Check 17: the column starts do not begin at 0, fall, or do not end at s, or a column breaks the rule. O(n + slots).
 fn bad_rows(n: usize, columnStarts: &[u32], rows: &[u16]) -> bool
@@ -37,10 +37,10 @@ fn bad_rows(n: usize, columnStarts: &[u32], rows: &[u16]) -> bool
 
 // Check 18: a row lies outside its column's part and that part's ancestors. O(4,096 + slots + the ancestors of each column's part).
 fn not_nested(n: usize, sizes: &[u16], parents: &[u16], columnStarts: &[u32], rows: &[u16]) -> bool
-    requires { ⌜ Parted n (now sizes) (now parents) × LaidOut n (now columnStarts) (now rows) ⌝ }
+    requires { ⌜ SoundParts n (now sizes) (now parents) × LaidOut n (now columnStarts) (now rows) ⌝ }
     ensures { λ r. ⌜ r ≡ notNested (partsAndRows n (now (sizes .entry)) (now (parents .entry)) (now (columnStarts .entry)) (now (rows .entry))) ⌝ }
 {
-    let mut numbers = no_numbers();
+    let mut numbers = zeros();
     number_parts(sizes, &mut numbers);
     for j in 0..n {
         if outside(n, &numbers, parents, j, list(columnStarts, rows, j)) {

@@ -17,11 +17,11 @@ ghost use mathlib.Core.List.{[]};
 ghost use Prim.Native.Nat.{_+_, _*_, _≤_, _<_};
 ghost use lib.ListN.{length};
 ghost use Rattle.plan.specs.Lists.{written};
-ghost use Rattle.plan.specs.Refusals.{firstFault};
 ghost use Rattle.plan.specs.Planning.{rowCounts, contents};
-ghost use Rattle.plan.specs.File.{fileLength, encode, encodeParts, encode16s, badHeader, contentsChecks};
+ghost use Rattle.plan.specs.File.{fileLength, encode, encodeParts, encode16s, badHeader};
 ghost use Rattle.plan.specs.Writing.{badSupply, Wrote};
-ghost use Rattle.planfile.specs.Supplied.{countsOnly, orderAndParts, partsAndRows, Exact, NarrowColumns, headerOf, WroteExact};
+ghost use Rattle.planfile.specs.Supplied.{countsOnly, orderAndParts, partsAndRows, Exact, NarrowColumns, WroteExact};
+ghost use Rattle.planfile.specs.Filed.{headerOf};
 
 // Check 13: the counts are out of their limits, or a slice is shorter than its count says. O(1).
 fn bad_supply(

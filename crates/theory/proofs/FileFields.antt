@@ -9,7 +9,7 @@ use lib.ListN.{length, getD, take, drop, length-append}
 use lib.Seq.{drop-drop, drop-at, take-all}
 use Rattle.plan.specs.Lists.{every, segment, below, isIn, runningSums}
 use Rattle.plan.specs.Planning.{Contents, rowCounts}
-use Rattle.plan.specs.File.{encode16, encode32, encode16s, decode16, decode32, decode16s, magic, version, lengthAt, fileLength, encodeParts, encodeContents, encode, parseAt, parse}
+use Rattle.plan.specs.File.{encode16, encode32, encode16s, decode16, decode32, decode16s, magic, version, lengthAt, fileLength, encodeParts, encodeContents, encode, parseAt, parse, Whole}
 use Rattle.theory.proofs.Lists.{isIn-getD}
 use Rattle.theory.proofs.Segments.{segment-append}
 use Rattle.theory.proofs.Ranges.{isIn-below, length-upFrom, length-map-upFrom, map-getD}
@@ -23,19 +23,11 @@ pub encode-fields : (c : Contents)
 unfolding encode encodeContents flatten
 encode-fields c = simp append-nil
 
--- lists as long as their counts
-pub record Whole (c : Contents) : Type 0 where
-  pub order : length (c .order) ≡ c .nodes
-  pub sizes : length (c .sizes) ≡ c .parts
-  pub parents : length (c .parents) ≡ c .parts
-  pub columnStarts : length (c .columnStarts) ≡ c .nodes + 1
-  pub rows : length (c .rows) ≡ c .slots
-
 -- numbers of 16 bits
 abbrev pub Narrow : List ℕ → Type 0
 Narrow l = (x : ℕ) → isIn x l ≡ true → x < 65536
 
--- What has a place in a file: such lists, of numbers of 16 bits, with counts of 32, and column starts that are the running sums of the row counts.
+-- What has a place in a file: a whole plan, its lists of numbers of 16 bits, with counts of 32, and column starts that are the running sums of the row counts.
 pub record Fits (c : Contents) : Type 0 where
   pub whole : Whole c
   pub nodes : c .nodes < 4294967296

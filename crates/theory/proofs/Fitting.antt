@@ -1,4 +1,4 @@
--- A plan that passes checks 13 and 15 to 19, with lists as long as their counts, has a place in a file.
+-- A whole plan that passes checks 13 and 15 to 19 has a place in a file.
 use mathlib.Core.Path.{_≡_, sym, ap, _∙_}
 use mathlib.Core.Logic.{inl, inr}
 use mathlib.Core.Bool.{Bool, true, false, not, _||_}
@@ -15,7 +15,7 @@ use Rattle.plan.specs.Refusals.{Checks, firstFault}
 use Rattle.plan.specs.Mesh.{maxNodes, noParent, badNodeCount, badStarts}
 use Rattle.plan.specs.Parts.{parentOf}
 use Rattle.plan.specs.Planning.{Contents, rowCounts}
-use Rattle.plan.specs.File.{badHeader, badOrder, badParts, badRows, badColumn, badColumns, notNested, notCovered, contentsChecks}
+use Rattle.plan.specs.File.{Whole, badHeader, badOrder, badParts, badRows, badColumn, badColumns, notNested, notCovered, contentsChecks}
 use Rattle.plan.specs.RoundTrips.{Sound}
 use Rattle.theory.specs.Checked.{Starts}
 use Rattle.theory.proofs.Bools.{or-false-left, or-false-right, eq-or-ne}
@@ -25,15 +25,15 @@ use Rattle.theory.proofs.Sums.{isIn-total}
 use Rattle.theory.proofs.Counting.{same-members}
 use Rattle.theory.proofs.Refusals.{no-fault}
 use Rattle.theory.proofs.Checked.{node-count, good-starts}
-use Rattle.theory.proofs.Orders.{order-length, passes-order}
+use Rattle.theory.proofs.Orders.{passes-order}
 use Rattle.theory.proofs.Compressed.{counts-sums, list-length, entry-listed}
 use Rattle.theory.proofs.ColumnRule.{good-column, column-few, good-columns}
-use Rattle.theory.proofs.FileFields.{Whole, Narrow, Fits, counts-length}
+use Rattle.theory.proofs.FileFields.{Narrow, Fits, counts-length}
 use Rattle.theory.proofs.PartChecks.{passes-tree, parents-known}
 
 -- ---- what the checks say
 
--- a plan that passes 13 and 15 to 19, with lists as long as their counts, has none of their faults
+-- a whole plan that passes 13 and 15 to 19 has none of their faults
 pub passes-sound : (c : Contents) → Whole c → badHeader c ≡ false → firstFault (contentsChecks c) ≡ 0 → Sound c
 unfolding contentsChecks
 passes-sound c whole header h =
@@ -43,9 +43,7 @@ passes-sound c whole header h =
     let c18 = no-fault 18 (notNested c) _ (omega arith) (c17 .1) in
     let c19 = no-fault 19 (notCovered c) _ (omega arith) (c18 .1) in
     record {
-      sizesMany = whole .sizes;
-      parentsMany = whole .parents;
-      rowsMany = whole .rows;
+      whole = whole;
       header = header;
       order = c15 .0;
       parts = c16 .0;
@@ -143,7 +141,7 @@ module _ (c : Contents) (sound : Sound c) where
       let own : parentOf (c .parents) q ≡ x = getD-indexOf (c .parents) x noParent (indexOf-lt (c .parents) x m) in
       elim (eq-or-ne x noParent) [
         | inl e ↦ omega arith
-        | inr e ↦ omega (arith, own, parents-known c (sound .parts) (sound .parentsMany) q (λ t. e (sym own ∙ t)), sound .parentsMany, limits .partsFew, limits .nodesFew)
+        | inr e ↦ omega (arith, own, parents-known c (sound .parts) (sound .whole .parents) q (λ t. e (sym own ∙ t)), sound .whole .parents, limits .partsFew, limits .nodesFew)
       ]
 
   -- a column has fewer rows than there are nodes
@@ -159,7 +157,7 @@ module _ (c : Contents) (sound : Sound c) where
         arith,
         getD-indexOf (rowCounts c) x 0 place,
         getD-map-below (λ j. getD own (j + 1) 0 - getD own j 0) 0 n j inside,
-        list-length n own (c .rows) starts (omega (arith, laid .last, sound .rowsMany)) j inside,
+        list-length n own (c .rows) starts (omega (arith, laid .last, sound .whole .rows)) j inside,
         column-few n j (listAt own (c .rows) j) (column j inside),
         limits .nodesFew,
       )
@@ -167,19 +165,19 @@ module _ (c : Contents) (sound : Sound c) where
   -- a row is a position
   narrow-rows : Narrow (c .rows)
   narrow-rows x m =
-      let all : segment (c .rows) 0 (getD (c .columnStarts) (c .nodes) 0) ≡ c .rows = take-all (getD (c .columnStarts) (c .nodes) 0 - 0) (c .rows) (omega (arith, laid .last, sound .rowsMany)) in
+      let all : segment (c .rows) 0 (getD (c .columnStarts) (c .nodes) 0) ≡ c .rows = take-all (getD (c .columnStarts) (c .nodes) 0 - 0) (c .rows) (omega (arith, laid .last, sound .whole .rows)) in
       let r = entry-listed (c .nodes) (c .columnStarts) (c .rows) starts (c .nodes) (omega arith) x (ap (isIn x) all ∙ m) in
       omega (arith, good-column (c .nodes) (r .0) _ (column (r .0) (r .1)) .1 x (r .2), limits .nodesFew)
 
   -- A plan without a fault fits.
   pub sound-fits : Fits c
   sound-fits = record {
-    whole = record { order = order-length (c .nodes) (c .order) (passes-order (c .nodes) (c .order) once); sizes = sound .sizesMany; parents = sound .parentsMany; columnStarts = starts .many; rows = sound .rowsMany };
+    whole = sound .whole;
     nodes = omega (arith, limits .nodesFew);
     parts = omega (arith, limits .nodesFew, limits .partsFew);
     slots = omega (arith, counts-few c (sound .header));
     order = λ x m. omega (arith, isIn-below (c .nodes) x (same-members (c .order) (below (c .nodes)) (passes-order (c .nodes) (c .order) once) x m), limits .nodesFew);
-    sizes = λ x m. omega (arith, isIn-total (c .sizes) x m, passes-tree c (sound .parts) (sound .parentsMany) (sound .sizesMany) .whole, limits .nodesFew);
+    sizes = λ x m. omega (arith, isIn-total (c .sizes) x m, passes-tree c (sound .parts) (sound .whole .parents) (sound .whole .sizes) .whole, limits .nodesFew);
     parents = narrow-parents;
     counts = narrow-counts;
     rows = narrow-rows;

@@ -12,13 +12,12 @@ use Rattle.plan.specs.Lists.{written}
 use Rattle.plan.specs.Refusals.{firstFault}
 use Rattle.plan.specs.Answers.{Reply, accepted, planReply, writeReply}
 use Rattle.plan.specs.Planning.{Contents, planOf, Buffers, Capacity, capacity, planChecks, Outcome, handOut, planning, fill, Filled}
-use Rattle.plan.specs.File.{fileLength, encode, parse}
+use Rattle.plan.specs.File.{fileLength, encode, parse, Whole}
 use Rattle.plan.specs.Reading.{readChecks, reading}
 use Rattle.plan.specs.Writing.{used, writeChecks, WriteOutcome, writeOut, writing, Wrote}
 use Rattle.plan.specs.RoundTrips.{acceptedWriting, lentBack, WroteThenFilled, FilledThenWrote, PlannedThenWrote, Sound}
 use Rattle.theory.proofs.Written.{front-written}
-use Rattle.theory.proofs.FileFields.{Whole, encode-length}
-use Rattle.theory.proofs.Fitting.{sound-fits}
+use Rattle.theory.proofs.FileFields.{encode-length}
 use Rattle.theory.proofs.Planned.{hand-number, handed-planned}
 use Rattle.theory.proofs.RoundTrips.{used-long, write-says, read-says, handed-read, written-then-read, read-then-written, planned-is-sound, planned-is-writable}
 
@@ -35,7 +34,7 @@ written-size : (c : Contents) (output size : ℕ) → writeReply (Written size) 
 written-size c output size e =
     let w = write-says c output (sym (ap (λ (r : Reply). r .number) e)) in
     let shown : size ≡ fileLength (used c) = unfold writing used fileLength in shown-size (firstFault (writeChecks c output)) c size e in
-    ap length (w .2) ∙ encode-length (used c) (w .1) ∙ sym shown
+    ap length (w .1) ∙ encode-length (used c) (w .0 .whole) ∙ sym shown
 
 -- What was written, then read: the used entries are handed out.
 pub wrote-then-filled : WroteThenFilled
@@ -53,7 +52,7 @@ wrote-then-filled c size found bytes answer lent left wrote eight nine filled =
 filled-used : (c : Contents) (p : Plan) (lent left : Buffers) → Sound c → Filled (handOut 0 c) (Accepted p) lent left → used (lentBack p left) ≡ c
 unfolding used handOut fill
 filled-used c p lent left sound h =
-    let whole : Whole c = sound-fits c sound .whole in
+    let whole : Whole c = sound .whole in
     let value : (k : ℕ) → getD (planReply (Accepted p) .values) k 0 ≡ getD (handOut 0 c .reply .values) k 0 = λ k. ap (λ (r : Reply). getD (r .values) k 0) (h .reply) in
     let nodes : p .nodes ≡ c .nodes = value 0 in
     let parts : p .parts ≡ c .parts = value 1 in
@@ -113,4 +112,4 @@ planned-then-wrote m found after p lent left answer filled fits wrote =
     let w : writing c (length found) ≡ acceptedWriting (encode (planOf m)) =
     planned-is-writable m room c (length found) h (e ∙ sym (handed-planned m room h)) (omega (arith, long, fits)) ∙ ap (λ (d : Contents). acceptedWriting (encode d)) e in
     let r : (answer ≡ Written (length (encode (planOf m)))) × (after ≡ written (encode (planOf m)) found) = wrote-bytes c (encode (planOf m)) found after answer w wrote in
-    (r .0 ∙ ap Written (encode-length (planOf m) (sound-fits (planOf m) sound .whole)), r .1)
+    (r .0 ∙ ap Written (encode-length (planOf m) (sound .whole)), r .1)

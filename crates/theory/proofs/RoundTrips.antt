@@ -12,7 +12,7 @@ use Rattle.plan.specs.Lists.{same}
 use Rattle.plan.specs.Refusals.{Checks, firstFault}
 use Rattle.plan.specs.Mesh.{Mesh, meshChecks}
 use Rattle.plan.specs.Planning.{Contents, planBy, planOf, Capacity, buffersTooShort, rowsTooShort, planChecks, handOut, planning}
-use Rattle.plan.specs.File.{encode16, decode16, decode16s, magic, version, lengthAt, fileLength, encode, parseAt, parse, badHeader, contentsChecks}
+use Rattle.plan.specs.File.{encode16, decode16, decode16s, magic, version, lengthAt, fileLength, encode, parseAt, parse, Whole, badHeader, contentsChecks}
 use Rattle.plan.specs.Reading.{tooFewBytes, badMagic, badVersion, badLength, headerChecks, readChecks, reading}
 use Rattle.plan.specs.Writing.{badSupply, used, suppliedChecks, outputTooShort, writeChecks, WriteOutcome, writeOut, writing}
 use Rattle.plan.specs.RoundTrips.{handed, acceptedWriting, WrittenIsFile, WrittenThenRead, ReadThenWritten, PlannedIsWritable, PlannedThenRead, OtherVersions, Sound, ReadIsSound}
@@ -23,7 +23,7 @@ use Rattle.theory.proofs.Checked.{good-starts}
 use Rattle.theory.proofs.Refusals.{no-fault, fault-here, fault-later, first-nil, no-fault-first, first-none}
 use Rattle.theory.proofs.Orders.{order-length}
 use Rattle.theory.proofs.Compressed.{sums-length}
-use Rattle.theory.proofs.FileFields.{Whole, Fits, encode-fields, encode-length, parse-encode, encode-parse}
+use Rattle.theory.proofs.FileFields.{Fits, encode-fields, encode-length, parse-encode, encode-parse}
 use Rattle.theory.proofs.Fitting.{passes-sound, sound-passes, sound-fits}
 use Rattle.theory.proofs.Eliminated.{columns-starts}
 use Rattle.theory.proofs.Planned.{planned-once, planned-sizes, planned-parents, planned-nodes, hand-number, handed-accepted, handed-planned}
@@ -66,7 +66,7 @@ module _ (c : Contents) where
   unfolding used fileLength
   used-long = refl
 
-  -- 13 of slices: the header's limits, and the used entries are as many as the counts
+  -- 13 of slices: the header's limits, and the used entries are a whole plan
   pub supply-says : badSupply c ≡ false → (badHeader (used c) ≡ false) × Whole (used c)
   unfolding badSupply used
   supply-says h =
@@ -108,26 +108,25 @@ unfolding writeOut
 write-number zero c = refl
 write-number (suc k) c = refl
 
--- an accepted writing: the used entries have no fault and are as many as the counts, and the bytes are theirs
+-- an accepted writing: the used entries have no fault, and the bytes are theirs
 pub write-says : (c : Contents) (output : ℕ) → writing c output .reply .number ≡ 0
-    → Sound (used c) × Whole (used c) × (writing c output .bytes ≡ encode (used c))
+    → Sound (used c) × (writing c output .bytes ≡ encode (used c))
 unfolding writing writeChecks suppliedChecks writeOut
 write-says c output h =
     let none : firstFault (writeChecks c output) ≡ 0 = sym (write-number (firstFault (writeChecks c output)) c) ∙ h in
     let c13 = no-fault 13 (badSupply c) _ (omega arith) none in
     let supply = supply-says c (c13 .0) in
-    (passes-sound (used c) (supply .1) (supply .0) (no-fault-first (contentsChecks (used c)) _ (c13 .1)), supply .1, ap (λ (k : ℕ). writeOut k c .bytes) none)
+    (passes-sound (used c) (supply .1) (supply .0) (no-fault-first (contentsChecks (used c)) _ (c13 .1)), ap (λ (k : ℕ). writeOut k c .bytes) none)
 
 -- and the other way round, given room
 pub write-accepts : (c : Contents) (output : ℕ) → Sound (used c) → fileLength c ≤ output → writing c output ≡ acceptedWriting (encode (used c))
 unfolding writing writeChecks suppliedChecks writeOut outputTooShort
 write-accepts c output sound fits =
-    let whole : Whole (used c) = sound-fits (used c) sound .whole in
     let eight : Checks = (8, outputTooShort c output) ∷ [] in
     let none : firstFault (writeChecks c output) ≡ 0 =
-    fault-later 13 (badSupply c) (contentsChecks (used c) ++ eight) (supply-good c (sound .header) whole) ∙ sound-passes (used c) eight sound
+    fault-later 13 (badSupply c) (contentsChecks (used c) ++ eight) (supply-good c (sound .header) (sound .whole)) ∙ sound-passes (used c) eight sound
     ∙ fault-later 8 (outputTooShort c output) [] (le-ltb output (fileLength c) fits) ∙ first-nil in
-    let long : fileLength c ≡ length (encode (used c)) = sym (encode-length (used c) whole ∙ used-long c) in
+    let long : fileLength c ≡ length (encode (used c)) = sym (encode-length (used c) (sound .whole) ∙ used-long c) in
     rw (none, long)
 
 -- An accepted writing is the file of the used entries, which fits the output.
@@ -140,11 +139,11 @@ written-is-file c output h =
     let late : firstFault (contentsChecks (used c) ++ eight) ≡ 0 = no-fault 13 (badSupply c) _ (omega arith) none .1 in
     let c8 = no-fault 8 (outputTooShort c output) [] (omega arith) (sym (sound-passes (used c) eight (w .0)) ∙ late) in
     let fits : fileLength c ≤ output = ltb-false output (fileLength c) (c8 .0) in
-    (write-accepts c output (w .0) fits, omega (arith, encode-length (used c) (w .1), used-long c))
+    (write-accepts c output (w .0) fits, omega (arith, encode-length (used c) (w .0 .whole), used-long c))
 
 -- ---- reading
 
--- what is read is as many entries as the counts
+-- what is read is a whole plan
 pub read-whole : (bytes : List ℕ) → Whole (parse bytes)
 unfolding parse parseAt
 read-whole bytes =
@@ -217,7 +216,7 @@ read-encoded c room sound eight nine =
     let bytes : List ℕ = encode c in
     let behind : Contents → Checks = λ d. (8, buffersTooShort (d .nodes) room) ∷ (9, rowsTooShort d room) ∷ [] in
     let e : parse bytes ≡ c = parse-encode c fits in
-    let long : length bytes ≡ fileLength c = encode-length c (fits .whole) in
+    let long : length bytes ≡ fileLength c = encode-length c (sound .whole) in
     let none : firstFault (readChecks bytes room) ≡ 0 =
     fault-later 10 (tooFewBytes bytes) _ (le-ltb (length bytes) 17 (omega (arith, long, file-some c)))
     ∙ fault-later 11 (badMagic bytes) _ (encoded-mark c) ∙ fault-later 12 (badVersion bytes) _ (encoded-version c)
@@ -243,7 +242,7 @@ other-versions bytes room long mark other = ap (λ (k : ℕ). handOut k (parse b
 pub written-then-read : WrittenThenRead
 written-then-read c output room h eight nine =
     let w = write-says c output h in
-    rw (w .2) (read-encoded (used c) room (w .0) (unfold used in eight) (unfold used rowsTooShort in nine))
+    rw (w .1) (read-encoded (used c) room (w .0) (unfold used in eight) (unfold used rowsTooShort in nine))
 
 -- Read, then written: the bytes.
 pub read-then-written : ReadThenWritten
@@ -276,12 +275,12 @@ plan-says m room h =
       rows = no-fault 9 (rowsTooShort (planOf m) room) [] (omega arith) (c8 .1) .0;
     }
 
--- a planned plan has lists as long as their counts
+-- a planned plan is whole
 planned-whole : (m : Mesh) → Whole (planOf m)
 unfolding planOf planBy
 planned-whole m = record { order = order-length (m .nodes) (planOf m .order) (planned-once m); sizes = planned-sizes m; parents = planned-parents m; columnStarts = good-starts (m .nodes) _ (columns-starts m (planOf m .order)) .many; rows = refl }
 
--- and none of the faults
+-- and has none of the faults
 planned-sound : (m : Mesh) → firstFault (meshChecks m) ≡ 0 → Sound (planOf m)
 planned-sound m passes = passes-sound (planOf m) (planned-whole m) (planned-header m passes) (planned-readable m passes)
 

@@ -9,7 +9,7 @@ use Rattle.theory.proofs.Written.{front-within, front-long}
 use Rattle.theory.proofs.ColumnRule.{column-many}
 use Rattle.mesh.specs.Lent.{ListWithin}
 use Rattle.mesh.proofs.Lists.{list-long}
-use Rattle.planfile.specs.Supplied.{rowsIn}
+use Rattle.planfile.specs.Filed.{rowsIn}
 use Rattle.planfile.proofs.Nesting.{started-within}
 use Rattle.planfile.proofs.encoded.bad_column_at.Statement.{statement}
 use Rattle.planfile.proofs.encoded.bad_column_at.Tie as tie

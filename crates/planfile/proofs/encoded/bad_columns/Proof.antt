@@ -9,7 +9,7 @@ use borrow.Author.Needs.{needs}
 use Rattle.plan.specs.Lists.{listAt}
 use Rattle.plan.specs.File.{badColumn, badColumns}
 use Rattle.mesh.proofs.Scans.{Clear, clear-more, found-below, none-below}
-use Rattle.planfile.specs.Supplied.{rowsIn}
+use Rattle.planfile.specs.Filed.{rowsIn}
 use Rattle.planfile.proofs.encoded.bad_columns.Statement.{statement}
 use Rattle.planfile.proofs.encoded.bad_columns.Tie as tie
 
@@ -63,7 +63,7 @@ bad-columns-spec =
     Inv-loop
     μ-loop
     (λ c κs. search needs)
-    (λ c. (c .no-numbers .ensures, refl))
+    (λ c. (c .zeros .ensures, refl))
     (λ c. sym (c .before .before .loop .inv .0))
     bad-column-at-requires
     returns

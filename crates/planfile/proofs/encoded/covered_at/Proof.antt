@@ -9,7 +9,7 @@ use Rattle.plan.specs.Lists.{listAt, ascending}
 use Rattle.theory.proofs.Written.{front-within, front-long, front-entry, front-others}
 use Rattle.mesh.specs.Lent.{ListWithin}
 use Rattle.mesh.proofs.Lists.{list-long}
-use Rattle.planfile.specs.Supplied.{rowsIn}
+use Rattle.planfile.specs.Filed.{rowsIn}
 use Rattle.planfile.proofs.Nesting.{laid-within, laid-ascending, laid-row, laid-few, laid-others, covered-few, covered-is}
 use Rattle.planfile.proofs.encoded.covered_at.Statement.{statement}
 use Rattle.planfile.proofs.encoded.covered_at.Tie as tie
@@ -44,26 +44,34 @@ load-requires c κs =
       omega (arith, s .pre .2, laid-few (s .args .n) (s .args .columnStarts .now) (rowsIn (s .args .bytes .now)) (s .pre .0) (s .args .j) (s .pre .1)),
     )
 
+-- the function's entry, seen from where the column was read
+abbrev start : tie.After-load → tie.Start
+start l = l .before .before .before .before .before .before .before .before
+
 -- the column has two rows or more
 many : (c : tie.After-load) → 2 ≤ c .load .result
 many c = omega (arith, c .load .ensures .0, counted (c .before .before .before), c .before .before .if1 .left)
 
--- the first of them
-first : (c : tie.After-node) → let s = c .before .before .before .before .before .before .before .before .before .before .before .before in c .node .result ≡ getD (rowsOf s (s .args .j)) 0 0
+-- where the column was read, seen from its first row
+abbrev loaded : tie.After-node → tie.After-load
+loaded c = c .before .before .before .before
+
+-- the first row
+first : (c : tie.After-node) → let s = start (loaded c) in c .node .result ≡ getD (rowsOf s (s .args .j)) 0 0
 first c =
-    let l = c .before .before .before .before in
+    let l = loaded c in
     c .node .ensures ∙ front-entry _ _ _ (l .load .ensures .0) (l .load .ensures .1) 0 0 (omega (arith, many l))
 
 -- is a position
-below-n : (c : tie.After-node) → c .node .result < c .before .before .before .before .before .before .before .before .before .before .before .before .args .n
+below-n : (c : tie.After-node) → c .node .result < start (loaded c) .args .n
 below-n c =
-    let l = c .before .before .before .before in
-    let s = l .before .before .before .before .before .before .before .before in
+    let l = loaded c in
+    let s = start l in
     omega (arith, first c, laid-row (s .args .n) (s .args .columnStarts .now) (rowsIn (s .args .bytes .now)) (s .pre .0) (s .args .j) (s .pre .1) 0 (omega (arith, l .load .ensures .0, many l)))
 
 load-requires-2 : tie.Need-load-requires-2
 load-requires-2 c κs =
-    let s = c .before .before .before .before .before .before .before .before .before .before .before .before .before in (
+    let s = start (loaded (c .before)) in (
       s .pre .0 .started,
       below-n (c .before),
       omega (arith, s .pre .3, laid-few (s .args .n) (s .args .columnStarts .now) (rowsIn (s .args .bytes .now)) (s .pre .0) (c .before .node .result) (below-n (c .before))),
@@ -76,38 +84,41 @@ slice-aggregate-contains-all : tie.Need-slice-aggregate-contains-all
 slice-aggregate-contains-all c = let l = c .before .before .before .load2 in front-long _ _ _ (l .ensures .0) (l .ensures .1)
 
 sub-contains-all : tie.Need-sub-contains-all
-sub-contains-all c = omega (arith, many (c .before .before .before .before .before .before .before .before .before))
+sub-contains-all c = omega (arith, many (loaded (c .before .before .before .before .before)))
 
 part-contains-all-start : tie.Need-part-contains-all-start
-part-contains-all-start c = omega (arith, many (c .before .before .before .before .before .before .before .before .before .before))
+part-contains-all-start c = omega (arith, many (loaded (c .before .before .before .before .before .before)))
 
 part-contains-all-end : tie.Need-part-contains-all-end
 part-contains-all-end c =
-    let l = c .before .before .before .before .before .before .before .before .before .before .load in
+    let l = loaded (c .before .before .before .before .before .before) .load in
     front-within _ _ _ (l .ensures .0) (l .ensures .1)
 
 -- the rows behind the first
-others : (c : tie.After-load) → let s = c .before .before .before .before .before .before .before .before in
+others : (c : tie.After-load) → let s = start c in
     take (c .load .result - 1) (drop 1 (c .load .last .1 .1 .1 .1 .0)) ≡ drop 1 (rowsOf s (s .args .j))
 others c = front-others _ _ _ (c .load .ensures .0) (c .load .ensures .1) (omega (arith, many c))
 
 contains-all-requires : tie.Need-contains-all-requires
 contains-all-requires c κs =
     let m = c .before .before .before .before .before in
-    let l = m .before .before .before .before .before .before in
-    let s = l .before .before .before .before .before .before .before .before in (
+    let i = m .before .before in
+    let l = loaded i in
+    let s = start l in (
       ap ascending (m .load2 .ensures .1)
-          ∙ laid-ascending (s .args .n) (s .args .columnStarts .now) (rowsIn (s .args .bytes .now)) (s .pre .0) (m .before .before .node .result) (below-n (m .before .before)),
+          ∙ laid-ascending (s .args .n) (s .args .columnStarts .now) (rowsIn (s .args .bytes .now)) (s .pre .0) (i .node .result) (below-n i),
       ap ascending (others l)
           ∙ laid-others (s .args .n) (s .args .columnStarts .now) (rowsIn (s .args .bytes .now)) (s .pre .0) (s .args .j) (s .pre .1),
     )
 
+-- (l is reached without `loaded`, since `rw` must not find the first row's result in the path to it)
 returns-2 : tie.Need-returns-2
 returns-2 c =
     let m = c .before .before .before .before .before .before in
-    let l = m .before .before .before .before .before .before in
-    let s = l .before .before .before .before .before .before .before .before in
-    rw (c .contains-all .ensures, others l, m .load2 .ensures .1, first (m .before .before))
+    let i = m .before .before in
+    let l = i .before .before .before .before in
+    let s = start l in
+    rw (c .contains-all .ensures, others l, m .load2 .ensures .1, first i)
     (sym (covered-is (s .args .columnStarts .now) (rowsIn (s .args .bytes .now)) (rowsOf s (s .args .j)) (omega (arith, l .load .ensures .0, many l))))
 
 pub covered-at-spec : {M : Type 1} → statement M

@@ -3,7 +3,7 @@ use native.Mathlib.Omega.{arith}
 use borrow.Author.Needs.{needs}
 use Rattle.mesh.specs.Lent.{ListWithin}
 use Rattle.mesh.proofs.Lists.{list-long}
-use Rattle.planfile.specs.Supplied.{rowsIn}
+use Rattle.planfile.specs.Filed.{rowsIn}
 use Rattle.planfile.proofs.Nesting.{started-within}
 use Rattle.planfile.proofs.Loaded.{bytes-within, column-loaded}
 use Rattle.planfile.proofs.encoded.load.Statement.{statement}

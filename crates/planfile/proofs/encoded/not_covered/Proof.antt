@@ -9,7 +9,7 @@ use borrow.Author.Needs.{needs}
 use Rattle.plan.specs.Lists.{listAt}
 use Rattle.plan.specs.File.{covered, notCovered}
 use Rattle.mesh.proofs.Scans.{Clear, clear-more, found-below, none-below}
-use Rattle.planfile.specs.Supplied.{rowsIn}
+use Rattle.planfile.specs.Filed.{rowsIn}
 use Rattle.planfile.proofs.encoded.not_covered.Statement.{statement}
 use Rattle.planfile.proofs.encoded.not_covered.Tie as tie
 
@@ -65,7 +65,7 @@ not-covered-spec =
     μ-loop
     (λ c κs. search needs)
     (λ c κs. search needs)
-    (λ c. (c .before .no-numbers .ensures, c .no-numbers2 .ensures, refl))
+    (λ c. (c .before .zeros .ensures, c .zeros2 .ensures, refl))
     (λ c. sym (c .before .before .loop .inv .0))
     (λ c. sym (c .before .before .before .loop .inv .1))
     covered-at-requires

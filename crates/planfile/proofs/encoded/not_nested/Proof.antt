@@ -9,8 +9,8 @@ use borrow.Author.Needs.{needs}
 use Rattle.plan.specs.Lists.{listAt}
 use Rattle.plan.specs.File.{outsideAncestors, notNested}
 use Rattle.mesh.proofs.Scans.{Clear, clear-more, found-below, none-below}
-use Rattle.planfile.specs.Supplied.{rowsIn}
-use Rattle.planfile.proofs.Nesting.{parted-total, parted-few, parted-parents, parted-numbers, outside-is, laid-between}
+use Rattle.planfile.specs.Filed.{rowsIn}
+use Rattle.planfile.proofs.Nesting.{parts-total, parts-few, parts-parents, parts-numbers, outside-is, laid-between}
 use Rattle.planfile.proofs.encoded.not_nested.Statement.{statement}
 use Rattle.planfile.proofs.encoded.not_nested.Tie as tie
 
@@ -32,23 +32,27 @@ number-parts-requires : tie.Need-number-parts-requires Inv-loop μ-loop
 number-parts-requires c κs =
     let s = c .before .before .before .before .before .before .before in
     let h = s .pre .0 in (
-      omega (arith, h .few, parted-few (s .args .n) (s .args .sizes .now) (s .args .parents .now) h),
-      omega (arith, h .few, parted-total (s .args .n) (s .args .sizes .now) (s .args .parents .now) h, c .before .before .no-numbers .ensures),
+      omega (arith, h .few, parts-few (s .args .n) (s .args .sizes .now) (s .args .parents .now) h),
+      omega (arith, h .few, parts-total (s .args .n) (s .args .sizes .now) (s .args .parents .now) h, c .before .before .zeros .ensures),
     )
+
+-- the function's entry, seen from where the parts were numbered
+abbrev start : tie.After-number-parts Inv-loop μ-loop → tie.Start Inv-loop μ-loop
+start p = p .before .before .before .before .before .before .before .before
 
 -- there is a number for each of 4,096 positions
 long : (c : tie.After-number-parts Inv-loop μ-loop) → length (c .number-parts .last .1 .0) ≡ 4096
-long c = c .number-parts .kept .1 .0 ∙ c .before .before .before .no-numbers .ensures
+long c = c .number-parts .kept .1 .0 ∙ c .before .before .before .zeros .ensures
 
 outside-at-requires : tie.Need-outside-at-requires Inv-loop μ-loop
 outside-at-requires c κs =
     let k = c .before .before .before in
     let p = k .before .before in
-    let s = p .before .before .before .before .before .before .before .before in
+    let s = start p in
     let h = s .pre .0 in (
       (
-        parted-parents (s .args .n) (s .args .sizes .now) (s .args .parents .now) h,
-        parted-numbers (s .args .n) (s .args .sizes .now) (s .args .parents .now) (p .number-parts .last .1 .0) h (p .number-parts .ensures) (omega (arith, h .few, long p)),
+        parts-parents (s .args .n) (s .args .sizes .now) (s .args .parents .now) h,
+        parts-numbers (s .args .n) (s .args .sizes .now) (s .args .parents .now) (p .number-parts .last .1 .0) h (p .number-parts .ensures) (omega (arith, h .few, long p)),
         c .before .before .loop-test .taken,
       ),
       (s .pre .1, omega (arith, h .few, k .loop .inv .0)),
@@ -57,11 +61,11 @@ outside-at-requires c κs =
 -- what `outside_at` answers
 answer : (c : tie.After-outside-at Inv-loop μ-loop) →
     let k = c .before .before .before .before in
-    tests (k .before .before .before .before .before .before .before .before .before .before) (k .loop .j) ≡ c .outside-at .result
+    tests (start (k .before .before)) (k .loop .j) ≡ c .outside-at .result
 answer c =
     let k = c .before .before .before .before in
     let p = k .before .before in
-    let s = p .before .before .before .before .before .before .before .before in
+    let s = start p in
     let lt = c .before .before .before .loop-test .taken in
     let column : List ℕ = listAt (s .args .columnStarts .now) (rowsIn (s .args .bytes .now)) (k .loop .j) in
     sym (c .outside-at .ensures
@@ -73,21 +77,21 @@ unfolding notNested
 returns c =
     let a = c .before .before in
     let k = a .before .before .before .before in
-    let s = k .before .before .before .before .before .before .before .before .before .before in
+    let s = start (k .before .before) in
     sym (found-below (tests s) (s .args .n) (k .loop .j) (a .before .before .before .loop-test .taken) (answer a ∙ c .if1 .taken))
 
 loop-again : tie.Need-loop-again Inv-loop μ-loop
 loop-again c =
     let a = c .before .before in
     let k = a .before .before .before .before in
-    let s = k .before .before .before .before .before .before .before .before .before .before in
+    let s = start (k .before .before) in
     (a .outside-at .kept .1 .1 .1 .1 .1 .1 .0 ∙ k .loop .inv .0, clear-more (tests s) (k .loop .j) (k .loop .inv .1) (answer a ∙ c .if1 .left))
 
 returns-2 : tie.Need-returns-2 Inv-loop μ-loop
 unfolding notNested
 returns-2 c =
     let k = c .before in
-    let s = k .before .before .before .before .before .before .before .before .before .before in
+    let s = start (k .before .before) in
     sym (none-below (tests s) (s .args .n) (k .loop .j) (omega arith) (k .loop .inv .1))
 
 pub not-nested-spec : {M : Type 1} → statement M
@@ -98,9 +102,9 @@ not-nested-spec =
     μ-loop
     (λ c κs. search needs)
     (λ c κs. search needs)
-    (λ c. sym (c .before .before .no-numbers .ensures))
+    (λ c. sym (c .before .before .zeros .ensures))
     number-parts-requires
-    (λ c. (c .before .before .before .no-numbers2 .ensures, refl))
+    (λ c. (c .before .before .before .zeros2 .ensures, refl))
     (λ c. sym (long (c .before .before .before .before)))
     (λ c. sym (c .before .before .before .loop .inv .0))
     outside-at-requires

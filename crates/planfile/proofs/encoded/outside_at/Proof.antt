@@ -4,7 +4,8 @@ use native.Mathlib.Omega.{arith}
 use borrow.Author.Needs.{needs}
 use Rattle.plan.specs.File.{badColumn}
 use Rattle.theory.proofs.Written.{front-within, front-long}
-use Rattle.planfile.specs.Supplied.{rowsIn, outside}
+use Rattle.planfile.specs.Supplied.{outside}
+use Rattle.planfile.specs.Filed.{rowsIn}
 use Rattle.planfile.proofs.Nesting.{laid-good, laid-few}
 use Rattle.planfile.proofs.encoded.outside_at.Statement.{statement}
 use Rattle.planfile.proofs.encoded.outside_at.Tie as tie
@@ -17,6 +18,10 @@ load-requires c κs =
       omega (arith, s .pre .1 .1, laid-few (s .args .n) (s .args .columnStarts .now) (rowsIn (s .args .bytes .now)) (s .pre .1 .0) (s .args .j) (s .pre .0 .2)),
     )
 
+-- the function's entry, seen from where the column was read
+abbrev start : tie.After-load → tie.Start
+start l = l .before .before .before .before .before .before .before
+
 slice-reshare-prefix-outside : tie.Need-slice-reshare-prefix-outside
 slice-reshare-prefix-outside c = let l = c .before .before .load in front-within _ _ _ (l .ensures .0) (l .ensures .1)
 
@@ -26,7 +31,7 @@ slice-aggregate-outside c = let l = c .before .before .before .load in front-lon
 outside-requires : tie.Need-outside-requires
 outside-requires c κs =
     let l = c .before .before .before in
-    let s = l .before .before .before .before .before .before .before in (
+    let s = start l in (
       s .pre .0 .0,
       s .pre .0 .1,
       s .pre .0 .2,
@@ -37,7 +42,7 @@ outside-requires c κs =
 returns : tie.Need-returns
 returns c =
     let l = c .before .before .before .before in
-    let s = l .before .before .before .before .before .before .before in
+    let s = start l in
     c .outside .ensures ∙ ap (outside (s .args .numbers .now) (s .args .parents .now) (s .args .j)) (l .load .ensures .1)
 
 pub outside-at-spec : {M : Type 1} → statement M

@@ -1,6 +1,8 @@
 -- `planfile::header::header_refusal` meets its contract: its tests are the five checks, in their order.
 use mathlib.Core.Path.{_≡_, sym, _∙_}
 use mathlib.Core.Bool.{cond, false}
+use mathlib.Core.List.{List}
+use Prim.Native.Nat.{ℕ}
 use borrow.Author.Tests.{eq-eqb, ne-eqb, lt-ltb, le-ltb}
 use borrow.Author.Needs.{needs}
 use Rattle.plan.specs.Refusals.{firstFault}
@@ -22,30 +24,34 @@ enough c = le-ltb _ _ (c .if1 .left)
 magic : (c : tie.Else2) → badMagic (c .before .before .before .before .args .bytes .now) ≡ false
 magic c = sym (c .before .bad-magic .ensures) ∙ c .if2 .left
 
+-- the file, seen from behind check 12
+abbrev file : tie.Else3 → List ℕ
+file c = c .before .before .before .before .before .before .args .bytes .now
+
 -- check 12
-version : (c : tie.Else3) → badVersion (c .before .before .before .before .before .before .args .bytes .now) ≡ false
+version : (c : tie.Else3) → badVersion (file c) ≡ false
 version c = sym (c .before .bad-version .ensures) ∙ c .if3 .left
 
 -- check 13 looks at the counts that were read
 of-counts : (c : tie.After-read-counts) → let r = c .read-counts .result in
-    badHeader (countsOnly (r .nodes) (r .parts) (r .slots)) ≡ badHeader (parse (c .before .before .before .before .before .before .before .args .bytes .now))
+    badHeader (countsOnly (r .nodes) (r .parts) (r .slots)) ≡ badHeader (parse (file (c .before)))
 of-counts c = let e = c .read-counts .ensures in rw (e .0, e .1, e .2) (header-counts _)
 
 -- check 14 looks at the length by them
-long : (c : tie.After-file-length) → c .file-length .result ≡ fileLength (parse (c .before .before .before .before .before .before .before .before .before .before .args .bytes .now))
+long : (c : tie.After-file-length) → c .file-length .result ≡ fileLength (parse (file (c .before .before .before .before)))
 unfolding fileLength
 long c =
     let e = c .before .before .before .read-counts .ensures in
     rw (← e .0, ← e .1, ← e .2) (c .file-length .ensures)
 
 -- check 13
-header : (c : tie.Else4) → badHeader (parse (c .before .before .before .before .before .before .before .before .before .args .bytes .now)) ≡ false
+header : (c : tie.Else4) → badHeader (parse (file (c .before .before .before))) ≡ false
 header c =
     let k = c .before in
     sym (of-counts (k .before)) ∙ sym (k .bad-header .ensures) ∙ c .if4 .left
 
 -- behind checks 10 to 13 the first fault is check 14's
-first : (c : tie.Else4) → let l = c .before .before .before .before .before .before .before .before .before .args .bytes .now in
+first : (c : tie.Else4) → let l = file (c .before .before .before) in
     firstFault (headerChecks l) ≡ cond (badLength l) 14 0
 unfolding headerChecks firstFault
 first c =

@@ -21,21 +21,22 @@ read-order-and-parts-requires c κs =
     let s = four .before .before .before .before .before .before in
     let few = known s .few in (
       s .pre .0,
-      omega (arith, few, four .before .before .before .no-numbers .ensures),
-      omega (arith, few, four .before .before .no-numbers2 .ensures),
-      omega (arith, few, four .before .no-numbers3 .ensures),
+      omega (arith, few, four .before .before .before .zeros .ensures),
+      omega (arith, few, four .before .before .zeros2 .ensures),
+      omega (arith, few, four .before .zeros3 .ensures),
     )
-
-write-starts-requires : tie.Need-write-starts-requires
-write-starts-requires c κs =
-    let s = c .before .before .before .before .before .before .before .before .before .before .before .before .before .before in
-    (known s .few, s .pre .1, omega (arith, known s .few, c .before .before .before .before .before .before .before .before .no-starts .ensures))
-
--- ---- the fields at the fronts of the arrays
 
 -- where the function begins
 abbrev begin : tie.After-read-order-and-parts → tie.Start
 begin r = r .before .before .before .before .before .before .before .before .before .before
+
+write-starts-requires : tie.Need-write-starts-requires
+write-starts-requires c κs =
+    let r = c .before .before .before .before in
+    let s = begin r in
+    (known s .few, s .pre .1, omega (arith, known s .few, r .before .before .before .before .zero-starts .ensures))
+
+-- ---- the fields at the fronts of the arrays
 
 abbrev file : tie.After-read-order-and-parts → Contents
 file r = parse (begin r .args .bytes .now)
@@ -58,29 +59,33 @@ starts-front w =
     let s = begin (ordered w) in
     front-written _ _ _ _ (starts-written _ _ _ _ (s .pre .0) _ _ _ (s .pre .2) (w .write-starts .ensures)) (starts-many _ _ _ _ (s .pre .0))
 
+-- where the column starts were written, seen from where all four fields are lent
+abbrev started : tie.After-columnStarts3 → tie.After-write-starts
+started c = c .before .before .before .before .before
+
 slice-aggregate-decoded-refusal : tie.Need-slice-aggregate-decoded-refusal
 slice-aggregate-decoded-refusal c =
-    let r = c .before .before .before .before .before .before .before .before .before .before .before in
+    let r = ordered (started (c .before)) in
     sym (ap length (order-front r) ∙ order-many _ _ _ _ (begin r .pre .0))
 
 slice-aggregate-decoded-refusal-2 : tie.Need-slice-aggregate-decoded-refusal-2
 slice-aggregate-decoded-refusal-2 c =
-    let r = c .before .before .before .before .before .before .before .before .before .before .before .before in
+    let r = ordered (started (c .before .before)) in
     sym (ap length (sizes-front r) ∙ sizes-many _ _ _ _ (begin r .pre .0))
 
 slice-aggregate-decoded-refusal-3 : tie.Need-slice-aggregate-decoded-refusal-3
 slice-aggregate-decoded-refusal-3 c =
-    let r = c .before .before .before .before .before .before .before .before .before .before .before .before .before in
+    let r = ordered (started (c .before .before .before)) in
     sym (ap length (parents-front r) ∙ parents-many _ _ _ _ (begin r .pre .0))
 
 slice-aggregate-decoded-refusal-4 : tie.Need-slice-aggregate-decoded-refusal-4
 slice-aggregate-decoded-refusal-4 c =
-    let w = c .before .before .before .before .before .before .before .before .before in
+    let w = started (c .before .before .before .before) in
     sym (ap length (starts-front w) ∙ starts-many _ _ _ _ (begin (ordered w) .pre .0))
 
 decoded-refusal-requires : tie.Need-decoded-refusal-requires
 decoded-refusal-requires c κs =
-    let w = c .before .before .before .before .before .before .before .before .before in
+    let w = started (c .before .before .before .before) in
     let r = ordered w in
     (begin r .pre .0, (order-front r, sizes-front r, parents-front r, starts-front w))
 

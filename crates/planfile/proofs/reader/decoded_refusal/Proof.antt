@@ -7,9 +7,10 @@ use borrow.Author.Needs.{needs}
 use Rattle.plan.specs.Refusals.{firstFault}
 use Rattle.plan.specs.Planning.{Contents}
 use Rattle.plan.specs.File.{parse, badRows, notNested, notCovered}
-use Rattle.planfile.specs.Supplied.{orderAndPartsChecks, LaidOut, rowsIn}
+use Rattle.planfile.specs.Supplied.{orderAndPartsChecks, LaidOut}
+use Rattle.planfile.specs.Filed.{rowsIn}
 use Rattle.planfile.proofs.Passing.{order-fault, fault-17, fault-18, fault-19, all-passed}
-use Rattle.planfile.proofs.Headed.{Sizes, headed-sizes, behind, order-few, file-ordered, file-parted, starts-long, rows-apart, rows-started, rows-columns, file-nested, file-covered}
+use Rattle.planfile.proofs.Headed.{Sizes, headed-sizes, behind, order-few, file-ordered, file-parts, starts-long, rows-apart, rows-started, rows-columns, file-nested, file-covered}
 use Rattle.planfile.proofs.reader.decoded_refusal.Statement.{statement}
 use Rattle.planfile.proofs.reader.decoded_refusal.Tie as tie
 
@@ -106,8 +107,12 @@ returns-3 c =
 
 -- ---- 18 and 19
 
+-- where 15 and 16 found no fault, seen from where 17 found none
+abbrev first : tie.Else3 → tie.Else1
+first c = c .before .before .before .before .before .before
+
 -- the layout has passed 17
-laid-out : (c : tie.Else3) → let a = begin (c .before .before .before .before .before .before) .args in LaidOut (a .n) (a .columnStarts .now) (rowsIn (behind (a .bytes .now) (a .n) (a .p)))
+laid-out : (c : tie.Else3) → let a = begin (first c) .args in LaidOut (a .n) (a .columnStarts .now) (rowsIn (behind (a .bytes .now) (a .n) (a .p)))
 laid-out c =
     let b = c .before in
     let e = b .before .before in
@@ -116,47 +121,47 @@ laid-out c =
 
 not-nested-requires : tie.Need-not-nested-requires
 not-nested-requires c κs =
-    let o = c .before .before .before .before .before .before in
+    let o = first c in
     let s = begin o in
-    (file-parted _ _ _ _ (s .pre .0) _ _ _ _ (s .pre .1) (ordered o), laid-out c)
+    (file-parts _ _ _ _ (s .pre .0) _ _ _ _ (s .pre .1) (ordered o), laid-out c)
 
 -- check 17 found no fault
-laid : (c : tie.Else3) → badRows (file (begin (c .before .before .before .before .before .before))) ≡ false
+laid : (c : tie.Else3) → badRows (file (begin (first c))) ≡ false
 laid c = rows (c .before) ∙ c .if3 .left
 
 -- check 18 is the code's
-nested : (r : tie.After-not-nested) → notNested (file (begin (r .before .before .before .before .before .before .before))) ≡ r .not-nested .result
+nested : (r : tie.After-not-nested) → notNested (file (begin (first (r .before)))) ≡ r .not-nested .result
 nested r =
-    let s = begin (r .before .before .before .before .before .before .before) in
+    let s = begin (first (r .before)) in
     sym (r .not-nested .ensures ∙ file-nested _ _ _ _ (s .pre .0) _ _ _ _ (s .pre .1))
 
 returns-4 : tie.Need-returns-4
 returns-4 c =
     let e = c .before .before in
-    let o = e .before .before .before .before .before .before in
+    let o = first e in
     sym (fault-18 (file (begin o)) (ordered o) (laid e) (nested (c .before) ∙ c .if4 .taken))
 
 not-covered-requires : tie.Need-not-covered-requires
 not-covered-requires c κs = laid-out (c .before .before)
 
 -- check 19 is the code's
-covered : (r : tie.After-not-covered) → notCovered (file (begin (r .before .before .before .before .before .before .before .before .before))) ≡ r .not-covered .result
+covered : (r : tie.After-not-covered) → notCovered (file (begin (first (r .before .before .before)))) ≡ r .not-covered .result
 covered r =
-    let s = begin (r .before .before .before .before .before .before .before .before .before) in
+    let s = begin (first (r .before .before .before)) in
     sym (r .not-covered .ensures ∙ file-covered _ _ _ _ (s .pre .0) _ _ _ _ (s .pre .1))
 
 returns-5 : tie.Need-returns-5
 returns-5 c =
     let d = c .before .before in
     let e = d .before .before in
-    let o = e .before .before .before .before .before .before in
+    let o = first e in
     sym (fault-19 (file (begin o)) (ordered o) (laid e) (nested (d .before) ∙ d .if4 .left) (covered (c .before) ∙ c .if5 .taken))
 
 returns-6 : tie.Need-returns-6
 returns-6 c =
     let d = c .before .before in
     let e = d .before .before in
-    let o = e .before .before .before .before .before .before in
+    let o = first e in
     sym (all-passed (file (begin o)) (ordered o) (laid e) (nested (d .before) ∙ d .if4 .left) (covered (c .before) ∙ c .if5 .left))
 
 pub decoded-refusal-spec : {M : Type 1} → statement M

@@ -14,14 +14,21 @@ read16s-requires c κs =
     let s = c .before .before .before .before .before in
     (omega arith, omega (arith, known s .long), s .pre .1)
 
+-- the function's entry, seen from where the order and where the sizes were read
+abbrev fromOrder : tie.After-read16s → tie.Start
+fromOrder c = c .before .before .before .before .before .before
+
+abbrev fromSizes : tie.After-read16s2 → tie.Start
+fromSizes c = fromOrder (c .before .before .before .before)
+
 read16s-requires-2 : tie.Need-read16s-requires-2
 read16s-requires-2 c κs =
-    let s = c .before .before .before .before .before .before .before .before .before in
+    let s = fromOrder (c .before .before .before) in
     (omega arith, omega (arith, known s .long), omega (arith, known s .parts, s .pre .2))
 
 read16s-requires-3 : tie.Need-read16s-requires-3
 read16s-requires-3 c κs =
-    let s = c .before .before .before .before .before .before .before .before .before .before .before .before .before in
+    let s = fromSizes (c .before .before .before) in
     (omega arith, omega (arith, known s .long), omega (arith, known s .parts, s .pre .3))
 
 returns : tie.Need-returns
@@ -29,7 +36,7 @@ returns c =
     let third = c .before .before in
     let second = third .before .before .before .before in
     let first = second .before .before .before .before in
-    let h = first .before .before .before .before .before .before .pre .0 in (
+    let h = fromOrder first .pre .0 in (
       rw (order-field _ _ _ _ h) (first .read16s .ensures),
       rw (sizes-field _ _ _ _ h) (second .read16s2 .ensures),
       rw (parents-field _ _ _ _ h) (third .read16s3 .ensures),

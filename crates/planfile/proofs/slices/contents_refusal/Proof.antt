@@ -5,8 +5,9 @@ use lib.ListN.{length}
 use Rattle.plan.specs.Refusals.{firstFault}
 use Rattle.plan.specs.Planning.{Contents, contents}
 use Rattle.plan.specs.File.{badRows, notNested, notCovered}
+use Rattle.theory.proofs.Fitting.{header-limits}
 use Rattle.planfile.specs.Supplied.{orderAndPartsChecks}
-use Rattle.planfile.proofs.Passing.{order-fault, fault-17, fault-18, fault-19, all-passed, order-checks, rows-check, nested-check, covered-check, exact-count, exact-few, passed-parted, passed-laid}
+use Rattle.planfile.proofs.Passing.{order-fault, fault-17, fault-18, fault-19, all-passed, order-checks, rows-check, nested-check, covered-check, exact-few, passed-parts, passed-laid}
 use Rattle.planfile.proofs.slices.contents_refusal.Statement.{statement}
 use Rattle.planfile.proofs.slices.contents_refusal.Tie as tie
 
@@ -23,10 +24,10 @@ abbrev start : tie.After-order-and-parts-refusal → tie.Start
 start o = o .before .before .before .before .before .before
 
 order-answer : (o : tie.After-order-and-parts-refusal) → firstFault (orderAndPartsChecks (plan (start o))) ≡ o .order-and-parts-refusal .result
-order-answer o = sym (o .order-and-parts-refusal .ensures ∙ order-checks (plan (start o)) (start o .pre))
+order-answer o = sym (o .order-and-parts-refusal .ensures ∙ order-checks (plan (start o)) (start o .pre .whole))
 
 rows-answer : (c : tie.After-bad-rows) → badRows (plan (start (c .before .before))) ≡ c .bad-rows .result
-rows-answer c = let s = start (c .before .before) in sym (c .bad-rows .ensures ∙ rows-check (plan s) (s .pre))
+rows-answer c = let s = start (c .before .before) in sym (c .bad-rows .ensures ∙ rows-check (plan s) (s .pre .whole))
 
 nested-answer : (c : tie.After-not-nested) → notNested (plan (start (c .before .before .before .before))) ≡ c .not-nested .result
 nested-answer c = sym (c .not-nested .ensures ∙ nested-check (plan (start (c .before .before .before .before))))
@@ -57,7 +58,7 @@ returns c =
     sym (order-fault (plan (start o)) (λ z. c .if1 .taken (sym e ∙ z)) ∙ e)
 
 bad-rows-requires : tie.Need-bad-rows-requires
-bad-rows-requires c κs = let s = start (c .before) in exact-count (plan s) (s .pre)
+bad-rows-requires c κs = let s = start (c .before) in header-limits (plan s) (s .pre .header) .count
 
 returns-2 : tie.Need-returns-2
 returns-2 c =
@@ -68,7 +69,7 @@ not-nested-requires : tie.Need-not-nested-requires
 not-nested-requires c κs =
     let e = c .before .before in
     let s = start (e .before) in
-    (passed-parted (plan s) (s .pre) (ordered e), passed-laid (plan s) (s .pre) (laid c))
+    (passed-parts (plan s) (s .pre) (ordered e), passed-laid (plan s) (s .pre) (laid c))
 
 returns-3 : tie.Need-returns-3
 returns-3 c =

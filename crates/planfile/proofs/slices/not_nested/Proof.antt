@@ -9,7 +9,7 @@ use Rattle.plan.specs.Lists.{listAt}
 use Rattle.plan.specs.File.{outsideAncestors, notNested}
 use Rattle.mesh.proofs.Scans.{Clear, clear-more, found-below, none-below}
 use Rattle.planfile.specs.Supplied.{PartNumbers, outside}
-use Rattle.planfile.proofs.Nesting.{parted-total, parted-few, parted-parents, parted-numbers, outside-is, laid-within, laid-good, laid-between}
+use Rattle.planfile.proofs.Nesting.{parts-total, parts-few, parts-parents, parts-numbers, outside-is, laid-within, laid-good, laid-between}
 use Rattle.planfile.proofs.slices.not_nested.Statement.{statement}
 use Rattle.planfile.proofs.slices.not_nested.Tie as tie
 
@@ -40,8 +40,8 @@ numbered : (k : tie.At-loop Inv-loop μ-loop) → let a = start k .args in PartN
 numbered k =
     let s = start k in
     let p = k .before .before in
-    parted-numbers (s .args .n) (s .args .sizes .now) (s .args .parents .now) (numbers k) (s .pre .0) (p .number-parts .ensures)
-    (omega (arith, s .pre .0 .few, p .number-parts .kept .1 .0, p .before .before .no-numbers .ensures))
+    parts-numbers (s .args .n) (s .args .sizes .now) (s .args .parents .now) (numbers k) (s .pre .0) (p .number-parts .ensures)
+    (omega (arith, s .pre .0 .few, p .number-parts .kept .1 .0, p .before .before .zeros .ensures))
 
 -- and say what the parts say
 same : (c : tie.In-loop Inv-loop μ-loop) →
@@ -67,8 +67,8 @@ number-parts-requires c κs =
     let s = c .before .before .before .before .before .before in
     let a = s .args in
     let h = s .pre .0 in (
-      omega (arith, h .few, parted-few (a .n) (a .sizes .now) (a .parents .now) h),
-      omega (arith, h .few, parted-total (a .n) (a .sizes .now) (a .parents .now) h, c .before .no-numbers .ensures),
+      omega (arith, h .few, parts-few (a .n) (a .sizes .now) (a .parents .now) h),
+      omega (arith, h .few, parts-total (a .n) (a .sizes .now) (a .parents .now) h, c .before .zeros .ensures),
     )
 
 list-requires : tie.Need-list-requires Inv-loop μ-loop
@@ -83,7 +83,7 @@ outside-requires c κs =
     let k = t .before in
     let s = start k in
     let a = s .args in (
-      parted-parents (a .n) (a .sizes .now) (a .parents .now) (s .pre .0),
+      parts-parents (a .n) (a .sizes .now) (a .parents .now) (s .pre .0),
       numbered k,
       t .loop-test .taken,
       rw (c .list .ensures) (laid-good (a .n) (a .columnStarts .now) (a .rows .now) (s .pre .1) (k .loop .j) (t .loop-test .taken)),

@@ -17,16 +17,20 @@ use Rattle.planfile.proofs.writer.bad_supply.Tie as tie
 abbrev plan : tie.Start → Contents
 plan s = let a = s .args in contents (a .n) (a .p) (a .s) (a .order .now) (a .sizes .now) (a .parents .now) (a .columnStarts .now) (a .rows .now)
 
+-- the function's entry, seen from check 13 of a file
+abbrev start : tie.After-bad-header → tie.Start
+start c = c .before .before .before .before .before .before
+
 returns : tie.Need-returns
 unfolding badSupply
 returns c =
-    let s = c .before .before .before .before .before .before .before in
+    let s = start (c .before) in
     rw (sym (header-counts (plan s)) ∙ sym (c .before .bad-header .ensures) ∙ c .if1 .taken)
 
 -- check 13 of a file finds no fault
-headed : (c : tie.Else1) → badHeader (plan (c .before .before .before .before .before .before .before)) ≡ false
+headed : (c : tie.Else1) → badHeader (plan (start (c .before))) ≡ false
 headed c =
-    let s = c .before .before .before .before .before .before .before in
+    let s = start (c .before) in
     sym (header-counts (plan s)) ∙ sym (c .before .bad-header .ensures) ∙ c .if1 .left
 
 returns-2 : tie.Need-returns-2
@@ -53,7 +57,7 @@ returns-5 c =
     let three = four .before in
     let two = three .before in
     let one = two .before in
-    let m = plan (one .before .before .before .before .before .before .before) in
+    let m = plan (start (one .before)) in
     rw (headed one, le-ltb _ _ (two .if2 .left), le-ltb _ _ (three .if3 .left), le-ltb _ _ (four .if4 .left), lt-ltb (length (m .columnStarts)) (m .nodes + 1) (omega arith))
 
 returns-6 : tie.Need-returns-6
@@ -63,7 +67,7 @@ returns-6 c =
     let three = four .before in
     let two = three .before in
     let one = two .before in
-    let m = plan (one .before .before .before .before .before .before .before) in
+    let m = plan (start (one .before)) in
     rw (headed one, le-ltb _ _ (two .if2 .left), le-ltb _ _ (three .if3 .left), le-ltb _ _ (four .if4 .left), le-ltb (length (m .columnStarts)) (m .nodes + 1) (omega arith))
 
 pub bad-supply-spec : {M : Type 1} → statement M

@@ -34,7 +34,7 @@ returns c = let s = start (c .before) in refused-supply (plan s) (found s) (bad 
 good : (c : tie.Else1) → badSupply (plan (start (c .before))) ≡ false
 good c = sym (c .before .bad-supply .ensures) ∙ c .if1 .left
 
--- so the slices' fronts are as long as their counts say
+-- so the slices' fronts are a whole plan that passed it
 exact : (c : tie.Else1) → Exact (used (plan (start (c .before))))
 exact c = exact-used (plan (start (c .before))) (good c)
 
@@ -53,11 +53,11 @@ write-spec =
     (λ c κs. search needs)
     returns
     (λ c. omega (arith, counts-few (used (plan (start (c .before)))) (exact c .header) .0))
-    (λ c. sym (exact (c .before) .order))
-    (λ c. sym (exact (c .before .before) .sizes))
-    (λ c. sym (exact (c .before .before .before) .parents))
-    (λ c. sym (exact (c .before .before .before .before) .columnStarts))
-    (λ c. sym (exact (c .before .before .before .before .before) .rows))
+    (λ c. sym (exact (c .before) .whole .order))
+    (λ c. sym (exact (c .before .before) .whole .sizes))
+    (λ c. sym (exact (c .before .before .before) .whole .parents))
+    (λ c. sym (exact (c .before .before .before .before) .whole .columnStarts))
+    (λ c. sym (exact (c .before .before .before .before .before) .whole .rows))
     (λ c κs. let e = c .before .before .before .before .before .before in exact-fronts (plan (start (e .before))) (good e))
     (λ c. search needs)
     returns-2)

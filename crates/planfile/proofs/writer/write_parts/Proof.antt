@@ -26,16 +26,20 @@ loop-holds c =
     let a = c .before .before .before .args in
     blocks-none (pair (a .sizes .now) (a .parents .now)) 4 (length (a .sizes .now)) (a .bytes .now)
 
+-- the function's entry, seen from the loop
+abbrev start : tie.At-loop Inv-loop μ-loop → tie.Start Inv-loop μ-loop
+start l = l .before .before .before .before
+
 -- part q has room
-fits : (c : tie.In-loop Inv-loop μ-loop) → 4 * c .before .loop .q + 4 ≤ length (c .before .before .before .before .before .args .bytes .now)
-fits c = omega (arith, c .loop-test .taken, c .before .before .before .before .before .pre .1)
+fits : (c : tie.In-loop Inv-loop μ-loop) → 4 * c .before .loop .q + 4 ≤ length (start (c .before) .args .bytes .now)
+fits c = omega (arith, c .loop-test .taken, start (c .before) .pre .1)
 
 -- the buffer is as long as it was
-long : (c : tie.At-loop Inv-loop μ-loop) → length (c .loop .bytes) ≡ length (c .before .before .before .before .args .bytes .now)
+long : (c : tie.At-loop Inv-loop μ-loop) → length (c .loop .bytes) ≡ length (start c .args .bytes .now)
 long c =
-    let a = c .before .before .before .before .args in
+    let a = start c .args in
     reached-long (a .bytes .now) (blocks (pair (a .sizes .now) (a .parents .now)) (c .loop .q)) (c .loop .bytes) (4 * c .loop .q) (c .loop .inv .reached)
-    (omega (arith, c .loop .inv .few, c .before .before .before .before .pre .1))
+    (omega (arith, c .loop .inv .few, start c .pre .1))
 
 -- the buffer with its size, where its parent is to come
 abbrev buffer : tie.After-write16 Inv-loop μ-loop → List ℕ
@@ -45,26 +49,26 @@ buffer c =
 
 sized : (c : tie.After-write16 Inv-loop μ-loop)
     → let l = c .before .before .before .before in
-    let a = l .before .before .before .before .args in
+    let a = start l .args in
     Reached (a .bytes .now) (blocks (pair (a .sizes .now) (a .parents .now)) (l .loop .q) ++ encode16 (getD (a .sizes .now) (l .loop .q) 0)) (buffer c) (4 * l .loop .q + 2)
 sized c =
     let l = c .before .before .before .before in
-    let a = l .before .before .before .before .args in
+    let a = start l .args in
     let q : ℕ = l .loop .q in
     reached-more (a .bytes .now) (blocks (pair (a .sizes .now) (a .parents .now)) q) (l .loop .bytes) (4 * q) (l .loop .inv .reached) (encode16 (getD (a .sizes .now) q 0)) (c .write16 .last .1 .0) (4 * q + 2)
     (c .write16 .ensures) (ap (λ (k : ℕ). 4 * q + k) (encode16-length _))
 
-longBehind : (c : tie.After-write16 Inv-loop μ-loop) → length (buffer c) ≡ length (c .before .before .before .before .before .before .before .before .args .bytes .now)
+longBehind : (c : tie.After-write16 Inv-loop μ-loop) → length (buffer c) ≡ length (start (c .before .before .before .before) .args .bytes .now)
 longBehind c =
     let l = c .before .before .before .before in
-    reached-long (l .before .before .before .before .args .bytes .now) _ (buffer c) (4 * l .loop .q + 2) (sized c) (omega (arith, fits (c .before .before .before)))
+    reached-long (start l .args .bytes .now) _ (buffer c) (4 * l .loop .q + 2) (sized c) (omega (arith, fits (c .before .before .before)))
 
 loop-again : tie.Need-loop-again Inv-loop μ-loop
 loop-again c =
     let v = c .before .before in
     let w = v .before .before .before .before .before in
     let l = w .before .before .before .before in
-    let a = l .before .before .before .before .args in
+    let a = start l .args in
     let q : ℕ = l .loop .q in
     let f : ℕ → List ℕ = pair (a .sizes .now) (a .parents .now) in
     let size : List ℕ = encode16 (getD (a .sizes .now) q 0) in
@@ -77,7 +81,7 @@ returns : tie.Need-returns Inv-loop μ-loop
 unfolding encodeParts
 returns c =
     let l = c .before in
-    let a = l .before .before .before .before .args in
+    let a = start l .args in
     blocks-all (pair (a .sizes .now) (a .parents .now)) 4 (length (a .sizes .now)) (a .bytes .now) (l .loop .bytes) (l .loop .q) (c .loop-test .left) (l .loop .inv)
 
 pub write-parts-spec : {M : Type 1} → statement M
@@ -96,16 +100,16 @@ write-parts-spec =
     (λ c. search needs)
     (λ c κs.
     let l = c .before .before .before in
-    reached-room (l .before .before .before .before .args .bytes .now) _ (l .loop .bytes) (4 * l .loop .q) (l .loop .inv .reached) 2 (omega (arith, fits (c .before .before))))
+    reached-room (start l .args .bytes .now) _ (l .loop .bytes) (4 * l .loop .q) (l .loop .inv .reached) 2 (omega (arith, fits (c .before .before))))
     (λ c. search needs)
-    (λ c. omega (arith, c .before .before .before .before .before .before .loop-test .taken, c .before .before .before .before .before .before .before .before .before .before .before .pre .0))
+    (λ c. let i = c .before .before .before .before .before .before in omega (arith, i .loop-test .taken, start (i .before) .pre .0))
     (λ c. let w = c .before .before .before in omega (arith, fits (w .before .before .before), longBehind w))
     (λ c. let w = c .before .before .before in omega (arith, fits (w .before .before .before), longBehind w))
     (λ c. search needs)
     (λ c κs.
     let w = c .before .before .before .before in
     let l = w .before .before .before .before in
-    reached-room (l .before .before .before .before .args .bytes .now) _ (buffer w) (4 * l .loop .q + 2) (sized w) 2 (omega (arith, fits (w .before .before .before))))
+    reached-room (start l .args .bytes .now) _ (buffer w) (4 * l .loop .q + 2) (sized w) 2 (omega (arith, fits (w .before .before .before))))
     (λ c. search needs)
     (λ c. search needs)
     loop-again

@@ -12,7 +12,7 @@ use Rattle.theory.proofs.Written.{Reached, lentFrom, reached-long, reached-room
 use Rattle.theory.proofs.Coding.{encode16s-length}
 use Rattle.theory.proofs.FileFields.{parts-length, counts-length}
 use Rattle.theory.proofs.Fitting.{counts-few}
-use Rattle.planfile.specs.Supplied.{headerOf}
+use Rattle.planfile.specs.Filed.{headerOf}
 use Rattle.planfile.proofs.WrittenFile.{header-length, file-fields}
 use Rattle.planfile.proofs.writer.write_plan.Statement.{statement}
 use Rattle.planfile.proofs.writer.write_plan.Tie as tie
@@ -77,7 +77,7 @@ write16s-requires : tie.Need-write16s-requires
 write16s-requires c κs =
     let w = c .before .before .before in
     let s = start0 w in
-    reached-room (found s) (header s) (headed w) 17 (header-first w) (2 * length (plan s .order)) (omega (arith, room s, s .pre .0 .0 .order))
+    reached-room (found s) (header s) (headed w) 17 (header-first w) (2 * length (plan s .order)) (omega (arith, room s, s .pre .0 .0 .whole .order))
 
 abbrev call0 : tie.After-write16s → tie.After-write-header
 call0 c = c .before .before .before .before
@@ -95,7 +95,7 @@ order-behind : (c : tie.After-write16s) → let s = start1 c in Reached (found s
 order-behind c =
     let s = start1 c in
     reached-more (found s) (header s) (headed (call0 c)) 17 (header-first (call0 c)) (encode16s (plan s .order)) (c .write16s .last .1 .0) (partsAt s) (c .write16s .ensures)
-    (omega (arith, encode16s-length (plan s .order), s .pre .0 .0 .order))
+    (omega (arith, encode16s-length (plan s .order), s .pre .0 .0 .whole .order))
 
 long1 : (c : tie.After-write16s) → length (ordered c) ≡ length (found (start1 c))
 long1 c = let s = start1 c in reached-long (found s) (upToOrder s) (ordered c) (partsAt s) (order-behind c) (omega (arith, room s))
@@ -106,7 +106,7 @@ write-parts-requires : tie.Need-write-parts-requires
 write-parts-requires c κs =
     let w = c .before .before .before in
     let s = start1 w in
-    (s .pre .0 .0 .parents, reached-room (found s) (upToOrder s) (ordered w) (partsAt s) (order-behind w) (4 * plan s .parts) (omega (arith, room s)))
+    (s .pre .0 .0 .whole .parents, reached-room (found s) (upToOrder s) (ordered w) (partsAt s) (order-behind w) (4 * plan s .parts) (omega (arith, room s)))
 
 abbrev call1 : tie.After-write-parts → tie.After-write16s
 call1 c = c .before .before .before .before
@@ -135,7 +135,7 @@ write-row-counts-requires : tie.Need-write-row-counts-requires
 write-row-counts-requires c κs =
     let w = c .before .before .before in
     let s = start2 w in
-    (s .pre .0 .0 .columnStarts, s .pre .0 .1, reached-room (found s) (upToParts s) (parted w) (countsAt s) (parts-behind w) (2 * plan s .nodes) (omega (arith, room s)))
+    (s .pre .0 .0 .whole .columnStarts, s .pre .0 .1, reached-room (found s) (upToParts s) (parted w) (countsAt s) (parts-behind w) (2 * plan s .nodes) (omega (arith, room s)))
 
 abbrev call2 : tie.After-write-row-counts → tie.After-write-parts
 call2 c = c .before .before .before .before

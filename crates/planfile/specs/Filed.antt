@@ -1,0 +1,29 @@
+-- What the functions' contracts cite of the bytes of a file: its first bytes, a file that passed checks 10 to 14, and the row counts and the rows in one.
+use mathlib.Core.Path.{_≡_}
+use mathlib.Core.List.{List, [], _∷_, flatten}
+use Prim.Native.Nat.{ℕ, _+_, _*_, _/_}
+use lib.ListN.{length}
+use Rattle.plan.specs.Refusals.{firstFault}
+use Rattle.plan.specs.File.{encode16, encode32, decode16s, magic, version, parse}
+use Rattle.plan.specs.Reading.{headerChecks}
+
+-- the file's first bytes: mark, version and counts
+abbrev pub headerOf : ℕ → ℕ → ℕ → List ℕ
+headerOf n p s = flatten (magic ∷ encode16 version ∷ encode32 n ∷ encode32 p ∷ encode32 s ∷ [])
+
+-- a file that passed checks 10 to 14, and the counts in it
+pub record Headed (bytes : List ℕ) (n p s : ℕ) : Type 0 where
+  pub good : firstFault (headerChecks bytes) ≡ 0
+  pub nodes : n ≡ parse bytes .nodes
+  pub parts : p ≡ parse bytes .parts
+  pub slots : s ≡ parse bytes .slots
+
+-- the row counts in a file
+abbrev pub rowCountsIn : List ℕ → List ℕ
+rowCountsIn bytes =
+    let n : ℕ = parse bytes .nodes in
+    decode16s bytes (17 + 2 * n + 4 * parse bytes .parts) 2 n
+
+-- rows in bytes, two for each
+abbrev pub rowsIn : List ℕ → List ℕ
+rowsIn bytes = decode16s bytes 0 2 (length bytes / 2)
