@@ -46,7 +46,7 @@ badInput bytes =
 unfoldable pub listingChecks : List ℕ → Checks
 listingChecks bytes = (20, badInput bytes) ∷ meshChecks (inputMesh bytes)
 
--- a number's last `most` + 1 decimal digits, without leading zeros
+-- a number's last `most` + 1 decimal digits, all of them where it has fewer
 unfoldable pub decimalUpTo : ℕ → ℕ → List ℕ
 decimalUpTo zero x = (48 + x % 10) ∷ []
 decimalUpTo (suc most) x =
@@ -72,10 +72,13 @@ headLine c = flatten (
     ∷ (10 ∷ [])
     ∷ [])
 
+-- a line of position, node, part and rows
+abbrev pub lineOf : ℕ → ℕ → ℕ → List ℕ → List ℕ
+lineOf j node part rows = decimal j ++ (spaced (node ∷ part ∷ rows) ++ (10 ∷ []))
+
 -- "then a line for each position with position, node, part, rows"
 unfoldable pub positionLine : Contents → ℕ → List ℕ
-positionLine c j =
-    decimal j ++ (spaced (getD (c .order) j 0 ∷ partOf (c .sizes) j ∷ listAt (c .columnStarts) (c .rows) j) ++ (10 ∷ []))
+positionLine c j = lineOf j (getD (c .order) j 0) (partOf (c .sizes) j) (listAt (c .columnStarts) (c .rows) j)
 
 -- "another refusal prints "refused" and its number"
 unfoldable pub refusalLine : ℕ → List ℕ

@@ -1,57 +1,41 @@
 -- The listing of planning's answer: what planning leaves in buffers that are long enough is listed as the book says.
 use mathlib.Core.Path.{_≡_, refl, sym, ap, _∙_, subst}
 use mathlib.Core.Logic.{inl, inr}
-use mathlib.Core.Bool.{Bool, true, false, cond, _||_}
+use mathlib.Core.Bool.{true, false}
 use mathlib.Core.List.{List, [], _∷_, _++_, map, flatten, append-nil}
 use Prim.Native.Nat.{ℕ, zero, suc, _+_, _≤_, _<_}
 use native.Mathlib.Omega.{arith}
-use lib.Dec.{ltb}
 use lib.ListN.{length, getD, take, drop, length-append, List·getD-append}
-use borrow.Author.Tests.{ltb-true, le-ltb}
+use borrow.Author.Tests.{le-ltb}
 use Rattle.plan.specs.declared.PlanAnswer.{PlanAnswer}
 use Rattle.plan.specs.declared.PlanAnswer.the-variants.{Accepted, Refused}
 use Rattle.plan.specs.declared.Plan.{Plan}
-use Rattle.plan.specs.Lists.{every, below, listAt, written}
+use Rattle.plan.specs.Lists.{below, listAt}
 use Rattle.plan.specs.Refusals.{Checks, firstFault}
-use Rattle.plan.specs.Answers.{Reply, planReply}
+use Rattle.plan.specs.Answers.{Reply}
 use Rattle.plan.specs.Mesh.{Mesh, meshChecks}
 use Rattle.plan.specs.Elimination.{columns}
-use Rattle.plan.specs.Planning.{planBy, planOf, Buffers, Capacity, capacity, buffersTooShort, rowsTooShort, planChecks, handOut, planning, fill, Filled, Planned}
+use Rattle.plan.specs.Planning.{planBy, planOf, Buffers, Capacity, capacity, buffersTooShort, rowsTooShort, planChecks, handOut, planning, Filled, Planned}
 use Rattle.plan.specs.Listing.{maxListedNodes, inputMesh, badInput, listingChecks, headLine, positionLine, refusalLine, print, listing}
-use Rattle.theory.proofs.Bools.{and-left, and-right, or-neither, tested}
+use Rattle.theory.proofs.Bools.{tested}
 use Rattle.theory.proofs.Written.{front-written}
-use Rattle.theory.proofs.Refusals.{fault-here, fault-later}
+use Rattle.theory.proofs.Refusals.{first-nil, fault-here, fault-later, none-behind, fault-below}
 use Rattle.theory.proofs.Ranges.{map-ext-upFrom}
 use Rattle.theory.proofs.Orders.{order-length}
 use Rattle.theory.proofs.Slots.{column-listed, column-at, slots-last}
 use Rattle.theory.proofs.Eliminated.{columns-starts}
-use Rattle.theory.proofs.Planned.{planned-once, planned-sizes}
+use Rattle.theory.proofs.Handed.{Holds, accepted-holds}
+use Rattle.theory.proofs.Planned.{planned-nodes, planned-once, planned-sizes}
 use Rattle.mesh.specs.Lent.{ListWithin}
 use Rattle.mesh.proofs.Lists.{good-starts-within}
-use Rattle.text.specs.Lines.{lineAt, headOf, linesOf, lentPlan, PlanWithin, answerText, AnswerWithin, meshText}
+use Rattle.text.specs.Lines.{shown, headOf, linesOf, lentPlan, PlanWithin, answerText, AnswerWithin, meshText}
 use Rattle.text.proofs.Lines.{head-counts, plan-parts}
 use Rattle.text.proofs.Inputs.{input-passes, mesh-nodes}
-use Rattle.text.proofs.Bound.{planned-nodes, slots-at-most, plan-fits, refusal-fits}
+use Rattle.text.proofs.Bound.{slots-at-most, plan-fits, refusal-fits}
 
 -- ---- the first fault
 
--- checks 8 and 9 that find no fault change nothing
-none-behind : (cs : Checks) (a b : Bool) → a ≡ false → b ≡ false → firstFault (cs ++ ((8, a) ∷ (9, b) ∷ [])) ≡ firstFault cs
-unfolding firstFault
-none-behind [] a b ha hb = rw (ha, hb)
-none-behind (c ∷ cs) a b ha hb = ap (λ (k : ℕ). cond (c .1) (c .0) k) (none-behind cs a b ha hb)
-
--- the number of a fault is one of the checks' numbers
-fault-below : (b : ℕ) (cs : Checks) → 0 < b → every (λ c. ltb (c .0) b) cs ≡ true → firstFault cs < b
-unfolding firstFault
-fault-below b [] pos h = pos
-fault-below b (c ∷ cs) pos h = go (c .1) (fault-below b cs pos (and-right (ltb (c .0) b) _ h))
-  where
-    go : (t : Bool) → firstFault cs < b → cond t (c .0) (firstFault cs) < b
-    go true later = ltb-true (c .0) b (and-left (ltb (c .0) b) _ h)
-    go false later = later
-
--- those of the mesh's checks are below 100
+-- of a mesh's checks it is below 100
 mesh-fault : (m : Mesh) → firstFault (meshChecks m) < 100
 unfolding meshChecks
 mesh-fault m = fault-below 100 (meshChecks m) (omega arith) refl
@@ -70,14 +54,13 @@ module _ (m : Mesh) (few : m .nodes ≤ maxListedNodes) where
   long-enough : (room : Capacity) → Roomy room → buffersTooShort (m .nodes) room ≡ false
   unfolding buffersTooShort
   long-enough room r =
-      let n : ℕ = m .nodes in
-      or-neither (ltb (room .order) n || ltb (room .positions) n || ltb (room .sizes) n || ltb (room .parents) n) (ltb (room .columnStarts) (n + 1))
-      (or-neither (ltb (room .order) n || ltb (room .positions) n || ltb (room .sizes) n) (ltb (room .parents) n)
-      (or-neither (ltb (room .order) n || ltb (room .positions) n) (ltb (room .sizes) n)
-      (or-neither (ltb (room .order) n) (ltb (room .positions) n) (le-ltb (room .order) n (omega (arith, r .order))) (le-ltb (room .positions) n (omega (arith, r .positions))))
-      (le-ltb (room .sizes) n (omega (arith, r .sizes))))
-      (le-ltb (room .parents) n (omega (arith, r .parents))))
-      (le-ltb (room .columnStarts) (n + 1) (omega (arith, r .columnStarts)))
+      rw (
+        le-ltb (room .order) (m .nodes) (omega (arith, r .order)),
+        le-ltb (room .positions) (m .nodes) (omega (arith, r .positions)),
+        le-ltb (room .sizes) (m .nodes) (omega (arith, r .sizes)),
+        le-ltb (room .parents) (m .nodes) (omega (arith, r .parents)),
+      )
+      (le-ltb (room .columnStarts) (m .nodes + 1) (omega (arith, r .columnStarts)))
 
   -- and so are the rows
   rows-enough : (room : Capacity) → Roomy room → rowsTooShort (planOf m) room ≡ false
@@ -87,7 +70,10 @@ module _ (m : Mesh) (few : m .nodes ≤ maxListedNodes) where
   -- so planning's first fault is the mesh's
   same-fault : (room : Capacity) → Roomy room → firstFault (planChecks m room) ≡ firstFault (meshChecks m)
   unfolding planChecks
-  same-fault room r = none-behind (meshChecks m) (buffersTooShort (m .nodes) room) (rowsTooShort (planOf m) room) (long-enough room r) (rows-enough room r)
+  same-fault room r =
+      let nine : Checks = (9, rowsTooShort (planOf m) room) ∷ [] in
+      none-behind (meshChecks m) ((8, buffersTooShort (m .nodes) room) ∷ nine)
+      (fault-later 8 (buffersTooShort (m .nodes) room) nine (long-enough room r) ∙ fault-later 9 (rowsTooShort (planOf m) room) [] (rows-enough room r) ∙ first-nil)
 
   -- the text fits
   pub mesh-fits : length (meshText m) ≤ 135168
@@ -118,57 +104,27 @@ column-within m j h =
     let last : getD (planOf m .columnStarts) (m .nodes) 0 ≡ length (planOf m .rows) = simp append-nil at (slots-last m (planOf m .order) []) in
     good-starts-within (m .nodes) (planOf m .columnStarts) (planOf m .rows) (columns-starts m (planOf m .order)) (omega (arith, last)) j h
 
-module _ (m : Mesh) (p : Plan) (found left : Buffers) (h : Filled (handOut 0 (planOf m)) (Accepted p) found left) where
-  -- the counts of the answer are the plan's
-  value : (k : ℕ) → getD (planReply (Accepted p) .values) k 0 ≡ getD (handOut 0 (planOf m) .reply .values) k 0
-  value k = ap (λ (r : Reply). getD (r .values) k 0) (h .reply)
-
-  -- nodes, parts, slots
+module _ (m : Mesh) (p : Plan) (found left : Buffers) (h : Holds (planOf m) p found left) where
+  -- the answer shows as many nodes as the mesh has
   nodes : p .nodes ≡ m .nodes
-  unfolding handOut planOf planBy
-  nodes = value 0
-
-  parts : p .parts ≡ planOf m .parts
-  unfolding handOut
-  parts = value 1
-
-  slots : p .slots ≡ planOf m .slots
-  unfolding handOut
-  slots = value 2
+  nodes = h .nodes ∙ planned-nodes m
 
   -- the order has a node for each position
   many : length (planOf m .order) ≡ m .nodes
   many = order-length (m .nodes) (planOf m .order) (planned-once m)
 
-  -- what planning left in the buffers
-  order-left : left .order ≡ written (planOf m .order) (found .order)
-  unfolding handOut fill
-  order-left = h .order
-
-  sizes-left : left .sizes ≡ written (planOf m .sizes) (found .sizes)
-  unfolding handOut fill
-  sizes-left = h .sizes
-
-  starts-left : left .columnStarts ≡ written (planOf m .columnStarts) (found .columnStarts)
-  unfolding handOut fill
-  starts-left = h .columnStarts
-
-  rows-left : left .rows ≡ written (planOf m .rows) (found .rows)
-  unfolding handOut fill
-  rows-left = h .rows
-
   -- the order and the sizes stand at the front
   order-front : take (p .nodes) (left .order) ≡ planOf m .order
-  order-front = front-written (p .nodes) (planOf m .order) (found .order) (left .order) order-left (many ∙ sym nodes)
+  order-front = front-written (p .nodes) (planOf m .order) (found .order) (left .order) (h .order) (many ∙ sym nodes)
 
   sizes-front : take (p .parts) (left .sizes) ≡ planOf m .sizes
-  sizes-front = front-written (p .parts) (planOf m .sizes) (found .sizes) (left .sizes) sizes-left (planned-sizes m ∙ sym parts)
+  sizes-front = front-written (p .parts) (planOf m .sizes) (found .sizes) (left .sizes) (h .sizes) (planned-sizes m ∙ sym (h .parts))
 
   -- and so do the columns
   column-front : (j : ℕ) → j < m .nodes → listAt (left .columnStarts) (left .rows) j ≡ listAt (planOf m .columnStarts) (planOf m .rows) j
   unfolding planOf planBy
   column-front j l =
-      rw (starts-left, rows-left)
+      rw (h .columnStarts, h .rows)
       (column-listed m (planOf m .order) (drop (length (planOf m .columnStarts)) (found .columnStarts)) (drop (length (planOf m .rows)) (found .rows)) j l
       ∙ sym (column-at m (planOf m .order) j l))
 
@@ -176,9 +132,9 @@ module _ (m : Mesh) (p : Plan) (found left : Buffers) (h : Filled (handOut 0 (pl
   plan-within : PlanWithin (p .nodes) (p .parts) (left .order) (left .sizes) (left .columnStarts) (left .rows)
   plan-within =
       record {
-        nodes = omega (arith, nodes, many, ap length order-left, length-append (planOf m .order) (drop (length (planOf m .order)) (found .order)));
-        parts = omega (arith, parts, planned-sizes m, ap length sizes-left, length-append (planOf m .sizes) (drop (length (planOf m .sizes)) (found .sizes)));
-        columns = λ j l. rw (starts-left, rows-left) (within-longer (planOf m .columnStarts) (planOf m .rows) _ _ j (column-within m j (omega (arith, nodes))));
+        nodes = omega (arith, nodes, many, ap length (h .order), length-append (planOf m .order) (drop (length (planOf m .order)) (found .order)));
+        parts = omega (arith, h .parts, planned-sizes m, ap length (h .sizes), length-append (planOf m .sizes) (drop (length (planOf m .sizes)) (found .sizes)));
+        columns = λ j l. rw (h .columnStarts, h .rows) (within-longer (planOf m .columnStarts) (planOf m .rows) _ _ j (column-within m j (omega (arith, nodes))));
       }
 
   -- its lines are those of the plan of the mesh
@@ -186,12 +142,12 @@ module _ (m : Mesh) (p : Plan) (found left : Buffers) (h : Filled (handOut 0 (pl
   unfolding positionLine
   lines-same =
       rw many
-      (ap flatten (map-ext-upFrom (lineAt (planOf m .order) (planOf m .sizes) (left .columnStarts) (left .rows)) (positionLine (planOf m)) (m .nodes) 0
+      (ap flatten (map-ext-upFrom (positionLine (shown 0 0 0 (planOf m .order) (planOf m .sizes) (left .columnStarts) (left .rows))) (positionLine (planOf m)) (m .nodes) 0
       (λ j l u. rw (column-front j (omega arith)))))
 
   -- and so is its first line
   head-same : headOf (p .nodes) (p .parts) (p .slots) ≡ headLine (planOf m)
-  head-same = rw (nodes ∙ sym (planned-nodes m), parts, slots) (sym (head-counts (planOf m)))
+  head-same = rw (h .nodes, h .parts, h .slots) (sym (head-counts (planOf m)))
 
   -- so it is listed as that plan
   plan-text : print 0 (lentPlan (p .nodes) (p .parts) (p .slots) (left .order) (left .sizes) (left .columnStarts) (left .rows)) ≡ print 0 (planOf m)
@@ -210,7 +166,7 @@ pub record Listed (answer : PlanAnswer) (left : Buffers) (text : List ℕ) : Typ
 -- a plan
 accepted-listed : (m : Mesh) (answer : PlanAnswer) (found left : Buffers) → Filled (handOut 0 (planOf m)) answer found left → Listed answer left (print 0 (planOf m))
 unfolding answerText AnswerWithin handOut
-accepted-listed m (Accepted p) found left h = record { same = plan-text m p found left h; held = plan-within m p found left h }
+accepted-listed m (Accepted p) found left h = let held = accepted-holds (planOf m) p found left h in record { same = plan-text m p found left held; held = plan-within m p found left held }
 accepted-listed m (Refused j) found left h = absurd (omega (arith, ap (λ (r : Reply). length (r .values)) (h .reply)))
 
 -- a refusal

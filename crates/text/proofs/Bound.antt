@@ -1,5 +1,5 @@
 -- How long the listing is: that of a mesh of at most 256 nodes fits into 135,168 bytes, and a refusal's into 12.
-use mathlib.Core.Path.{_≡_, refl, sym, ap, _∙_}
+use mathlib.Core.Path.{_≡_, refl, ap}
 use mathlib.Core.Bool.{true}
 use mathlib.Core.List.{List, [], _∷_}
 use Prim.Native.Nat.{ℕ, _+_, _-_, _*_, _/_, _≤_, _<_}
@@ -7,24 +7,20 @@ use native.Mathlib.Nat.{mul-le-mul}
 use native.Mathlib.Omega.{arith}
 use lib.ListN.{length, getD, length-append}
 use Rattle.plan.specs.Lists.{below, isIn, listAt}
-use Rattle.plan.specs.Mesh.{Mesh, adjacent}
-use Rattle.plan.specs.Choice.{georgeLiu}
+use Rattle.plan.specs.Mesh.{Mesh}
 use Rattle.plan.specs.Elimination.{column, columns}
 use Rattle.plan.specs.Parts.{partOf}
 use Rattle.plan.specs.Planning.{planBy, planOf}
-use Rattle.plan.specs.Listing.{maxListedNodes, headLine, positionLine, refusalLine, print}
-use Rattle.theory.specs.PartTree.{PartTree}
-use Rattle.theory.proofs.Lists.{isIn-head, isIn-tail, isIn-keep}
-use Rattle.theory.proofs.Bools.{and-left}
+use Rattle.plan.specs.Listing.{maxListedNodes, headLine, lineOf, positionLine, refusalLine, print}
+use Rattle.theory.specs.Rows.{isRow}
+use Rattle.theory.proofs.Lists.{isIn-head, isIn-tail}
 use Rattle.theory.proofs.Ranges.{isIn-below, length-upFrom}
 use Rattle.theory.proofs.Orders.{order-inside}
 use Rattle.theory.proofs.PartOf.{part-lt}
-use Rattle.theory.proofs.Columns.{column-keep}
+use Rattle.theory.proofs.EliminationTree.{row-range}
 use Rattle.theory.proofs.Slots.{column-at, slots-few}
-use Rattle.theory.proofs.Dissection.{parts-few}
-use Rattle.theory.proofs.Choice.{georgeLiu-takes}
-use Rattle.theory.proofs.Planned.{plan-tree, planned-once, planned-sizes}
-use Rattle.text.specs.Lines.{headOf, lineOf}
+use Rattle.theory.proofs.Planned.{planned-nodes, planned-once, planned-sizes, planned-few, planned-tree}
+use Rattle.text.specs.Lines.{headOf}
 use Rattle.text.proofs.Sequences.{texts, texts-none, texts-one, texts-append}
 use Rattle.text.proofs.Decimals.{digits-three, digits-five, spaced-one, spaced-few}
 use Rattle.text.proofs.Lines.{head-length, head-counts, line-length, refusal-length}
@@ -77,11 +73,6 @@ head-few n p s hn hp hs =
 
 -- ---- the plan of a mesh
 
--- it has the mesh's nodes
-pub planned-nodes : (m : Mesh) → planOf m .nodes ≡ m .nodes
-unfolding planOf planBy
-planned-nodes m = refl
-
 module _ (m : Mesh) (few : m .nodes ≤ maxListedNodes) where
   -- its column j
   abbrev rows : ℕ → List ℕ
@@ -94,22 +85,12 @@ module _ (m : Mesh) (few : m .nodes ≤ maxListedNodes) where
 
   -- its rows are positions
   row-inside : (i j : ℕ) → isIn i (rows j) ≡ true → i < m .nodes
-  row-inside i j h =
-      isIn-below (m .nodes) i (and-left (isIn i (below (m .nodes))) _ (sym (ap (isIn i) (column-keep m (planOf m .order) j) ∙ isIn-keep _ (below (m .nodes)) i) ∙ h))
+  unfolding isRow
+  row-inside i j h = row-range m (planOf m .order) i j h .1
 
-  -- its parts take all positions
-  tree : PartTree (m .nodes) (planOf m .sizes) (planOf m .parents)
-  unfolding planOf
-  tree = plan-tree m (georgeLiu m) (georgeLiu-takes m)
-
-  -- there are no more of them than nodes
-  parts-within : planOf m .parts ≤ m .nodes
-  unfolding planOf planBy
-  parts-within = parts-few (adjacent m) (georgeLiu m) (georgeLiu-takes m) (m .nodes)
-
-  -- so a position's part is less than n
+  -- a position's part is less than n
   part-inside : (j : ℕ) → j < m .nodes → partOf (planOf m .sizes) j < m .nodes
-  part-inside j h = omega (arith, part-lt (planOf m .sizes) j (omega (arith, tree .whole)), planned-sizes m, parts-within)
+  part-inside j h = omega (arith, part-lt (planOf m .sizes) j (omega (arith, planned-tree m .whole)), planned-sizes m, planned-few m)
 
   -- its slots: no more than pairs of positions
   slots-within : planOf m .slots ≤ m .nodes * (m .nodes - 1) / 2
@@ -148,7 +129,7 @@ module _ (m : Mesh) (few : m .nodes ≤ maxListedNodes) where
         arith,
         length-append (headLine (planOf m)) (texts (positionLine (planOf m)) (below (planOf m .nodes))),
         ap length (head-counts (planOf m)),
-        head-few (planOf m .nodes) (planOf m .parts) (planOf m .slots) (omega (arith, planned-nodes m)) (omega (arith, parts-within)) (omega (arith, slots-at-most)),
+        head-few (planOf m .nodes) (planOf m .parts) (planOf m .slots) (omega (arith, planned-nodes m)) (omega (arith, planned-few m)) (omega (arith, slots-at-most)),
         ap (λ (n : ℕ). length (texts (positionLine (planOf m)) (below n))) (planned-nodes m),
         lines-few (positionLine (planOf m)) rows (below (m .nodes)) line,
         length-upFrom (m .nodes) 0,

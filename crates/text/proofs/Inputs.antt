@@ -1,6 +1,6 @@
 -- The listing program's input: check 20 by its parts, and where the mesh's numbers stand.
-use mathlib.Core.Path.{_≡_, refl, sym, ap}
-use mathlib.Core.Bool.{Bool, true, false, _||_, false≢true}
+use mathlib.Core.Path.{_≡_, refl, ap}
+use mathlib.Core.Bool.{Bool, true, false, _||_}
 use mathlib.Core.List.{List}
 use Prim.Native.Nat.{ℕ, _+_, _-_, _*_, _%_, _≤_, _<_}
 use native.Mathlib.Omega.{arith}
@@ -10,16 +10,11 @@ use borrow.Author.Tests.{lt-ltb, le-ltb, ltb-false}
 use Rattle.plan.specs.Lists.{written}
 use Rattle.plan.specs.File.{decode16, decode32}
 use Rattle.plan.specs.Listing.{maxListedNodes, maxListedEntries, neighboursAt, entryCount, inputMesh, badInput}
-use Rattle.theory.proofs.Bools.{or-left, or-right, or-false-left, or-false-right, or-neither}
+use Rattle.theory.proofs.Bools.{or-left, or-right, or-false-left, or-false-right}
 use Rattle.theory.proofs.Written.{front-written}
 use Rattle.theory.proofs.Ranges.{getD-map-below, length-map-upFrom}
 use Rattle.theory.proofs.Coding.{decode16s-length}
 use Rattle.mesh.specs.Lent.{lent}
-
--- behind tests that fail, the last one tells
-or-last : (a b : Bool) → a ≡ false → (a || b) ≡ b
-or-last true b h = absurd (false≢true (sym h))
-or-last false b h = refl
 
 -- input that passes
 pub record Passes (bytes : List ℕ) : Type 0 where
@@ -73,12 +68,12 @@ module _ (bytes : List ℕ) where
   pub bad-rest : Passes bytes → badInput bytes ≡ odd
   unfolding badInput
   bad-rest p =
-      or-last (short || largeN || largeM || cut) odd
-      (or-neither (short || largeN || largeM) cut
-      (or-neither (short || largeN) largeM
-      (or-neither short largeN (le-ltb (length bytes) 2 (omega (arith, starts-behind, p .long))) (le-ltb maxListedNodes (decode16 bytes 0) (p .nodes)))
-      (le-ltb maxListedEntries (entryCount bytes) (p .entries)))
-      (le-ltb (length bytes) (neighboursAt bytes) (p .long)))
+      rw (
+        le-ltb (length bytes) 2 (omega (arith, starts-behind, p .long)),
+        le-ltb maxListedNodes (decode16 bytes 0) (p .nodes),
+        le-ltb maxListedEntries (entryCount bytes) (p .entries),
+        le-ltb (length bytes) (neighboursAt bytes) (p .long),
+      )
 
   -- what the check tells where it finds no fault
   pub input-passes : badInput bytes ≡ false → Passes bytes

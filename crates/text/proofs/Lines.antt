@@ -6,22 +6,22 @@ use native.Mathlib.Omega.{arith}
 use lib.ListN.{length, take, length-append}
 use lib.Seq.{length-take-le}
 use Rattle.plan.specs.Planning.{Contents}
-use Rattle.plan.specs.Listing.{decimal, spaced, headLine, positionLine, refusalLine, print}
-use Rattle.text.specs.Lines.{labelled, headOf, lineOf, linesOf, lentPlan}
+use Rattle.plan.specs.Listing.{decimal, spaced, headLine, lineOf, positionLine, refusalLine, print}
+use Rattle.text.specs.Lines.{labelled, headOf, linesOf, lentPlan}
 use Rattle.text.proofs.Sequences.{texts-append}
 use Rattle.text.proofs.Decimals.{spacedOne}
 
 -- the words
-abbrev pub nodesWord : List ℕ
+abbrev nodesWord : List ℕ
 nodesWord = 110 ∷ 111 ∷ 100 ∷ 101 ∷ 115 ∷ []
 
-abbrev pub partsWord : List ℕ
+abbrev partsWord : List ℕ
 partsWord = 32 ∷ 112 ∷ 97 ∷ 114 ∷ 116 ∷ 115 ∷ []
 
-abbrev pub slotsWord : List ℕ
+abbrev slotsWord : List ℕ
 slotsWord = 32 ∷ 115 ∷ 108 ∷ 111 ∷ 116 ∷ 115 ∷ []
 
-abbrev pub refusedWord : List ℕ
+abbrev refusedWord : List ℕ
 refusedWord = 114 ∷ 101 ∷ 102 ∷ 117 ∷ 115 ∷ 101 ∷ 100 ∷ []
 
 -- ---- the first line

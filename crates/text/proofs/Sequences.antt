@@ -1,13 +1,12 @@
 -- A loop that puts the texts of a list's elements, one behind the other. One relation serves every such loop: the texts of the first i elements were put.
 use mathlib.Core.Path.{_≡_, refl, sym, ap, _∙_}
-use mathlib.Core.List.{List, [], _∷_, _++_, map, flatten, append-nil}
-use Prim.Native.Nat.{ℕ, zero, suc, _+_, _≤_, _<_}
-use native.Mathlib.Numerals.{add-one}
+use mathlib.Core.List.{List, [], _∷_, _++_, map, flatten, map-append}
+use Prim.Native.Nat.{ℕ, _+_, _≤_, _<_}
 use native.Mathlib.Omega.{arith}
 use lib.ListN.{length, getD, take, drop, length-append, take-append-drop}
-use lib.Seq.{take-suc, take-all}
-use Rattle.plan.specs.Lists.{upFrom, below}
-use Rattle.theory.proofs.Flatten.{flatten-append, flatten-nil, flatten-cons}
+use lib.Seq.{take-all}
+use Rattle.theory.proofs.Lists.{take-more}
+use Rattle.theory.proofs.Flatten.{flatten-append, flatten-nil, flatten-cons, flatten-one}
 use Rattle.text.specs.Put.{Put}
 use Rattle.text.proofs.Puts.{put-none, put-both, put-as}
 
@@ -22,22 +21,18 @@ module _ (g : ℕ → List ℕ) where
 
   -- of one element
   pub texts-one : (x : ℕ) → texts g (x ∷ []) ≡ g x
-  texts-one x = flatten-cons (g x) [] ∙ ap (λ (l : List ℕ). g x ++ l) flatten-nil ∙ append-nil (g x)
-
-  map-append : (xs ys : List ℕ) → map g (xs ++ ys) ≡ map g xs ++ map g ys
-  map-append [] ys = refl
-  map-append (x ∷ xs) ys = ap (λ (l : List (List ℕ)). g x ∷ l) (map-append xs ys)
+  texts-one x = flatten-one (g x)
 
   -- of two lists
   pub texts-append : (xs ys : List ℕ) → texts g (xs ++ ys) ≡ texts g xs ++ texts g ys
-  texts-append xs ys = ap flatten (map-append xs ys) ∙ flatten-append (map g xs) (map g ys)
+  texts-append xs ys = ap flatten (map-append g xs ys) ∙ flatten-append (map g xs) (map g ys)
 
   -- of one element more
-  pub texts-more : (l : List ℕ) (i : ℕ) → i < length l → texts g (take (i + 1) l) ≡ texts g (take i l) ++ g (getD l i 0)
-  texts-more l i h = rw (add-one, take-suc l i 0 h) (texts-append (take i l) (getD l i 0 ∷ []) ∙ ap (λ (t : List ℕ). texts g (take i l) ++ t) (texts-one (getD l i 0)))
+  texts-more : (l : List ℕ) (i : ℕ) → i < length l → texts g (take (i + 1) l) ≡ texts g (take i l) ++ g (getD l i 0)
+  texts-more l i h = rw (take-more l i 0 h) (texts-append (take i l) (getD l i 0 ∷ []) ∙ ap (λ (t : List ℕ). texts g (take i l) ++ t) (texts-one (getD l i 0)))
 
   -- the texts of the first elements are no longer than all
-  pub texts-front : (l : List ℕ) (i : ℕ) → length (texts g (take i l)) ≤ length (texts g l)
+  texts-front : (l : List ℕ) (i : ℕ) → length (texts g (take i l)) ≤ length (texts g l)
   texts-front l i =
       let e : length (texts g l) ≡ length (texts g (take i l)) + length (texts g (drop i l)) =
       ap (λ (k : List ℕ). length (texts g k)) (sym (take-append-drop i l)) ∙ ap length (texts-append (take i l) (drop i l)) ∙ length-append (texts g (take i l)) (texts g (drop i l)) in
@@ -72,12 +67,3 @@ module _ (g : ℕ → List ℕ) (l before : List ℕ) (at : ℕ) where
   -- all were put
   pub puts-all : {i : ℕ} {buffer : List ℕ} {last : ℕ} → Puts g l before at i buffer last → length l ≤ i → Put before at (texts g l) buffer last
   puts-all {i} p h = put-as (ap (texts g) (take-all i l h)) (p .put)
-
--- the element of 0, 1, .. at place i
-pub below-at : (n i : ℕ) → i < n → getD (below n) i 0 ≡ i
-below-at n i h = go n 0 i h ∙ omega arith
-  where
-    go : (k a i : ℕ) → i < k → getD (upFrom a k) i 0 ≡ a + i
-    go zero a i h = absurd (omega arith)
-    go (suc k) a zero h = omega arith
-    go (suc k) a (suc i) h = go k (suc a) i (omega arith) ∙ omega arith

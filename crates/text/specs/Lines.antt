@@ -1,32 +1,19 @@
 -- The lines of the listing by what they say, and the plan that the lent slices hold.
 use mathlib.Core.List.{List, [], _∷_, _++_, map, flatten}
 use Prim.Native.Nat.{ℕ, _≤_, _<_}
-use lib.ListN.{length, getD, take}
+use lib.ListN.{length, take}
 use Rattle.plan.specs.declared.PlanAnswer.{PlanAnswer}
 use Rattle.plan.specs.declared.PlanAnswer.the-variants.{Accepted, Refused}
-use Rattle.plan.specs.Lists.{below, listAt}
+use Rattle.plan.specs.Lists.{below}
 use Rattle.plan.specs.Refusals.{firstFault}
 use Rattle.plan.specs.Mesh.{Mesh, meshChecks}
-use Rattle.plan.specs.Parts.{partOf}
 use Rattle.plan.specs.Planning.{Contents, planOf}
-use Rattle.plan.specs.Listing.{decimal, spaced, headLine, refusalLine, print}
+use Rattle.plan.specs.Listing.{spaced, headLine, positionLine, refusalLine, print}
 use Rattle.mesh.specs.Lent.{ListWithin}
 
 -- a word, and a number behind a space
 abbrev pub labelled : List ℕ → ℕ → List ℕ
 labelled word x = word ++ spaced (x ∷ [])
-
--- a line of position, node, part and rows
-abbrev pub lineOf : ℕ → ℕ → ℕ → List ℕ → List ℕ
-lineOf j node part rows = decimal j ++ (spaced (node ∷ part ∷ rows) ++ (10 ∷ []))
-
--- position j's line, from the lists that it shows
-abbrev pub lineAt : List ℕ → List ℕ → List ℕ → List ℕ → ℕ → List ℕ
-lineAt order sizes columnStarts rows j = lineOf j (getD order j 0) (partOf sizes j) (listAt columnStarts rows j)
-
--- the lines of all positions
-abbrev pub linesOf : List ℕ → List ℕ → List ℕ → List ℕ → List ℕ
-linesOf order sizes columnStarts rows = flatten (map (lineAt order sizes columnStarts rows) (below (length order)))
 
 -- a plan by what the listing shows of it: all but the parents
 abbrev pub shown : ℕ → ℕ → ℕ → List ℕ → List ℕ → List ℕ → List ℕ → Contents
@@ -44,6 +31,10 @@ shown nodes parts slots order sizes columnStarts rows = record {
 -- the first line of a plan by its counts
 abbrev pub headOf : ℕ → ℕ → ℕ → List ℕ
 headOf nodes parts slots = headLine (shown nodes parts slots [] [] [] [])
+
+-- the lines of all positions, which show no count
+abbrev pub linesOf : List ℕ → List ℕ → List ℕ → List ℕ → List ℕ
+linesOf order sizes columnStarts rows = flatten (map (positionLine (shown 0 0 0 order sizes columnStarts rows)) (below (length order)))
 
 -- a plan at the front of buffers: its order and its sizes stand before what else they hold
 abbrev pub lentPlan : ℕ → ℕ → ℕ → List ℕ → List ℕ → List ℕ → List ℕ → Contents

@@ -26,35 +26,35 @@ pub struct Text {
 }
 
 // Room for a number for each node. O(256).
-fn no_nodes() -> [u16; 256]
+fn node_zeros() -> [u16; 256]
     ensures { λ r. ⌜ length r ≡ 256 ⌝ }
 {
     [0; 256]
 }
 
 // Room for the starts of their lists. O(256).
-fn no_starts() -> [u32; 257]
+fn start_zeros() -> [u32; 257]
     ensures { λ r. ⌜ length r ≡ 257 ⌝ }
 {
     [0; 257]
 }
 
 // Room for the entries. O(2,048).
-fn no_entries() -> [u16; 2048]
+fn entry_zeros() -> [u16; 2048]
     ensures { λ r. ⌜ length r ≡ 2048 ⌝ }
 {
     [0; 2048]
 }
 
 // Room for the rows of 256 columns. O(32,640).
-fn no_rows() -> [u16; 32640]
+fn row_zeros() -> [u16; 32640]
     ensures { λ r. ⌜ length r ≡ 32640 ⌝ }
 {
     [0; 32640]
 }
 
 // 135,168 zeros. O(135,168).
-fn no_bytes() -> [u8; 135168]
+fn byte_zeros() -> [u8; 135168]
     ensures { λ r. ⌜ (length r ≡ 135168) × ((i : ℕ) → i < 135168 → getD r i 0 ≡ 0) ⌝ }
 {
     [0; 135168]
@@ -65,12 +65,12 @@ fn put_mesh(out: &mut [u8], n: usize, starts: &[u32], neighbours: &[u16]) -> usi
     requires { ⌜ (n ≤ maxListedNodes) × (135168 ≤ length (now out)) ⌝ }
     ensures { λ r. ⌜ Put (now (out .entry)) 0 (meshText (lent n (now (starts .entry)) (now (neighbours .entry)))) (now (out .exit)) r ⌝ }
 {
-    let mut order = no_nodes();
-    let mut positions = no_nodes();
-    let mut sizes = no_nodes();
-    let mut parents = no_nodes();
-    let mut columnStarts = no_starts();
-    let mut rows = no_rows();
+    let mut order = node_zeros();
+    let mut positions = node_zeros();
+    let mut sizes = node_zeros();
+    let mut parents = node_zeros();
+    let mut columnStarts = start_zeros();
+    let mut rows = row_zeros();
     let answer = planner::plan(
         n,
         starts,
@@ -90,8 +90,8 @@ fn put_input(out: &mut [u8], input: &[u8]) -> usize
     requires { ⌜ (badInput (now input) ≡ false) × (135168 ≤ length (now out)) ⌝ }
     ensures { λ r. ⌜ Put (now (out .entry)) 0 (meshText (inputMesh (now (input .entry)))) (now (out .exit)) r ⌝ }
 {
-    let mut starts = no_starts();
-    let mut neighbours = no_entries();
+    let mut starts = start_zeros();
+    let mut neighbours = entry_zeros();
     read_starts(input, &mut starts);
     read_neighbours(input, &mut neighbours);
     let n = node_count(input);
@@ -118,7 +118,7 @@ pub fn list(input: &[u8]) -> Text
     ensures { λ r. ⌜ r .length ≤ length (r .bytes) ⌝ }
     ensures { λ r. ⌜ ((i : ℕ) → r .length ≤ i → i < length (r .bytes) → getD (r .bytes) i 0 ≡ 0) ⌝ }
 {
-    let mut bytes = no_bytes();
+    let mut bytes = byte_zeros();
     let length = put_listing(&mut bytes, input);
     Text { bytes, length }
 }

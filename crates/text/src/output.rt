@@ -5,12 +5,12 @@ ghost use mathlib.Core.Path.{_≡_};
 ghost use mathlib.Core.List.{[], _∷_};
 ghost use Prim.Native.Nat.{_+_, _≤_, _<_};
 ghost use lib.ListN.{length};
-ghost use Rattle.plan.specs.Listing.{decimal, spaced, refusalLine};
+ghost use Rattle.plan.specs.Listing.{decimal, spaced, lineOf, refusalLine};
 ghost use Rattle.text.specs.Put.{Put};
-ghost use Rattle.text.specs.Lines.{labelled, headOf, lineOf};
+ghost use Rattle.text.specs.Lines.{labelled, headOf};
 
 // One byte. O(1).
-pub(crate) fn put_byte(out: &mut [u8], at: usize, byte: u8) -> usize
+fn put_byte(out: &mut [u8], at: usize, byte: u8) -> usize
     requires { ⌜ at < length (now out) ⌝ }
     ensures { λ r. ⌜ Put (now (out .entry)) at (byte ∷ []) (now (out .exit)) r ⌝ }
 {
@@ -19,7 +19,7 @@ pub(crate) fn put_byte(out: &mut [u8], at: usize, byte: u8) -> usize
 }
 
 // Bytes, one after the other. O(length).
-pub(crate) fn put_bytes(out: &mut [u8], at: usize, bytes: &[u8]) -> usize
+fn put_bytes(out: &mut [u8], at: usize, bytes: &[u8]) -> usize
     requires { ⌜ at + length (now bytes) ≤ length (now out) ⌝ }
     ensures { λ r. ⌜ Put (now (out .entry)) at (now (bytes .entry)) (now (out .exit)) r ⌝ }
 {
@@ -39,7 +39,7 @@ fn digit(x: usize) -> u8
 }
 
 // A number in decimal: the digits of its tenth, then its last digit. O(digits).
-pub(crate) fn put_decimal(out: &mut [u8], at: usize, x: usize) -> usize
+fn put_decimal(out: &mut [u8], at: usize, x: usize) -> usize
     requires { ⌜ at + length (decimal x) ≤ length (now out) ⌝ }
     ensures { λ r. ⌜ Put (now (out .entry)) at (decimal x) (now (out .exit)) r ⌝ }
 {
@@ -51,7 +51,7 @@ pub(crate) fn put_decimal(out: &mut [u8], at: usize, x: usize) -> usize
 }
 
 // A number behind a space. O(digits).
-pub(crate) fn put_spaced(out: &mut [u8], at: usize, x: usize) -> usize
+fn put_spaced(out: &mut [u8], at: usize, x: usize) -> usize
     requires { ⌜ at + length (spaced (x ∷ [])) ≤ length (now out) ⌝ }
     ensures { λ r. ⌜ Put (now (out .entry)) at (spaced (x ∷ [])) (now (out .exit)) r ⌝ }
 {
@@ -60,7 +60,7 @@ pub(crate) fn put_spaced(out: &mut [u8], at: usize, x: usize) -> usize
 }
 
 // Numbers, each behind a space. O(length · digits).
-pub(crate) fn put_all(out: &mut [u8], at: usize, numbers: &[u16]) -> usize
+fn put_all(out: &mut [u8], at: usize, numbers: &[u16]) -> usize
     requires { ⌜ at + length (spaced (now numbers)) ≤ length (now out) ⌝ }
     ensures { λ r. ⌜ Put (now (out .entry)) at (spaced (now (numbers .entry))) (now (out .exit)) r ⌝ }
 {

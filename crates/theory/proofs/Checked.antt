@@ -1,21 +1,21 @@
 -- What checks 1 to 7 give: a mesh that passes them is `Checked`.
-use mathlib.Core.Path.{_≡_, ap}
+use mathlib.Core.Path.{_≡_, refl, ap}
 use mathlib.Core.Logic.{inl, inr}
 use mathlib.Core.Bool.{Bool, true, false, not, _||_}
-use mathlib.Core.List.{List, []}
+use mathlib.Core.List.{List, [], _++_}
 use Prim.Native.Nat.{ℕ, _+_, _-_, _≤_, _<_}
 use native.Mathlib.Omega.{arith}
 use lib.Dec.{leb, eqb}
 use lib.ListN.{length, getD, drop, List·getD-eq-default}
 use borrow.Author.Tests.{eqb-true, eqb-false, leb-false, ltb-false, not-false}
 use Rattle.plan.specs.Lists.{exists, below, isIn, listAt, ascending}
-use Rattle.plan.specs.Refusals.{firstFault}
+use Rattle.plan.specs.Refusals.{Checks, firstFault}
 use Rattle.plan.specs.Mesh.{maxEntries, maxNodes, Mesh, neighboursOf, adjacent, badNodeCount, badStarts, badMeshStarts, tooManyEntries, neighbourOutside, listsItself, notAscending, oneSided, meshChecks}
 use Rattle.theory.specs.Checked.{Starts, Checked}
 use Rattle.theory.proofs.Bools.{or-false-left, or-false-right, clash, lt-or-le}
 use Rattle.theory.proofs.Lists.{isIn-take, isIn-drop, exists-none}
 use Rattle.theory.proofs.Ranges.{below-isIn}
-use Rattle.theory.proofs.Refusals.{no-fault}
+use Rattle.theory.proofs.Refusals.{no-fault, first-none}
 
 -- the seven checks, each without a fault
 record Passed (m : Mesh) : Type 0 where
@@ -122,6 +122,10 @@ module _ (m : Mesh) (h : Passed m) where
       let one : exists (λ w. not (adjacent m w v)) (neighboursOf m v) ≡ false =
       exists-none (λ v. exists (λ w. not (adjacent m w v)) (neighboursOf m v)) (below (m .nodes)) (h .mirrored) v (below-isIn (m .nodes) v (listed v w a)) in
       not-false (adjacent m w v) (exists-none (λ w. not (adjacent m w v)) (neighboursOf m v) one w (unfold adjacent in a))
+
+-- behind a mesh that passes checks 1 to 7 the first fault is that of the checks to come
+pub mesh-passed : (m : Mesh) (cs : Checks) → firstFault (meshChecks m) ≡ 0 → firstFault (meshChecks m ++ cs) ≡ firstFault cs
+mesh-passed m cs h = first-none (meshChecks m) cs (unfold meshChecks in refl) h
 
 -- a mesh that passes checks 1 to 7
 pub checked : (m : Mesh) → firstFault (meshChecks m) ≡ 0 → Checked m

@@ -86,7 +86,7 @@ module _ (settings : Settings) (sensible : Sensible settings) (m : Mesh) where
   }
 
 -- document 01's settings are sensible
-pub standard-sensible : Sensible standard
+standard-sensible : Sensible standard
 unfolding standard staysWhole cutLevel numbering
 standard-sensible = record {
   between = λ r l t. let two : 1 < l = leb-false l 1 t in omega arith;

@@ -2,13 +2,13 @@
 use mathlib.Core.Path.{_≡_, refl, sym, ap, _∙_}
 use mathlib.Core.Logic.{inl, inr}
 use mathlib.Core.Bool.{true}
-use mathlib.Core.List.{List, [], _∷_, _++_, map, flatten, map-append, map-map, append-nil, append-assoc}
+use mathlib.Core.List.{List, [], _∷_, _++_, map, flatten, map-append, map-map, append-assoc}
 use Prim.Native.Nat.{ℕ, zero, suc, _+_, _-_, _*_, _/_, _%_, _≤_, _<_}
 use native.Mathlib.Nat.{zero-add, add-zero}
 use native.Mathlib.Numerals.{add-one}
 use native.Mathlib.Omega.{arith}
 use lib.Dec.{ltb}
-use lib.ListN.{length, getD, take, drop, length-append, length-drop, List·getD-eq-default}
+use lib.ListN.{length, getD, take, drop, length-drop, List·getD-eq-default}
 use lib.Seq.{length-take-le, drop-cons, drop-drop, drop-at, getD-take, getD-drop, ext-getD}
 use borrow.Author.Tests.{ltb-true}
 use Rattle.plan.specs.Lists.{every, segment, below, isIn, written}
@@ -18,7 +18,7 @@ use Rattle.theory.proofs.Lists.{isIn-head, isIn-tail, isIn-getD, every-
 use Rattle.theory.proofs.Segments.{segment-none, segment-append}
 use Rattle.theory.proofs.Written.{Reached}
 use Rattle.theory.proofs.Ranges.{upFrom-snoc, getD-map-below, length-map-upFrom, map-upFrom-suc, map-ext-upFrom, map-getD}
-use Rattle.theory.proofs.Flatten.{flatten-append, flatten-nil, flatten-cons}
+use Rattle.theory.proofs.Flatten.{flatten-nil, flatten-cons, blocks, blocks-more, blocks-length}
 
 -- ---- numbers read from bytes, one after the other
 
@@ -34,7 +34,7 @@ module _ (bytes : List ℕ) (at apart : ℕ) where
   decode16s-getD count k lt = getD-map-below (λ k. decode16 bytes (at + apart * k)) 0 count k lt
 
   -- the first, and those after it
-  pub decode16s-cons : (count : ℕ) → decode16s bytes at apart (suc count) ≡ decode16 bytes at ∷ decode16s bytes (at + apart) apart count
+  decode16s-cons : (count : ℕ) → decode16s bytes at apart (suc count) ≡ decode16 bytes at ∷ decode16s bytes (at + apart) apart count
   unfolding decode16s
   decode16s-cons count =
       let f : ℕ → ℕ = λ k. decode16 bytes (at + apart * k) in
@@ -71,28 +71,12 @@ pub encode16-length : (x : ℕ) → length (encode16 x) ≡ 2
 unfolding encode16
 encode16-length x = refl
 
--- blocks of w bytes each
-pub blocks-length : (f : ℕ → List ℕ) (w : ℕ) → ((x : ℕ) → length (f x) ≡ w) → (l : List ℕ) → length (flatten (map f l)) ≡ w * length l
-blocks-length f w wide [] = ap length (flatten-nil {A = ℕ}) ∙ omega arith
-blocks-length f w wide (x ∷ l) = omega (arith, ap length (flatten-cons (f x) (map f l)), length-append (f x) (flatten (map f l)), wide x, blocks-length f w wide l)
-
 -- two bytes each
 pub encode16s-length : (l : List ℕ) → length (encode16s l) ≡ 2 * length l
 unfolding encode16s
 encode16s-length l = blocks-length encode16 2 encode16-length l
 
--- a block for each number from 0 on, the first k of them
-abbrev pub blocks : (ℕ → List ℕ) → ℕ → List ℕ
-blocks f k = flatten (map f (below k))
-
--- one more
-blocks-more : (f : ℕ → List ℕ) (k : ℕ) → blocks f (suc k) ≡ blocks f k ++ f k
-blocks-more f k =
-    let last : 0 + k ≡ k = zero-add k in
-    ap (λ (l : List ℕ). flatten (map f l)) (upFrom-snoc 0 k)
-    ∙ rw (last, map-append f (below k) (k ∷ []), flatten-append (map f (below k)) (f k ∷ []), flatten-cons (f k) [], flatten-nil, append-nil (f k))
-
--- numbers made from 0 on are such blocks
+-- numbers made from 0 on are blocks of two bytes
 pub made-blocks : (g : ℕ → ℕ) (k : ℕ) → encode16s (map g (below k)) ≡ blocks (λ i. encode16 (g i)) k
 unfolding encode16s
 made-blocks g k = ap flatten (map-map encode16 g (below k))

@@ -115,7 +115,7 @@ module _ (m : Mesh) (order : List ℕ) where
           rw row
 
   -- so a list is column j's rows where it is ascending and has the same rows
-  pub column-unique : (j : ℕ) (l : List ℕ) → ascending l ≡ true → ((i : ℕ) → isIn i l ≡ isRow m order i j) → l ≡ column m order j
+  column-unique : (j : ℕ) (l : List ℕ) → ascending l ≡ true → ((i : ℕ) → isIn i l ≡ isRow m order i j) → l ≡ column m order j
   unfolding isRow
   column-unique j l up f = ascending-ext l (column m order j) up (column-ascending j) f
 

@@ -114,11 +114,12 @@ module _ (edge : Graph) where
         apart-up-to r closed most (without c nodes) few,
       )
 
-  some-up-to : (most : ℕ) (nodes : List ℕ) → All (λ r. 0 < length r) (componentsUpTo most edge nodes)
+  -- what is true of the component of a set's first node, whatever the set, is true of every component
+  each-up-to : (P : List ℕ → Type 0) → ((v : ℕ) (nodes : List ℕ) → P (component edge (v ∷ nodes) v)) → (most : ℕ) (nodes : List ℕ) → All P (componentsUpTo most edge nodes)
   unfolding componentsUpTo
-  some-up-to zero nodes = tt
-  some-up-to (suc most) [] = tt
-  some-up-to (suc most) (v ∷ nodes) = (rw (component-head v nodes) (omega arith), some-up-to most (without (component edge (v ∷ nodes) v) nodes))
+  each-up-to P h zero nodes = tt
+  each-up-to P h (suc most) [] = tt
+  each-up-to P h (suc most) (v ∷ nodes) = (h v nodes, each-up-to P h most (without (component edge (v ∷ nodes) v) nodes))
 
   -- components partition a set: flattened they hold each of its nodes, as often as the set does
   pub components-count : (nodes : List ℕ) (p : ℕ → Bool) → count p (flatten (components edge nodes)) ≡ count p nodes
@@ -214,7 +215,7 @@ module _ (edge : Graph) where
   -- each has a node
   pub components-some : (nodes : List ℕ) → All (λ r. 0 < length r) (components edge nodes)
   unfolding components
-  components-some nodes = some-up-to (length nodes) nodes
+  components-some nodes = each-up-to (λ r. 0 < length r) (λ v rest. rw (component-head v rest) (omega arith)) (length nodes) nodes
 
   -- so there are no more of them than nodes
   pub components-few : (nodes : List ℕ) → length (components edge nodes) ≤ length nodes
@@ -257,16 +258,10 @@ module _ (edge : Graph) where
       let e : headD (component edge (v ∷ nodes) v) 0 ≡ v = ap (λ (l : List ℕ). headD l 0) (component-head v nodes) in
       subst (λ (x : ℕ). Walk edge (component edge (v ∷ nodes) v) x w) (sym e) (component-walk (v ∷ nodes) v w h)
 
-  connected-up-to : (most : ℕ) (nodes : List ℕ) → All (Connected edge) (componentsUpTo most edge nodes)
-  unfolding componentsUpTo
-  connected-up-to zero nodes = tt
-  connected-up-to (suc most) [] = tt
-  connected-up-to (suc most) (v ∷ nodes) = (connected-first v nodes, connected-up-to most (without (component edge (v ∷ nodes) v) nodes))
-
   -- each component is connected: from its first node a path inside it leads to each of its nodes
   pub components-connected : (nodes : List ℕ) → All (Connected edge) (components edge nodes)
   unfolding components
-  components-connected nodes = connected-up-to (length nodes) nodes
+  components-connected nodes = each-up-to (Connected edge) connected-first (length nodes) nodes
 
   -- ---- by smallest node: each ascends, and their first nodes do
 

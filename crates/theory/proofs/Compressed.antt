@@ -1,19 +1,17 @@
 -- Lists that stand one after the other, found again by their starts.
 use mathlib.Core.Path.{_≡_, refl, sym, ap, _∙_}
 use mathlib.Core.Logic.{inl, inr}
-use mathlib.Core.Bool.{true, false, not, _||_, false≢true}
+use mathlib.Core.Bool.{true, false, false≢true}
 use mathlib.Core.List.{List, [], _∷_, _++_, map, flatten, append-nil, append-assoc}
 use Prim.Native.Nat.{ℕ, zero, suc, _+_, _-_, _≤_, _<_}
 use native.Mathlib.Numerals.{add-one}
 use native.Mathlib.Omega.{arith}
-use lib.Dec.{eqb}
 use lib.ListN.{length, take, drop, getD, length-append, length-drop}
 use lib.Seq.{length-take-le, take-at, drop-at, ext-getD}
 use borrow.Author.Tests.{eq-eqb, le-ltb}
 use Rattle.plan.specs.Lists.{segment, below, isIn, listAt, total, runningSums, falls}
 use Rattle.plan.specs.Mesh.{badStarts}
 use Rattle.theory.specs.Checked.{Starts}
-use Rattle.theory.proofs.Bools.{or-neither}
 use Rattle.theory.proofs.Lists.{isIn-append-cases}
 use Rattle.theory.proofs.Segments.{segment-append}
 use Rattle.theory.proofs.Ranges.{getD-map-below, length-map-upFrom, map-ext-upFrom, map-getD}
@@ -40,7 +38,7 @@ pub sums-length : (a : ℕ) (cs : List ℕ) → length (runningSums a cs) ≡ le
 sums-length a [] = refl
 sums-length a (c ∷ cs) = omega (arith, sums-length (a + c) cs)
 
-pub sums-rise : (a : ℕ) (cs : List ℕ) → falls (runningSums a cs) ≡ false
+sums-rise : (a : ℕ) (cs : List ℕ) → falls (runningSums a cs) ≡ false
 sums-rise a [] = refl
 sums-rise a (c ∷ []) = rw (le-ltb (a + c) a (omega arith))
 sums-rise a (c ∷ (d ∷ cs)) = rw (le-ltb (a + c) a (omega arith)) (sums-rise (a + c) (d ∷ cs))
@@ -51,9 +49,7 @@ unfolding badStarts
 sums-starts n cs many =
     let long : length (runningSums 0 cs) ≡ n + 1 = omega (arith, sums-length 0 cs) in
     let first : getD (runningSums 0 cs) 0 0 ≡ 0 = simp append-nil at (sums-first 0 cs []) in
-    or-neither (not (eqb (length (runningSums 0 cs)) (n + 1)) || not (eqb (getD (runningSums 0 cs) 0 0) 0)) _
-    (or-neither (not (eqb (length (runningSums 0 cs)) (n + 1))) _ (ap not (eq-eqb _ _ long)) (ap not (eq-eqb _ _ first)))
-    (sums-rise 0 cs)
+    rw (eq-eqb (length (runningSums 0 cs)) (n + 1) long, eq-eqb (getD (runningSums 0 cs) 0 0) 0 first) (sums-rise 0 cs)
 
 -- the counts again, from their running sums
 pub sums-counts : (cs : List ℕ) → map (λ j. getD (runningSums 0 cs) (j + 1) 0 - getD (runningSums 0 cs) j 0) (below (length cs)) ≡ cs

@@ -4,17 +4,16 @@ use mathlib.Core.Logic.{_⊎_, inl, inr}
 use mathlib.Core.Bool.{Bool, true, false, not, cond, false≢true, _&&_}
 use mathlib.Core.List.{reverseAux, reverse, List, [], _∷_, _++_, map, map-append, flatten}
 use Prim.Native.Nat.{ℕ, zero, suc, _+_, _-_, _≤_, _<_, _*_}
-use native.Mathlib.Numerals.{add-one}
 use native.Mathlib.Nat.{zero-add}
 use native.Mathlib.Omega.{arith}
 use lib.Dec.{eqb, ltb}
 use lib.ListN.{length, getD, take, drop, take-append-drop}
-use lib.Seq.{take-suc, split-at, getD-at}
+use lib.Seq.{split-at, getD-at}
 use borrow.Author.Tests.{eq-eqb, ne-eqb, le-ltb, eqb-true, ltb-true, lt-ltb}
 use Rattle.plan.specs.Lists.{total, occurrences, exists, keep, upFrom, below, isIn, without}
 use Rattle.theory.specs.Counting.{count, Alike}
 use Rattle.theory.proofs.Bools.{or-cases, or-left, or-right, and-left, and-right, and-both, tested, clash, refuted, iff-eq, eq-or-ne, lt-or-le}
-use Rattle.theory.proofs.Lists.{isIn-head, isIn-tail, isIn-cons, isIn-getD, none-exists, keep-ext, keep-append, without-keep}
+use Rattle.theory.proofs.Lists.{take-more, isIn-head, isIn-tail, isIn-cons, isIn-getD, none-exists, keep-ext, keep-append, keep-all, without-keep}
 use Rattle.theory.proofs.Ranges.{isIn-upFrom, upFrom-add, upFrom-snoc}
 use Rattle.theory.proofs.Sums.{total-append}
 
@@ -39,8 +38,7 @@ count-append p [] ys = omega arith
 count-append p (x ∷ xs) ys = omega (arith, count-cons p x (xs ++ ys), count-cons p x xs, count-append p xs ys)
 
 pub count-all : (l : List ℕ) → count (λ x. true) l ≡ length l
-count-all [] = refl
-count-all (x ∷ l) = ap suc (count-all l)
+count-all l = ap length (keep-all l)
 
 pub count-le : (p : ℕ → Bool) (l : List ℕ) → count p l ≤ length l
 count-le p [] = omega arith
@@ -49,7 +47,7 @@ count-le p (x ∷ l) = omega (arith, count-cons p x l, unit-le (p x), count-le p
 -- one more element of a list is tried
 pub count-more : (p : ℕ → Bool) (l : List ℕ) (i : ℕ) → i < length l → count p (take (i + 1) l) ≡ count p (take i l) + unit (p (getD l i 0))
 count-more p l i lt =
-    rw (add-one, take-suc l i 0 lt) (omega (arith, count-append p (take i l) (getD l i 0 ∷ []), count-cons p (getD l i 0) []))
+    rw (take-more l i 0 lt) (omega (arith, count-append p (take i l) (getD l i 0 ∷ []), count-cons p (getD l i 0) []))
 
 -- no more pass up to a place than in all
 pub count-front : (p : ℕ → Bool) (l : List ℕ) (i : ℕ) → count p (take i l) ≤ count p l
@@ -119,7 +117,7 @@ unit-mono true b f = omega (arith, ap unit (f refl))
 unit-mono false b f = omega arith
 
 -- no more pass a stricter test
-pub count-mono : (p q : ℕ → Bool) (l : List ℕ) → ((x : ℕ) → p x ≡ true → q x ≡ true) → count p l ≤ count q l
+count-mono : (p q : ℕ → Bool) (l : List ℕ) → ((x : ℕ) → p x ≡ true → q x ≡ true) → count p l ≤ count q l
 count-mono p q [] h = omega arith
 count-mono p q (y ∷ l) h = omega (arith, count-cons p y l, count-cons q y l, unit-mono (p y) (q y) (h y), count-mono p q l h)
 

@@ -33,8 +33,9 @@ left-regions edge choose r h = components-regions edge (without (choose r) r) (a
 pub first-regions : (edge : Graph) (n : ℕ) → All (Region edge) (components edge (below n))
 first-regions edge n = components-regions edge (below n) (ascending-upFrom n 0)
 
-pub first-regions-fit : (edge : Graph) (n : ℕ) → length (flatten (components edge (below n))) ≤ n
-first-regions-fit edge n = omega (arith, same-length (flatten (components edge (below n))) (below n) (components-count edge (below n)), length-upFrom n 0)
+-- together they have n nodes
+pub first-regions-length : (edge : Graph) (n : ℕ) → length (flatten (components edge (below n))) ≡ n
+first-regions-length edge n = same-length (flatten (components edge (below n))) (below n) (components-count edge (below n)) ∙ length-upFrom n 0
 
 module _ (edge : Graph) (choose : List ℕ → List ℕ) (takes : Takes edge choose) where
   abbrev left : List ℕ → List (List ℕ)
@@ -44,7 +45,8 @@ module _ (edge : Graph) (choose : List ℕ → List ℕ) (takes : Takes edge cho
   pub part-count : (r : List ℕ) → Region edge r → (p : ℕ → Bool) → count p (choose r) + count p (flatten (left r)) ≡ count p r
   part-count r h p = omega (arith, takes .rest r h p, components-count edge (without (choose r) r) p)
 
-  part-length : (r : List ℕ) → Region edge r → length (choose r) + length (flatten (left r)) ≡ length r
+  -- so they have as many nodes
+  pub part-length : (r : List ℕ) → Region edge r → length (choose r) + length (flatten (left r)) ≡ length r
   part-length r h = omega (arith, part-count r h (λ x. true), count-all (choose r), count-all (flatten (left r)), count-all r)
 
   -- one less in the bound is enough for what is left and for the other regions
@@ -127,7 +129,7 @@ module _ (edge : Graph) (choose : List ℕ → List ℕ) (takes : Takes edge cho
     -- the order holds each node once: every test counts alike in it and in 0, .., n - 1
     pub order-count : Order n (order (dissection edge choose n))
     unfolding dissection
-    order-count p = dissect-count n (components edge (below n)) (first-regions edge n) (first-regions-fit edge n) p ∙ components-count edge (below n) p
+    order-count p = dissect-count n (components edge (below n)) (first-regions edge n) (omega (arith, first-regions-length edge n)) p ∙ components-count edge (below n) p
 
     all-positions : length (order (dissection edge choose n)) ≡ n
     all-positions = order-length n (order (dissection edge choose n)) order-count
@@ -142,7 +144,7 @@ module _ (edge : Graph) (choose : List ℕ → List ℕ) (takes : Takes edge cho
 
     separated : Separated edge (dissection edge choose n)
     unfolding dissection
-    separated = dissect-separated n (components edge (below n)) (first-regions edge n) (components-apart edge (below n)) (first-regions-fit edge n)
+    separated = dissect-separated n (components edge (below n)) (first-regions edge n) (components-apart edge (below n)) (omega (arith, first-regions-length edge n))
 
     -- the sizes sum to n, and the parents are later parts
     pub dissection-tree : PartTree n (sizes (dissection edge choose n)) (parents (dissection edge choose n))
@@ -161,4 +163,4 @@ module _ (edge : Graph) (choose : List ℕ → List ℕ) (takes : Takes edge cho
     -- any bound from the number of nodes on gives the same dissection
     pub dissection-same : (most : ℕ) → n ≤ most → dissect most edge choose (components edge (below n)) ≡ dissection edge choose n
     unfolding dissection
-    dissection-same most l = dissect-same most n (components edge (below n)) (first-regions edge n) (omega (arith, first-regions-fit edge n)) (first-regions-fit edge n)
+    dissection-same most l = dissect-same most n (components edge (below n)) (first-regions edge n) (omega (arith, first-regions-length edge n)) (omega (arith, first-regions-length edge n))

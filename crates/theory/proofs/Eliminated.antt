@@ -15,7 +15,7 @@ use Rattle.theory.proofs.Compressed.{sums-starts}
 use Rattle.theory.proofs.ColumnRule.{kept-good}
 use Rattle.theory.proofs.Columns.{row-fact, column-ascending}
 use Rattle.theory.proofs.EliminationTree.{rows-in-first-column}
-use Rattle.theory.proofs.Slots.{counts-length, column-at}
+use Rattle.theory.proofs.Slots.{column-counts-length, column-at}
 
 module _ (m : Mesh) (order : List ℕ) where
   abbrev starts : List ℕ
@@ -27,7 +27,7 @@ module _ (m : Mesh) (order : List ℕ) where
   -- the starts are those of n columns
   pub columns-starts : badStarts (m .nodes) starts ≡ false
   unfolding startsOf
-  columns-starts = sums-starts (m .nodes) (map length (columns m order)) (counts-length m order)
+  columns-starts = sums-starts (m .nodes) (map length (columns m order)) (column-counts-length m order)
 
   column-good : (j : ℕ) → j < m .nodes → badColumn (m .nodes) j (listAt starts rows j) ≡ false
   unfolding isRow

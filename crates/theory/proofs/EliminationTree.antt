@@ -118,14 +118,18 @@ module _ (m : Mesh) (order : List ℕ) where
           let q : Parent (edgeAt m order) j (t .0) = subst (λ p. Parent (edgeAt m order) p (t .0)) (t .1) (first-fact m order i (t .0) (t .2)) in
           row-test m order i j li (child-slot (edgeAt m order) i j (t .3) (record { column = t .0; first = q; high = row-fact m order i (t .0) (t .2) .1 }))
 
-  -- a parent that is a position is later than its column
-  pub first-later : (k : ℕ) → firstRow m order k < m .nodes → k < firstRow m order k
+  -- a parent that is a position is a row of its column
+  pub first-is-row : (k : ℕ) → firstRow m order k < m .nodes → isRow m order (firstRow m order k) k ≡ true
   unfolding firstRow isRow headD
-  first-later k h = go (column m order k) refl h
+  first-is-row k h = go (column m order k) refl h
     where
-      go : (l : List ℕ) → column m order k ≡ l → headD l (m .nodes) < m .nodes → k < headD l (m .nodes)
+      go : (l : List ℕ) → column m order k ≡ l → headD l (m .nodes) < m .nodes → isIn (headD l (m .nodes)) (column m order k) ≡ true
       go [] e lt = absurd (omega arith)
-      go (p ∷ rest) e lt = row-fact m order p k (ap (isIn p) e ∙ isIn-head p rest) .1 .later
+      go (p ∷ rest) e lt = ap (isIn p) e ∙ isIn-head p rest
+
+  -- so it is later than its column
+  pub first-later : (k : ℕ) → firstRow m order k < m .nodes → k < firstRow m order k
+  first-later k h = row-range (firstRow m order k) k (first-is-row k h) .0
 
   -- a row of column j later than an ancestor p of j is a row of column p
   pub row-of-above : (i j : ℕ) → isRow m order i j ≡ true → {p : ℕ} → Above m order j p → p < i → isRow m order i p ≡ true

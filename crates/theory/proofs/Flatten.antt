@@ -2,14 +2,14 @@
 use mathlib.Core.Path.{_≡_, refl, sym, ap, _∙_}
 use mathlib.Core.Logic.{inl, inr}
 use mathlib.Core.Bool.{Bool, true, _||_, false≢true, or-assoc, or-comm, or-false}
-use mathlib.Core.List.{getLastD, reverseAux, reverse, List, [], _∷_, flatten, _++_, append-nil, append-assoc, headD}
-use Prim.Native.Nat.{ℕ, _+_, _<_, zero, suc}
-use native.Mathlib.Numerals.{add-one}
+use mathlib.Core.List.{getLastD, reverseAux, reverse, List, [], _∷_, map, flatten, _++_, map-append, append-nil, append-assoc, headD}
+use Prim.Native.Nat.{ℕ, _+_, _*_, _<_, zero, suc}
+use native.Mathlib.Nat.{zero-add}
 use native.Mathlib.Omega.{arith}
-use lib.ListN.{length, take, getD}
-use lib.Seq.{take-suc}
-use Rattle.plan.specs.Lists.{isIn}
-use Rattle.theory.proofs.Lists.{isIn-append-left, isIn-append-right, isIn-append-cases, isIn-append}
+use lib.ListN.{length, take, getD, length-append}
+use Rattle.plan.specs.Lists.{below, isIn}
+use Rattle.theory.proofs.Lists.{take-more, isIn-append-left, isIn-append-right, isIn-append-cases, isIn-append}
+use Rattle.theory.proofs.Ranges.{upFrom-snoc}
 
 module _ {A : Type 0} where
   pub flatten-append : (xs ys : List (List A)) → flatten (xs ++ ys) ≡ flatten xs ++ flatten ys
@@ -25,10 +25,30 @@ module _ {A : Type 0} where
   unfolding flatten
   flatten-cons x xs = refl
 
+  -- a single list
+  pub flatten-one : (x : List A) → flatten (x ∷ []) ≡ x
+  flatten-one x = flatten-cons x [] ∙ ap (λ (l : List A). x ++ l) flatten-nil ∙ append-nil x
+
   -- one more list
   pub flatten-more : (ls : List (List A)) (k : ℕ) → k < length ls → flatten (take (k + 1) ls) ≡ flatten (take k ls) ++ getD ls k []
   flatten-more ls k lt =
-      rw (add-one, take-suc ls k [] lt, flatten-append (take k ls) (getD ls k [] ∷ []), flatten-cons (getD ls k []) [], flatten-nil, append-nil (getD ls k []))
+      rw (take-more ls k [] lt, flatten-append (take k ls) (getD ls k [] ∷ []), flatten-one (getD ls k []))
+
+-- a list for each number from 0 on, the first k of them
+abbrev pub blocks : (ℕ → List ℕ) → ℕ → List ℕ
+blocks f k = flatten (map f (below k))
+
+-- one more
+pub blocks-more : (f : ℕ → List ℕ) (k : ℕ) → blocks f (suc k) ≡ blocks f k ++ f k
+blocks-more f k =
+    let last : 0 + k ≡ k = zero-add k in
+    ap (λ (l : List ℕ). flatten (map f l)) (upFrom-snoc 0 k)
+    ∙ rw (last, map-append f (below k) (k ∷ []), flatten-append (map f (below k)) (f k ∷ []), flatten-one (f k))
+
+-- lists of w elements each, one for each element of a list
+pub blocks-length : (f : ℕ → List ℕ) (w : ℕ) → ((x : ℕ) → length (f x) ≡ w) → (l : List ℕ) → length (flatten (map f l)) ≡ w * length l
+blocks-length f w wide [] = ap length (flatten-nil {A = ℕ}) ∙ omega arith
+blocks-length f w wide (x ∷ l) = omega (arith, ap length (flatten-cons (f x) (map f l)), length-append (f x) (flatten (map f l)), wide x, blocks-length f w wide l)
 
 -- an element is in the first list, or in one behind it
 pub isIn-flatten-cons : (x : ℕ) (l : List ℕ) (ls : List (List ℕ)) → isIn x (flatten (l ∷ ls)) ≡ (isIn x l || isIn x (flatten ls))

@@ -1,12 +1,15 @@
--- Handing out into lent buffers: where they have room, and that a refusal leaves all as found.
-use mathlib.Core.Path.{_≡_, refl}
+-- Handing out into lent buffers: where they have room, that a refusal leaves all as found, and what they hold once a plan is accepted.
+use mathlib.Core.Path.{_≡_, refl, ap}
 use mathlib.Core.Bool.{Bool, false, _||_}
 use Prim.Native.Nat.{ℕ, zero, suc, _+_, _≤_, _<_}
 use native.Mathlib.Omega.{arith}
 use lib.Dec.{ltb}
-use lib.ListN.{length}
+use lib.ListN.{length, getD}
 use borrow.Author.Tests.{ltb-false}
-use Rattle.plan.specs.declared.PlanAnswer.the-variants.{Refused}
+use Rattle.plan.specs.declared.PlanAnswer.the-variants.{Accepted, Refused}
+use Rattle.plan.specs.declared.Plan.{Plan}
+use Rattle.plan.specs.Lists.{written}
+use Rattle.plan.specs.Answers.{Reply, planReply}
 use Rattle.plan.specs.Planning.{Contents, Buffers, Capacity, lengths, buffersTooShort, handOut, fill, Filled}
 use Rattle.theory.proofs.Bools.{or-false-left, or-false-right}
 
@@ -47,3 +50,29 @@ pub filled-refused : (k : ℕ) (c : Contents) (found : Buffers) → (k ≡ 0 →
 unfolding handOut fill
 filled-refused zero c found h = absurd (h refl)
 filled-refused (suc k) c found h = record { reply = refl; order = refl; positions = refl; sizes = refl; parents = refl; columnStarts = refl; rows = refl }
+
+-- a plan was accepted: the counts of the answer are the plan's, and each buffer has the plan's list at its front
+pub record Holds (c : Contents) (p : Plan) (found left : Buffers) : Type 0 where
+  pub nodes : p .nodes ≡ c .nodes
+  pub parts : p .parts ≡ c .parts
+  pub slots : p .slots ≡ c .slots
+  pub order : left .order ≡ written (c .order) (found .order)
+  pub sizes : left .sizes ≡ written (c .sizes) (found .sizes)
+  pub parents : left .parents ≡ written (c .parents) (found .parents)
+  pub columnStarts : left .columnStarts ≡ written (c .columnStarts) (found .columnStarts)
+  pub rows : left .rows ≡ written (c .rows) (found .rows)
+
+pub accepted-holds : (c : Contents) (p : Plan) (found left : Buffers) → Filled (handOut 0 c) (Accepted p) found left → Holds c p found left
+unfolding handOut fill
+accepted-holds c p found left h =
+    let value : (k : ℕ) → getD (planReply (Accepted p) .values) k 0 ≡ getD (handOut 0 c .reply .values) k 0 = λ k. ap (λ (r : Reply). getD (r .values) k 0) (h .reply) in
+    record {
+      nodes = value 0;
+      parts = value 1;
+      slots = value 2;
+      order = h .order;
+      sizes = h .sizes;
+      parents = h .parents;
+      columnStarts = h .columnStarts;
+      rows = h .rows;
+    }

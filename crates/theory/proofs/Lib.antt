@@ -3,6 +3,7 @@ pub mod Lists
 pub mod Segments
 pub mod Written
 pub mod Ranges
+pub mod Scans
 pub mod Flatten
 pub mod AllLists
 pub mod Sums

@@ -7,11 +7,15 @@ use Prim.Native.Nat.{ℕ, zero, suc, _+_, _-_, _≤_, _<_}
 use native.Mathlib.Numerals.{add-one}
 use native.Mathlib.Omega.{arith}
 use lib.Dec.{eqb}
-use lib.ListN.{length, getD, take, drop, take-append-drop, length-drop, length-reverse, drop-of-length-le}
+use lib.ListN.{length, getD, take, drop, take-append-drop, length-drop, length-reverse}
 use lib.Seq.{take-suc, drop-cons, getD-take, take-at, getD-at}
 use borrow.Author.Tests.{eqb-true, eq-eqb}
 use Rattle.plan.specs.Lists.{exists, every, keep, isIn, without, indexOf, same}
-use Rattle.theory.proofs.Bools.{or-cases, or-left, or-right, and-left, and-right, and-both, clash, refuted, iff-eq, cond-true, cond-false, eqb-same}
+use Rattle.theory.proofs.Bools.{or-cases, or-left, or-right, and-left, and-right, and-both, clash, refuted, iff-eq, eqb-same}
+
+-- one element more of any list
+pub take-more : {A : Type 0} (l : List A) (i : ℕ) (d : A) → i < length l → take (i + 1) l ≡ take i l ++ (getD l i d ∷ [])
+take-more l i d h = rw add-one (take-suc l i d h)
 
 -- ---- membership
 
@@ -109,7 +113,7 @@ none-exists p l f = refuted (exists p l) (λ t. let r = exists-isIn p l t in cla
 
 -- one more element of a list is tried
 pub exists-more : (p : ℕ → Bool) (l : List ℕ) (i : ℕ) → i < length l → exists p (take (i + 1) l) ≡ (exists p (take i l) || p (getD l i 0))
-exists-more p l i h = rw (add-one, take-suc l i 0 h, exists-append p (take i l) (getD l i 0 ∷ []), or-false (p (getD l i 0)))
+exists-more p l i h = rw (take-more l i 0 h, exists-append p (take i l) (getD l i 0 ∷ []), or-false (p (getD l i 0)))
 
 -- tests that agree on a list pass together
 pub exists-ext : (p q : ℕ → Bool) (l : List ℕ) → ((x : ℕ) → isIn x l ≡ true → p x ≡ q x) → exists p l ≡ exists q l
@@ -190,7 +194,7 @@ keep-append p (x ∷ xs) ys = go (p x) (keep-append p xs ys)
 -- one more element of a list is tried
 pub keep-more : (p : ℕ → Bool) (l : List ℕ) (i : ℕ) → i < length l
     → keep p (take (i + 1) l) ≡ cond (p (getD l i 0)) (keep p (take i l) ++ (getD l i 0 ∷ [])) (keep p (take i l))
-keep-more p l i h = rw (add-one, take-suc l i 0 h) (keep-append p (take i l) (getD l i 0 ∷ []) ∙ go (p (getD l i 0)))
+keep-more p l i h = rw (take-more l i 0 h) (keep-append p (take i l) (getD l i 0 ∷ []) ∙ go (p (getD l i 0)))
   where
     go : (b : Bool) → keep p (take i l) ++ cond b (getD l i 0 ∷ []) [] ≡ cond b (keep p (take i l) ++ (getD l i 0 ∷ [])) (keep p (take i l))
     go true = refl
@@ -250,26 +254,6 @@ indexOf-lt (y ∷ ys) x h = go (eqb x y) refl h (indexOf-lt ys x)
     go : (b : Bool) → eqb x y ≡ b → (b || isIn x ys) ≡ true → (isIn x ys ≡ true → indexOf x ys < length ys) → cond b 0 (suc (indexOf x ys)) < suc (length ys)
     go true e m ih = omega arith
     go false e m ih = omega (arith, ih m)
-
--- ---- a scan for the first element that passes, where those before place i fail
-
--- the element at place i fails too
-pub scan-miss : (p : ℕ → Bool) (l : List ℕ) (i : ℕ) → i < length l → keep p l ≡ keep p (drop i l) → p (getD l i 0) ≡ false → keep p l ≡ keep p (drop (i + 1) l)
-scan-miss p l i h e t =
-    e ∙ ap (keep p) (drop-cons l i 0 h) ∙ cond-false (p (getD l i 0)) (getD l i 0 ∷ keep p (drop (suc i) l)) (keep p (drop (suc i) l)) t
-    ∙ ap (λ (k : ℕ). keep p (drop k l)) (sym (add-one i))
-
--- or it is the first that passes
-pub scan-hit : (p : ℕ → Bool) (l : List ℕ) (i d : ℕ) → i < length l → keep p l ≡ keep p (drop i l) → p (getD l i 0) ≡ true → headD (keep p l) d ≡ getD l i 0
-unfolding headD
-scan-hit p l i d h e t =
-    ap (λ (k : List ℕ). headD k d)
-    (e ∙ ap (keep p) (drop-cons l i 0 h) ∙ cond-true (p (getD l i 0)) (getD l i 0 ∷ keep p (drop (suc i) l)) (keep p (drop (suc i) l)) t)
-
--- or none is left, so that none passes
-pub scan-none : (p : ℕ → Bool) (l : List ℕ) (i d : ℕ) → length l ≤ i → keep p l ≡ keep p (drop i l) → headD (keep p l) d ≡ d
-unfolding headD
-scan-none p l i d h e = ap (λ (k : List ℕ). headD k d) (e ∙ ap (keep p) (drop-of-length-le l h))
 
 -- ---- equal lists
 

@@ -15,7 +15,7 @@ use Rattle.plan.specs.File.{badParts, mayBeParent}
 use Rattle.plan.specs.Parts.{parentOf, ancestors}
 use Rattle.plan.specs.Planning.{Contents}
 use Rattle.theory.specs.PartTree.{PartTree}
-use Rattle.theory.proofs.Bools.{or-cases, or-left, or-right, or-false-left, or-false-right, or-neither, and-left, and-right, and-both, eq-or-ne, lt-or-le}
+use Rattle.theory.proofs.Bools.{or-cases, or-left, or-right, or-false-left, or-false-right, and-left, and-right, and-both, eq-or-ne, lt-or-le}
 use Rattle.theory.proofs.Lists.{exists-none, none-exists, getD-default}
 use Rattle.theory.proofs.Ranges.{isIn-below, below-isIn}
 use Rattle.theory.proofs.Sums.{no-zero, zero-none}
@@ -41,8 +41,7 @@ module _ (c : Contents) (sizesMany : length (c .sizes) ≡ c .parts) (tree : Par
   pub tree-passes : badParts c ≡ false
   unfolding badParts
   tree-passes =
-      or-neither (isIn 0 (c .sizes) || not (eqb (total (c .sizes)) (c .nodes))) _
-      (or-neither (isIn 0 (c .sizes)) _ (no-zero (c .sizes) (tree .positive)) (ap not (eq-eqb (total (c .sizes)) (c .nodes) (tree .whole))))
+      rw (no-zero (c .sizes) (tree .positive), eq-eqb (total (c .sizes)) (c .nodes) (tree .whole))
       (none-exists (λ q. not (mayBeParent (c .parts) q (getD (c .parents) q 0))) (below (c .parts))
       (λ q h. ap not (tree-parent q (isIn-below (c .parts) q h))))
 
@@ -77,7 +76,7 @@ module _ (c : Contents) (good : badParts c ≡ false) (many : length (c .parents
       ∙ not-false _ (exists-none bad (below (c .parts)) none q (below-isIn (c .parts) q (omega arith)))
 
   -- so a parent is a later part
-  pub parents-later : (q : ℕ) → parentOf (c .parents) q ≢ noParent → q < parentOf (c .parents) q
+  parents-later : (q : ℕ) → parentOf (c .parents) q ≢ noParent → q < parentOf (c .parents) q
   parents-later q has = parent-is (c .parents) parents-may q has .0
 
   -- and one of them

@@ -46,7 +46,7 @@ endOf (s ∷ ss) i = cond (ltb i s) s (s + endOf ss (i - s))
 pub end-first : (s : ℕ) (ss : List ℕ) (i : ℕ) → i < s → endOf (s ∷ ss) i ≡ s
 end-first s ss i h = cond-true (ltb i s) s (s + endOf ss (i - s)) (lt-ltb i s h)
 
-pub end-next : (s : ℕ) (ss : List ℕ) (i : ℕ) → s ≤ i → endOf (s ∷ ss) i ≡ s + endOf ss (i - s)
+end-next : (s : ℕ) (ss : List ℕ) (i : ℕ) → s ≤ i → endOf (s ∷ ss) i ≡ s + endOf ss (i - s)
 end-next s ss i h = cond-false (ltb i s) s (s + endOf ss (i - s)) (le-ltb i s h)
 
 pub end-add : (s : ℕ) (ss : List ℕ) (t : ℕ) → endOf (s ∷ ss) (s + t) ≡ s + endOf ss t

@@ -1,7 +1,7 @@
 -- What planning hands out: each node once, a tree of nested parts, demand 3; for a dissection by any choice, and for George and Liu's.
 use mathlib.Core.Path.{_≡_, refl, sym, ap, _∙_}
 use mathlib.Core.List.{List, _++_}
-use Prim.Native.Nat.{ℕ, zero, suc, _<_}
+use Prim.Native.Nat.{ℕ, zero, suc, _≤_, _<_}
 use native.Mathlib.Omega.{arith}
 use lib.ListN.{length, getD, take, drop}
 use Rattle.plan.specs.declared.PlanAnswer.{PlanAnswer}
@@ -9,12 +9,12 @@ use Rattle.plan.specs.declared.PlanAnswer.the-variants.{Accepted, Refused}
 use Rattle.plan.specs.declared.Plan.{Plan}
 use Rattle.plan.specs.RoundTrips.{handed}
 use Rattle.plan.specs.Refusals.{firstFault}
-use Rattle.plan.specs.Answers.{Reply, planReply}
+use Rattle.plan.specs.Answers.{Reply}
 use Rattle.plan.specs.Mesh.{Mesh, adjacent, meshChecks}
 use Rattle.plan.specs.Choice.{georgeLiu}
-use Rattle.plan.specs.Dissection.{dissection, parts, positions}
+use Rattle.plan.specs.Dissection.{dissection, positions}
 use Rattle.plan.specs.Demand3.{Demand3}
-use Rattle.plan.specs.Planning.{Contents, planBy, planOf, Capacity, Buffers, planChecks, handOut, fill, planning, Filled, Demand3Of}
+use Rattle.plan.specs.Planning.{Contents, planBy, planOf, Capacity, Buffers, planChecks, handOut, planning, Filled, Demand3Of}
 use Rattle.plan.specs.Enough.{OrderWhole}
 use Rattle.theory.specs.Counting.{Order}
 use Rattle.theory.specs.Regions.{Takes}
@@ -24,9 +24,10 @@ use Rattle.theory.specs.PartTree.{PartTree, Nested}
 use Rattle.theory.proofs.Written.{front-written}
 use Rattle.theory.proofs.Refusals.{no-fault-first}
 use Rattle.theory.proofs.Checked.{checked}
+use Rattle.theory.proofs.Handed.{accepted-holds}
 use Rattle.theory.proofs.Orders.{order-length, order-passes, order-of-position, position-of-order}
 use Rattle.theory.proofs.Forest.{sizes-length}
-use Rattle.theory.proofs.Dissection.{order-count, dissection-tree, dissection-nested}
+use Rattle.theory.proofs.Dissection.{order-count, parts-few, dissection-tree, dissection-nested}
 use Rattle.theory.proofs.Demand3.{nested-demand3}
 use Rattle.theory.proofs.Choice.{georgeLiu-takes}
 
@@ -78,10 +79,19 @@ pub planned-sizes : (m : Mesh) → length (planOf m .sizes) ≡ planOf m .parts
 unfolding planOf
 planned-sizes m = plan-sizes m (georgeLiu m)
 
--- and as many parents
-pub planned-parents : (m : Mesh) → length (planOf m .parents) ≡ planOf m .parts
+-- no more of them than nodes
+pub planned-few : (m : Mesh) → planOf m .parts ≤ m .nodes
+unfolding planOf planBy
+planned-few m = parts-few (adjacent m) (georgeLiu m) (georgeLiu-takes m) (m .nodes)
+
+-- the sizes sum to n, and the parents are later parts
+pub planned-tree : (m : Mesh) → PartTree (m .nodes) (planOf m .sizes) (planOf m .parents)
 unfolding planOf
-planned-parents m = plan-tree m (georgeLiu m) (georgeLiu-takes m) .asMany ∙ planned-sizes m
+planned-tree m = plan-tree m (georgeLiu m) (georgeLiu-takes m)
+
+-- as many parents as parts
+pub planned-parents : (m : Mesh) → length (planOf m .parents) ≡ planOf m .parts
+planned-parents m = planned-tree m .asMany ∙ planned-sizes m
 
 -- positions invert the order: the position of the node at position i is i
 pub position-of-planned : (m : Mesh) (i : ℕ) → i < m .nodes → getD (positions (m .nodes) (planOf m .order)) (getD (planOf m .order) i 0) 0 ≡ i
@@ -125,16 +135,15 @@ handed-planned m room h = handed-accepted (firstFault (planChecks m room)) (plan
 
 accepted-demand3 : (m : Mesh) (p : Plan) (found left : Buffers) → firstFault (meshChecks m) ≡ 0 → Filled (handOut 0 (planOf m)) (Accepted p) found left
     → Demand3 m (take (p .nodes) (left .order)) (take (p .parts) (left .sizes)) (take (p .parts) (left .parents)) (left .columnStarts) (left .rows)
-unfolding handOut fill
 accepted-demand3 m p found left passes h =
-    let value : (k : ℕ) → getD (planReply (Accepted p) .values) k 0 ≡ getD (handOut 0 (planOf m) .reply .values) k 0 = λ k. ap (λ (r : Reply). getD (r .values) k 0) (h .reply) in
-    let nodes : length (planOf m .order) ≡ p .nodes = order-length (m .nodes) (planOf m .order) (planned-once m) ∙ sym (value 0 ∙ planned-nodes m) in
+    let held = accepted-holds (planOf m) p found left h in
+    let nodes : length (planOf m .order) ≡ p .nodes = order-length (m .nodes) (planOf m .order) (planned-once m) ∙ sym (held .nodes ∙ planned-nodes m) in
     rw (
-      front-written (p .nodes) (planOf m .order) (found .order) (left .order) (h .order) nodes,
-      front-written (p .parts) (planOf m .sizes) (found .sizes) (left .sizes) (h .sizes) (planned-sizes m ∙ sym (value 1)),
-      front-written (p .parts) (planOf m .parents) (found .parents) (left .parents) (h .parents) (planned-parents m ∙ sym (value 1)),
-      h .columnStarts,
-      h .rows,
+      front-written (p .nodes) (planOf m .order) (found .order) (left .order) (held .order) nodes,
+      front-written (p .parts) (planOf m .sizes) (found .sizes) (left .sizes) (held .sizes) (planned-sizes m ∙ sym (held .parts)),
+      front-written (p .parts) (planOf m .parents) (found .parents) (left .parents) (held .parents) (planned-parents m ∙ sym (held .parts)),
+      held .columnStarts,
+      held .rows,
     )
     (planned-demand3 m passes (drop (length (planOf m .columnStarts)) (found .columnStarts)) (drop (length (planOf m .rows)) (found .rows)))
 

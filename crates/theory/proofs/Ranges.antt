@@ -1,13 +1,13 @@
 -- Ranges: a, a + 1, .., and what is mapped from them.
-use mathlib.Core.Path.{_≡_, refl, ap, _∙_, ap₂}
+use mathlib.Core.Path.{_≡_, refl, sym, ap, _∙_, ap₂}
 use mathlib.Core.Logic.{inl, inr}
 use mathlib.Core.Bool.{true, false≢true}
-use mathlib.Core.List.{List, [], _∷_, _++_, map}
+use mathlib.Core.List.{List, [], _∷_, _++_, map, map-id}
 use Prim.Native.Nat.{ℕ, _+_, _<_, _≤_, zero, suc}
 use native.Mathlib.Nat.{zero-add, add-zero, suc-add, add-suc}
 use native.Mathlib.Omega.{arith}
 use lib.Dec.{eqb}
-use lib.ListN.{length, getD}
+use lib.ListN.{length, getD, length-map}
 use lib.Seq.{ext-getD}
 use borrow.Author.Tests.{eq-eqb}
 use Rattle.plan.specs.Lists.{below, upFrom, isIn}
@@ -57,8 +57,7 @@ module _ {A : Type 0} where
   getD-map-below h d n i lt = getD-map-upFrom h d n 0 i lt ∙ ap h (omega arith)
 
   pub length-map-upFrom : (h : ℕ → A) (k a : ℕ) → length (map h (upFrom a k)) ≡ k
-  length-map-upFrom h zero a = refl
-  length-map-upFrom h (suc k) a = ap suc (length-map-upFrom h k (suc a))
+  length-map-upFrom h k a = length-map (upFrom a k) h ∙ length-upFrom k a
 
   pub map-ext-upFrom : (f g : ℕ → A) (k a : ℕ) → ((i : ℕ) → a ≤ i → i < a + k → f i ≡ g i) → map f (upFrom a k) ≡ map g (upFrom a k)
   map-ext-upFrom f g zero a h = refl
@@ -68,6 +67,10 @@ module _ {A : Type 0} where
   pub map-upFrom-suc : (f : ℕ → A) (k a : ℕ) → map f (upFrom (suc a) k) ≡ map (λ i. f (suc i)) (upFrom a k)
   map-upFrom-suc f zero a = refl
   map-upFrom-suc f (suc k) a = ap (λ (l : List A). f (suc a) ∷ l) (map-upFrom-suc f k (suc a))
+
+-- number i of 0, 1, .. is i
+pub getD-below : (n i : ℕ) → i < n → getD (below n) i 0 ≡ i
+getD-below n i lt = ap (λ (l : List ℕ). getD l i 0) (sym (map-id (below n))) ∙ getD-map-below (λ k. k) 0 n i lt
 
 -- a list is its elements place by place
 pub map-getD : (l : List ℕ) → map (λ i. getD l i 0) (below (length l)) ≡ l

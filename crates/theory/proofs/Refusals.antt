@@ -1,5 +1,5 @@
 -- The first fault of a list of checks: 0 where no check finds one.
-use mathlib.Core.Path.{_≡_, refl}
+use mathlib.Core.Path.{_≡_, refl, ap}
 use mathlib.Core.Bool.{Bool, true, false, cond}
 use mathlib.Core.List.{[], _∷_, _++_}
 use Prim.Native.Nat.{ℕ, _<_}
@@ -61,3 +61,19 @@ first-none [] ys above h = refl
 first-none (c ∷ xs) ys above h =
     let r = no-fault (c .0) (c .1) xs (ltb-true 0 (c .0) (and-left (ltb 0 (c .0)) _ above)) h in
     rw (r .0) (first-none xs ys (and-right (ltb 0 (c .0)) _ above) (r .1))
+
+-- checks behind that find no fault change nothing
+pub none-behind : (xs ys : Checks) → firstFault ys ≡ 0 → firstFault (xs ++ ys) ≡ firstFault xs
+unfolding firstFault
+none-behind [] ys h = h
+none-behind (c ∷ xs) ys h = ap (λ (k : ℕ). cond (c .1) (c .0) k) (none-behind xs ys h)
+
+-- where the checks have numbers below b, so has the first fault
+pub fault-below : (b : ℕ) (cs : Checks) → 0 < b → every (λ c. ltb (c .0) b) cs ≡ true → firstFault cs < b
+unfolding firstFault
+fault-below b [] pos h = pos
+fault-below b (c ∷ cs) pos h = go (c .1) (fault-below b cs pos (and-right (ltb (c .0) b) _ h))
+  where
+    go : (t : Bool) → firstFault cs < b → cond t (c .0) (firstFault cs) < b
+    go true later = ltb-true (c .0) b (and-left (ltb (c .0) b) _ h)
+    go false later = later

@@ -62,7 +62,7 @@ module _ (m : Mesh) (region : List ℕ) where
   ]
 
   -- with as many turns as ℓ can grow, the search has ended
-  pub search-ends : (most r : ℕ) → length region ≤ far r + most → nextRoot m region (rootFrom most m region r) ≡ rootFrom most m region r
+  search-ends : (most r : ℕ) → length region ≤ far r + most → nextRoot m region (rootFrom most m region r) ≡ rootFrom most m region r
   search-ends zero r h = unfold rootFrom in next-stays r (omega arith)
   search-ends (suc most) r h = elim (tested (eqb (nextRoot m region r) r)) [
     | inl e ↦ rw (turn-ends most r e) (eqb-true _ _ e)
@@ -80,7 +80,7 @@ module _ (m : Mesh) (region : List ℕ) where
   ]
 
   -- where r stays, no candidate of it is farther
-  pub root-farthest : (r : ℕ) → nextRoot m region r ≡ r → exists (improves m region r) (candidates m region r) ≡ false
+  root-farthest : (r : ℕ) → nextRoot m region r ≡ r → exists (improves m region r) (candidates m region r) ≡ false
   unfolding nextRoot headD improves
   root-farthest r e = refuted _ (λ t.
       let x = exists-isIn (improves m region r) (candidates m region r) t in

@@ -31,8 +31,8 @@ module _ (m : Mesh) (order : List ℕ) where
   abbrev counts : List ℕ
   counts = map length (columns m order)
 
-  pub counts-length : length counts ≡ m .nodes
-  counts-length = length-map (columns m order) length ∙ columns-length
+  pub column-counts-length : length counts ≡ m .nodes
+  column-counts-length = length-map (columns m order) length ∙ columns-length
 
   -- ---- in buffers that hold more behind the slots
 
@@ -54,14 +54,14 @@ module _ (m : Mesh) (order : List ℕ) where
   pub slots-last : (more : List ℕ) → getD (startsOf (columns m order) ++ more) (m .nodes) 0 ≡ length (flatten (columns m order))
   unfolding startsOf
   slots-last more =
-      ap (λ (k : ℕ). getD (runningSums 0 counts ++ more) k 0) (sym counts-length)
+      ap (λ (k : ℕ). getD (runningSums 0 counts ++ more) k 0) (sym column-counts-length)
       ∙ sums-last 0 counts more ∙ zero-add (total counts) ∙ total-lengths (columns m order)
 
   -- the slots of column j are as many as its start and the next one differ
   pub column-counted : (j : ℕ) → j < m .nodes → getD (startsOf (columns m order)) (j + 1) 0 - getD (startsOf (columns m order)) j 0 ≡ length (column m order j)
   unfolding startsOf
   column-counted j l =
-      let next : getD (runningSums 0 counts) (j + 1) 0 ≡ getD (runningSums 0 counts) j 0 + getD counts j 0 = simp append-nil at (sums-next 0 counts [] j (omega (arith, counts-length))) in
+      let next : getD (runningSums 0 counts) (j + 1) 0 ≡ getD (runningSums 0 counts) j 0 + getD counts j 0 = simp append-nil at (sums-next 0 counts [] j (omega (arith, column-counts-length))) in
       let size : getD counts j 0 ≡ length (column m order j) = List·getD-map length (columns m order) j [] ∙ ap length (column-number j l) in
       omega (arith, next, size)
 

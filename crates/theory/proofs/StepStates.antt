@@ -93,7 +93,7 @@ parents-cons k parent ps h f (suc i) l = before-more (k - 1 - i) (suc k - 1 - su
 
 module _ (edge : Graph) (n : ℕ) where
   -- the state before any step
-  pub balanced-begin : Balanced edge n (begin edge n)
+  balanced-begin : Balanced edge n (begin edge n)
   unfolding begin
   balanced-begin =
       let first : List (List ℕ) = components edge (below n) in
@@ -140,7 +140,7 @@ module _ (edge : Graph) (n : ℕ) where
         }
 
     -- one more part chosen
-    pub balanced-step : (s : State) → Balanced edge n s → Balanced edge n (step edge choose s)
+    balanced-step : (s : State) → Balanced edge n s → Balanced edge n (step edge choose s)
     unfolding step
     balanced-step s b = balanced-with (s .pending) (s .chosen) (s .parents) b
 

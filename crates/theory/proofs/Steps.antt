@@ -20,7 +20,7 @@ use Rattle.theory.proofs.Bools.{cond-false}
 use Rattle.theory.proofs.Flatten.{flatten-cons}
 use Rattle.theory.proofs.Checked.{checked}
 use Rattle.theory.proofs.Forest.{parts-length-tree}
-use Rattle.theory.proofs.Dissection.{regionsLeft, left-regions, first-regions, first-regions-fit, left-fit, others-fit, parts-few}
+use Rattle.theory.proofs.Dissection.{regionsLeft, left-regions, first-regions, first-regions-length, left-fit, others-fit, parts-few}
 use Rattle.theory.proofs.Choice.{georgeLiu-takes}
 
 -- a state by its fields
@@ -123,7 +123,7 @@ module _ (edge : Graph) (choose : List ℕ → List ℕ) where
           steps (length (parts t)) edge choose (begin edge n) ≡ state [] (parts t) (chosenParents noParent 0 t)
       unfolding dissection begin
       chooses-all =
-          simp append-nil at (chooses n (components edge (below n)) (first-regions edge n) (first-regions-fit edge n) noParent [] [] [])
+          simp append-nil at (chooses n (components edge (below n)) (first-regions edge n) (omega (arith, first-regions-length edge n)) noParent [] [] [])
 
       -- so as many steps as nodes do, for the steps after those change nothing
       chooses-enough : let t : Forest = dissection edge choose n in

@@ -5,13 +5,11 @@ use mathlib.Core.Bool.{true, false, false≢true}
 use mathlib.Core.List.{List, [], _∷_, _++_, map}
 use Prim.Native.Nat.{ℕ, _+_, _<_, _≤_, zero, suc, _-_, _*_, _/_}
 use native.Mathlib.Nat.{add-zero, suc-add, add-suc}
-use native.Mathlib.Numerals.{add-one}
 use native.Mathlib.Omega.{arith}
 use lib.ListN.{length, getD, take}
-use lib.Seq.{take-suc}
 use Rattle.plan.specs.Lists.{upFrom, total, isIn}
 use Rattle.theory.proofs.Bools.{clash, refuted, eq-or-ne}
-use Rattle.theory.proofs.Lists.{isIn-cons, isIn-getD, getD-indexOf, indexOf-lt}
+use Rattle.theory.proofs.Lists.{take-more, isIn-cons, isIn-getD, getD-indexOf, indexOf-lt}
 
 pub total-append : (xs ys : List ℕ) → total (xs ++ ys) ≡ total xs + total ys
 total-append [] ys = omega arith
@@ -19,7 +17,7 @@ total-append (x ∷ xs) ys = omega (arith, total-append xs ys)
 
 -- one more of a list's numbers
 pub total-more : (l : List ℕ) (i : ℕ) → i < length l → total (take (i + 1) l) ≡ total (take i l) + getD l i 0
-total-more l i h = let t = total-append (take i l) (getD l i 0 ∷ []) in rw (add-one, take-suc l i 0 h) (omega arith)
+total-more l i h = let t = total-append (take i l) (getD l i 0 ∷ []) in rw (take-more l i 0 h) (omega arith)
 
 -- no more than all of them together
 pub total-within : (l : List ℕ) (i : ℕ) → i < length l → total (take i l) + getD l i 0 ≤ total l

@@ -3,13 +3,13 @@ use mathlib.Core.Path.{_≡_, sym, ap, _∙_}
 use mathlib.Core.Logic.{_⊎_, inl, inr}
 use mathlib.Core.List.{List, [], _∷_, _++_, append-nil, append-assoc}
 use Prim.Native.Nat.{ℕ, suc, _+_, _-_, _≤_, _<_}
-use native.Mathlib.Numerals.{add-one}
 use native.Mathlib.Nat.{zero-add}
 use native.Mathlib.Omega.{arith}
 use lib.ListN.{length, take, drop, set, getD, length-append, length-take, length-drop, drop-of-length-le, List·getD-append}
-use lib.Seq.{length-take-le, take-all, take-at, take-suc, drop-cons, drop-set-lt, drop-drop, take-append-seam, drop-append-seam, set-append-seam, append-snoc, getD-take, getD-drop, getD-append-add, ext-getD}
+use lib.Seq.{length-take-le, take-all, take-at, drop-cons, drop-set-lt, drop-drop, take-append-seam, drop-append-seam, set-append-seam, append-snoc, getD-take, getD-drop, getD-append-add, ext-getD}
 use Rattle.plan.specs.Lists.{written}
 use Rattle.theory.proofs.Bools.{lt-or-le}
+use Rattle.theory.proofs.Lists.{take-more}
 use Rattle.theory.proofs.Segments.{segment-front}
 
 module _ {A : Type 0} where
@@ -26,7 +26,7 @@ module _ {A : Type 0} where
   pub written-next : (l found buffer : List A) (i : ℕ) (d : A) → i < length l → length l ≤ length found → buffer ≡ written (take i l) found
       → set buffer i (getD l i d) ≡ written (take (i + 1) l) found
   written-next l found buffer i d lt fits e =
-      rw (e, add-one, take-suc l i d lt) (written-push (take i l) found i (getD l i d) (length-take-le i l (omega arith)) (omega arith))
+      rw (e, take-more l i d lt) (written-push (take i l) found i (getD l i d) (length-take-le i l (omega arith)) (omega arith))
 
   -- ---- what is written
 

@@ -9,7 +9,7 @@ use Rattle.text.proofs.list.Tie as tie
 returns : tie.Need-returns
 returns c =
     let p = c .before in
-    let zeros = p .before .before .no-bytes .ensures in
+    let zeros = p .before .before .byte-zeros .ensures in
     let put = p .put-listing .ensures in
     (put .front, (omega (arith, put .ends, listing-fits (p .before .before .before .before .args .input .now)), λ i from below. put .rest i from ∙ zeros .1 i (omega (arith, below))))
 

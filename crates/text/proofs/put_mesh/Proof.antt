@@ -16,16 +16,25 @@ use Rattle.text.proofs.put_mesh.Tie as tie
 abbrev mesh : tie.Start → Mesh
 mesh s = lent (s .args .n) (s .args .starts .now) (s .args .neighbours .now)
 
+-- back from planning: to the last buffer that was made, and to where the function begins
+abbrev made : tie.After-plan → tie.After-row-zeros
+made c = c .before .before .before .before .before .before .before
+
+abbrev start : tie.After-plan → tie.Start
+start c = made c .before .before .before .before .before .before .before .before .before
+
 -- the buffers as they were made
 abbrev found : tie.After-plan → Buffers
-found c = record {
-  order = c .before .before .before .before .before .before .before .before .before .before .before .before .no-nodes .result;
-  positions = c .before .before .before .before .before .before .before .before .before .before .before .no-nodes2 .result;
-  sizes = c .before .before .before .before .before .before .before .before .before .before .no-nodes3 .result;
-  parents = c .before .before .before .before .before .before .before .before .before .no-nodes4 .result;
-  columnStarts = c .before .before .before .before .before .before .before .before .no-starts .result;
-  rows = c .before .before .before .before .before .before .before .no-rows .result;
-}
+found c =
+    let r = made c in
+    record {
+      order = r .before .before .before .before .before .node-zeros .result;
+      positions = r .before .before .before .before .node-zeros2 .result;
+      sizes = r .before .before .before .node-zeros3 .result;
+      parents = r .before .before .node-zeros4 .result;
+      columnStarts = r .before .start-zeros .result;
+      rows = r .row-zeros .result;
+    }
 
 -- and as planning leaves them
 abbrev left : tie.After-plan → Buffers
@@ -35,27 +44,31 @@ left c =
 
 roomy : (c : tie.After-plan) → Roomy (capacity (found c))
 unfolding capacity
-roomy c = record {
-  order = omega (arith, c .before .before .before .before .before .before .before .before .before .before .before .before .no-nodes .ensures);
-  positions = omega (arith, c .before .before .before .before .before .before .before .before .before .before .before .no-nodes2 .ensures);
-  sizes = omega (arith, c .before .before .before .before .before .before .before .before .before .before .no-nodes3 .ensures);
-  parents = omega (arith, c .before .before .before .before .before .before .before .before .before .no-nodes4 .ensures);
-  columnStarts = omega (arith, c .before .before .before .before .before .before .before .before .no-starts .ensures);
-  rows = omega (arith, c .before .before .before .before .before .before .before .no-rows .ensures);
-}
+roomy c =
+    let r = made c in
+    record {
+      order = omega (arith, r .before .before .before .before .before .node-zeros .ensures);
+      positions = omega (arith, r .before .before .before .before .node-zeros2 .ensures);
+      sizes = omega (arith, r .before .before .before .node-zeros3 .ensures);
+      parents = omega (arith, r .before .before .node-zeros4 .ensures);
+      columnStarts = omega (arith, r .before .start-zeros .ensures);
+      rows = omega (arith, r .row-zeros .ensures);
+    }
 
 -- from which the mesh is listed
-listed : (c : tie.After-plan) → Listed (c .plan .result) (left c) (meshText (mesh (c .before .before .before .before .before .before .before .before .before .before .before .before .before .before .before .before)))
-listed c = planned-listed (mesh (c .before .before .before .before .before .before .before .before .before .before .before .before .before .before .before .before)) (c .before .before .before .before .before .before .before .before .before .before .before .before .before .before .before .before .pre .0) (c .plan .result) (found c) (left c) (roomy c) (c .plan .ensures)
+listed : (c : tie.After-plan) → Listed (c .plan .result) (left c) (meshText (mesh (start c)))
+listed c = planned-listed (mesh (start c)) (start c .pre .0) (c .plan .result) (found c) (left c) (roomy c) (c .plan .ensures)
 
 put-answer-requires : tie.Need-put-answer-requires
 put-answer-requires c κs =
     let p = c .before .before .before .before .before .before .before .before .before .before .before in
-    let s = p .before .before .before .before .before .before .before .before .before .before .before .before .before .before .before .before in
+    let s = start p in
     (listed p .held, omega (arith, ap length (listed p .same), mesh-fits (mesh s) (s .pre .0), s .pre .1))
 
 returns : tie.Need-returns
-returns c = put-as (listed (c .before .before .before .before .before .before .before .before .before .before .before .before .before .before) .same) (c .before .before .put-answer .ensures)
+returns c =
+    let p = c .before .before .before .before .before .before .before .before .before .before .before .before .before .before in
+    put-as (listed p .same) (c .before .before .put-answer .ensures)
 
 pub put-mesh-spec : {M : Type 1} → statement M
 put-mesh-spec =

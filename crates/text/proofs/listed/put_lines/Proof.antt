@@ -6,23 +6,24 @@ use native.Mathlib.Omega.{arith}
 use lib.ListN.{length, getD}
 use borrow.Author.Needs.{needs}
 use Rattle.plan.specs.Lists.{below}
-use Rattle.theory.proofs.Ranges.{length-upFrom}
-use Rattle.text.specs.Lines.{lineOf, lineAt}
+use Rattle.plan.specs.Listing.{lineOf, positionLine}
+use Rattle.theory.proofs.Ranges.{length-upFrom, getD-below}
+use Rattle.text.specs.Lines.{shown}
 use Rattle.text.proofs.Puts.{put-as}
-use Rattle.text.proofs.Sequences.{below-at, Puts, puts-none, puts-room, puts-more, puts-all}
+use Rattle.text.proofs.Sequences.{Puts, puts-none, puts-room, puts-more, puts-all}
 use Rattle.text.proofs.listed.put_lines.Statement.{statement}
 use Rattle.text.proofs.listed.put_lines.Tie as tie
 
 abbrev Inv-loop : tie.InvT-loop
 Inv-loop out₀ at order sizes columnStarts rows last₀ j₀ j-end out last j =
-    (j-end ≡ length order) × Puts (lineAt order sizes columnStarts rows) (below (length order)) out₀ at j out last
+    (j-end ≡ length order) × Puts (positionLine (shown 0 0 0 order sizes columnStarts rows)) (below (length order)) out₀ at j out last
 
 abbrev μ-loop : tie.MeasureT-loop
 μ-loop out₀ at order sizes columnStarts rows last₀ j₀ j-end out last j = j-end - j
 
 -- a position's line, by the lent lists
 abbrev line : tie.Start Inv-loop μ-loop → ℕ → List ℕ
-line s = lineAt (s .args .order .now) (s .args .sizes .now) (s .args .columnStarts .now) (s .args .rows .now)
+line s = positionLine (shown 0 0 0 (s .args .order .now) (s .args .sizes .now) (s .args .columnStarts .now) (s .args .rows .now))
 
 -- the positions
 abbrev positions : tie.Start Inv-loop μ-loop → List ℕ
@@ -37,10 +38,11 @@ put : (c : tie.After-list Inv-loop μ-loop) →
     let l = c .before .before .before .before .before .before in
     let s = l .before .before .before .before .before .before in
     lineOf (l .loop .j) (c .before .before .node .result) (c .before .part-of .result) (c .list .result .now) ≡ line s (getD (positions s) (l .loop .j) 0)
+unfolding positionLine
 put c =
     let l = c .before .before .before .before .before .before in
     let s = l .before .before .before .before .before .before in
-    rw (below-at (length (s .args .order .now)) (l .loop .j) (omega (arith, c .before .before .before .before .before .loop-test .taken)), c .list .ensures, c .before .part-of .ensures, c .before .before .node .ensures)
+    rw (getD-below (length (s .args .order .now)) (l .loop .j) (omega (arith, c .before .before .before .before .before .loop-test .taken)), c .list .ensures, c .before .part-of .ensures, c .before .before .node .ensures)
 
 loop-holds : tie.Need-loop-holds Inv-loop μ-loop
 loop-holds c = let s = c .before .before .before .before .before in (refl, puts-none (line s) (positions s) (s .args .out .now) (s .args .at))

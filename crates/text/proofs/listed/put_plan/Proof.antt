@@ -33,15 +33,19 @@ whole-length s = let a = s .args in plan-length (a .counts .nodes) (a .counts .p
 front : (l : List ℕ) (r n : ℕ) → r ≡ n → take (r - 0) l ≡ take n l
 front l r n e = let z : r - 0 ≡ n = omega arith in ap (λ (k : ℕ). take k l) z
 
+-- where the function begins
+abbrev start : tie.After-parts → tie.Start
+start c = c .before .before .before .before .before .before .before .before .before .before .before .before .before
+
 -- the nodes that are lent
-nodes : (c : tie.After-parts) → let a = c .before .before .before .before .before .before .before .before .before .before .before .before .before .args in take (c .before .before .before .index .result - 0) (a .order .now) ≡ take (a .counts .nodes) (a .order .now)
-nodes c = let a = c .before .before .before .before .before .before .before .before .before .before .before .before .before .args in front (a .order .now) (c .before .before .before .index .result) (a .counts .nodes) (c .before .before .before .index .ensures)
+nodes : (c : tie.After-parts) → let a = start c .args in take (c .before .before .before .index .result - 0) (a .order .now) ≡ take (a .counts .nodes) (a .order .now)
+nodes c = let a = start c .args in front (a .order .now) (c .before .before .before .index .result) (a .counts .nodes) (c .before .before .before .index .ensures)
 
 -- the lines that are put
 put : (c : tie.After-parts) →
-    let s = c .before .before .before .before .before .before .before .before .before .before .before .before .before in
+    let s = start c in
     linesOf (take (c .before .before .before .index .result - 0) (s .args .order .now)) (take (c .before .index2 .result - 0) (s .args .sizes .now)) (s .args .columnStarts .now) (s .args .rows .now) ≡ lines s
-put c = let a = c .before .before .before .before .before .before .before .before .before .before .before .before .before .args in rw (nodes c, front (a .sizes .now) (c .before .index2 .result) (a .counts .parts) (c .before .index2 .ensures))
+put c = let a = start c .args in rw (nodes c, front (a .sizes .now) (c .before .index2 .result) (a .counts .parts) (c .before .index2 .ensures))
 
 put-head-requires : tie.Need-put-head-requires
 put-head-requires c κs = omega (arith, whole-length (c .before .before .before .before .before .before))
@@ -49,7 +53,7 @@ put-head-requires c κs = omega (arith, whole-length (c .before .before .before 
 put-lines-requires : tie.Need-put-lines-requires
 put-lines-requires c κs =
     let h = c .before .before .before .before .before .before .before in
-    let s = h .before .before .before .before .before .before .before in
+    let s = start (c .before) in
     let many = ap length (nodes (c .before)) ∙ length-take-le (s .args .counts .nodes) (s .args .order .now) (s .pre .0 .nodes) in
     (λ j l. s .pre .0 .columns j (omega (arith, many)), omega (arith, whole-length s, h .put-head .ensures .ends, ap length (put (c .before)), s .pre .1))
 
@@ -57,7 +61,7 @@ returns : tie.Need-returns
 returns c =
     let l = c .before .before in
     let h = l .before .before .before .before .before .before .before .before in
-    put-as (sym (whole-parts (h .before .before .before .before .before .before .before))) (put-both (h .put-head .ensures) (put-as (put (l .before .before)) (l .put-lines .ensures)))
+    put-as (sym (whole-parts (start (l .before .before)))) (put-both (h .put-head .ensures) (put-as (put (l .before .before)) (l .put-lines .ensures)))
 
 pub put-plan-spec : {M : Type 1} → statement M
 put-plan-spec =
