@@ -5,12 +5,13 @@ use mathlib.Core.Bool.{Bool, true, false≢true}
 use mathlib.Core.List.{List, [], _∷_, _++_, map, map-map, map-id, flatten, reverse, reverseAux, append-assoc, append-nil, map-append, reverse-cons, reverse-append, reverse-reverse}
 use Prim.Native.Nat.{ℕ, zero, suc, _+_, _-_, _≤_, _<_}
 use native.Mathlib.Numerals.{add-one}
+use native.Mathlib.Nat.{sub-zero}
 use native.Mathlib.Omega.{arith}
 use lib.Dec.{eqb}
 use lib.ListN.{length, take, drop, set, getD, replicate, length-append, length-set, length-map, length-reverse}
-use lib.Seq.{length-take-le, getD-take, take-at, ext-getD}
+use lib.Seq.{length-take-le, getD-take, take-at}
 use borrow.Author.Tests.{eqb-true, eq-eqb}
-use Rattle.plan.specs.Lists.{keep, isIn, segment, upFrom, below, without}
+use Rattle.plan.specs.Lists.{keep, isIn, segment, upFrom, below, without, written}
 use Rattle.plan.specs.Mesh.{noParent, Mesh, adjacent}
 use Rattle.plan.specs.Levels.{components}
 use Rattle.plan.specs.Choice.{georgeLiu}
@@ -22,7 +23,8 @@ use Rattle.theory.specs.Checked.{Checked}
 use Rattle.theory.specs.Balanced.{regionsOf, parentsOf, ParentBefore, Balanced}
 use Rattle.theory.proofs.Bools.{tested, cond-true, cond-false, eq-or-ne, lt-or-le}
 use Rattle.theory.proofs.Lists.{keep-all, keep-ext, isIn-head, isIn-getD, isIn-append-cases, of-keep, getD-reverse}
-use Rattle.theory.proofs.Ranges.{length-upFrom, length-map-upFrom, getD-map-below}
+use Rattle.theory.proofs.Ranges.{length-upFrom, length-map-upFrom}
+use Rattle.theory.proofs.Written.{front-written}
 use Rattle.theory.proofs.Flatten.{flatten-append, flatten-nil, flatten-cons}
 use Rattle.theory.proofs.AllLists.{all-map, all-reverseAux, lists-few}
 use Rattle.theory.proofs.Counting.{count-all, count-append, count-exists, exists-count, same-length}
@@ -156,7 +158,7 @@ pub record Last (m : Mesh) (s : State) (orderHeld heads : List ℕ) (left : ℕ)
   pub inside : (v : ℕ) → isIn v (next .region) ≡ true → v < m .nodes
   pub parent : next .parent ≢ inner
   pub first : getD heads 0 0 ≢ inner
-  pub orderLong : length orderHeld ≡ 4096
+  pub orderLong : m .nodes ≤ length orderHeld
   pub headsLong : length heads ≡ 4096
 
 -- a parent is no inner place's mark
@@ -204,7 +206,7 @@ last-with m (next ∷ others) chosen ps orderHeld heads left checked b h some =
       fits = omega (
         arith,
         h .pending,
-        length-take-le n orderHeld (omega (arith, h .orderLong, checked .few)),
+        length-take-le n orderHeld (h .orderLong),
         ap length (h .order),
         length-append (flatten (reverse (regionsOf (next ∷ others)))) (flatten chosen),
       );
@@ -371,7 +373,7 @@ module _ {m : Mesh} {orderHeld heads : List ℕ} {left : ℕ} (k : ℕ) (l : Las
 
     -- what the step leaves in the arrays is the next state
     pub holds-next : m .nodes ≤ 4096 → {nodes : List ℕ} {a end p : ℕ} {now : List ℕ} (marked : List ℕ) → nodes ≡ l .next .region → a ≡ start → end ≡ partPlace → p ≡ l .next .parent
-        → now ≡ take a orderHeld ++ (flatten (grouped (count + 1) numbers nodes) ++ drop (a + (left - a)) orderHeld) → length now ≡ 4096
+        → now ≡ take a orderHeld ++ (flatten (grouped (count + 1) numbers nodes) ++ drop (a + (left - a)) orderHeld) → m .nodes ≤ length now
         → Renumbered (λ _. k) (take count begins) heads marked → length marked ≡ 4096
         → Holds m (stateAfter m (k + 1)) now (set marked end p) end
     holds-next small {nodes} {a} {end} {p = p₀} {now} marked nodesSame aSame endSame pSame regrouped nowLong mark markedLong =
@@ -395,7 +397,7 @@ module _ {m : Mesh} {orderHeld heads : List ℕ} {left : ℕ} (k : ℕ) (l : Las
         rw (add-one k, endSame, pSame, state-cut m k (l .next) (l .others) (l .whole))
         record {
           order =
-              stretch-other n orderHeld now (flatten rs) r (flatten chosen) other (l .order) (omega (arith, l .orderLong))
+              stretch-other n orderHeld now (flatten rs) r (flatten chosen) other (l .order) (l .orderLong)
               (omega (arith, ap length groups-nodes, length-append (flatten rest) part, part-rest))
               (regrouped ∙ ap₂ (λ (a e : ℕ). take a orderHeld ++ (flatten (grouped (count + 1) numbers nodes) ++ drop e orderHeld)) aSame stretch
               ∙ ap (λ (nodes : List ℕ). take start orderHeld ++ (flatten (grouped (count + 1) numbers nodes) ++ drop (start + length r) orderHeld)) nodesSame)
@@ -443,7 +445,7 @@ first-nodes m = same-length (flatten (firstRegions m)) (below (m .nodes)) (compo
 
 -- the components one after the other, each with no parent, are the state before the first step
 pub holds-begin : (m : Mesh) (orderHeld heads : List ℕ) → take (m .nodes) orderHeld ≡ flatten (firstRegions m)
-    → take (m .nodes) heads ≡ headsOf (firstRegions m) (replicate (length (firstRegions m)) noParent) → length orderHeld ≡ 4096 → length heads ≡ 4096
+    → take (m .nodes) heads ≡ headsOf (firstRegions m) (replicate (length (firstRegions m)) noParent) → m .nodes ≤ length orderHeld → length heads ≡ 4096
     → Holds m (stateAfter m 0) orderHeld heads (m .nodes)
 unfolding stateAfter steps begin
 holds-begin m orderHeld heads o h orderLong headsLong =
@@ -459,15 +461,9 @@ holds-begin m orderHeld heads o h orderLong headsLong =
       headsLong = headsLong;
     }
 
--- the nodes of a mesh, of a list that holds each number at its place
-pub first-below : (n : ℕ) (l : List ℕ) → ((i : ℕ) → i < 4096 → getD l i 0 ≡ i) → length l ≡ 4096 → n ≤ 4096 → take (n - 0) l ≡ below n
-first-below n l each long small =
-    let size : length (take (n - 0) l) ≡ n = length-take-le (n - 0) l (omega arith) ∙ omega arith in
-    ext-getD 0 (take (n - 0) l) (below n) (size ∙ sym (length-upFrom n 0))
-    (λ i h.
-    let lt : i < n - 0 = omega arith in
-    getD-take (n - 0) l i 0 lt ∙ each i (omega arith)
-    ∙ sym (sym (ap (λ (r : List ℕ). getD r i 0) (map-id (below n))) ∙ getD-map-below (λ i. i) 0 n i (omega arith)))
+-- the nodes of a mesh, at the front of a list that they are written to
+pub first-below : (n : ℕ) (found l : List ℕ) → l ≡ written (below n) found → take (n - 0) l ≡ below n
+first-below n found l e = rw sub-zero (front-written n (below n) found l e (length-upFrom n 0))
 
 -- where each of them is made fresh, all nodes are
 pub all-fresh : (n : ℕ) {nodes : List ℕ} (old new : List ℕ) → nodes ≡ below n → Renumbered (λ _. fresh) nodes old new → freshOf n new ≡ below n
@@ -521,7 +517,7 @@ module _ {m : Mesh} {numbers begins : List ℕ} {count : ℕ} (w : Whole m numbe
 
   -- what is left in the arrays is the state before the first step
   pub holds-first : m .nodes ≤ 4096 → {nodes now : List ℕ} (orderHeld old marked : List ℕ) → nodes ≡ below (m .nodes)
-      → now ≡ take 0 orderHeld ++ (flatten (grouped count numbers nodes) ++ drop (0 + m .nodes) orderHeld) → length now ≡ 4096
+      → now ≡ take 0 orderHeld ++ (flatten (grouped count numbers nodes) ++ drop (0 + m .nodes) orderHeld) → m .nodes ≤ length now
       → ((i : ℕ) → i < 4096 → getD old i 0 ≡ inner) → Renumbered (λ _. noParent) (take count begins) old marked → length marked ≡ 4096
       → Holds m (stateAfter m 0) now marked (m .nodes)
   holds-first small {nodes} {now} orderHeld old marked e regrouped nowLong free mark markedLong =

@@ -38,7 +38,7 @@ pub record Holds (m : Mesh) (s : State) (orderHeld heads : List ℕ) (left : ℕ
   pub order : take (m .nodes) orderHeld ≡ flatten (reverse (regionsOf (s .pending))) ++ flatten (s .chosen)
   pub marks : take (m .nodes) heads ≡ headsOf (reverse (regionsOf (s .pending))) (reverse (parentsOf (s .pending))) ++ headsOf (s .chosen) (s .parents)
   pub pending : left ≡ length (flatten (reverse (regionsOf (s .pending))))
-  pub orderLong : length orderHeld ≡ 4096
+  pub orderLong : m .nodes ≤ length orderHeld
   pub headsLong : length heads ≡ 4096
 
 -- what each step asks of the lent lists and arrays
@@ -55,7 +55,7 @@ pub record Dissected (m : Mesh) (orderHeld heads : List ℕ) (count : ℕ) : Typ
   pub marks : take (m .nodes) heads ≡ headsOf (parts (planned m)) (stateAfter m count .parents)
   pub parents : byNumber count (stateAfter m count .parents) ≡ parents (planned m)
   pub many : count ≡ length (parts (planned m))
-  pub orderLong : length orderHeld ≡ 4096
+  pub orderLong : m .nodes ≤ length orderHeld
   pub headsLong : length heads ≡ 4096
 
 -- how many places at the front are inner ones

@@ -58,10 +58,9 @@ pub fn write_parts(
 }
 
 // The order. O(n).
-pub fn write_order(n: usize, held: &[u16; 4096], order: &mut [u16])
-    requires { ⌜ (length (now held) ≡ 4096) × (n ≤ 4096) × (n ≤ length (now order)) ⌝ }
+pub fn write_order(n: usize, held: &[u16], order: &mut [u16])
+    requires { ⌜ (n ≤ length (now held)) × (n ≤ length (now order)) ⌝ }
     ensures { λ _. ⌜ now (order .exit) ≡ written (take n (now (held .entry))) (now (order .entry)) ⌝ }
 {
-    let all = &held[..];
-    copy(&all[0..n], order);
+    copy(&held[0..n], order);
 }

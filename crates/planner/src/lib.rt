@@ -25,7 +25,7 @@ ghost use Rattle.plan.specs.Dissection.{positions as positionsOf};
 ghost use Rattle.plan.specs.Elimination.{columns, startsOf};
 ghost use Rattle.theory.specs.Counting.{Order};
 ghost use Rattle.theory.specs.Checked.{Checked};
-ghost use Rattle.layout.specs.Arrays.{Ordered, Tree};
+ghost use Rattle.layout.specs.Arrays.{Tree};
 ghost use Rattle.planner.specs.Checked.{earlyChecks, FilledChecked};
 
 // The first refusal of checks 1 to 8, 0 for none. O(n + entries · log degree).
@@ -58,50 +58,55 @@ fn no_positions() -> [u16; 4096]
     [0; 4096]
 }
 
-// The positions, the elimination tree and the column counts of the order at the front of an array. O(n + slots + entries).
+// The elimination tree and the column counts of the order at the front of an array. `inverse` has the positions, since the lent buffers are not written yet. O(4,096 + slots + entries).
 fn count_columns(
     n: usize,
     starts: &[u32],
     neighbours: &[u16],
-    held: &[u16; 4096],
-    places: &mut [u16],
+    held: &[u16],
     tree: &mut [u16],
-    marks: &mut [u16],
     counts: &mut [u16],
 )
-    requires { ⌜ Checked (lent n (now starts) (now neighbours)) × (length (now held) ≡ 4096) × Order n (take n (now held)) ⌝ }
-    requires { ⌜ (n ≤ length (now places)) × (n ≤ length (now tree)) × (n ≤ length (now marks)) × (n ≤ length (now counts)) ⌝ }
-    ensures { λ _. ⌜ Ordered (lent n (now (starts .entry)) (now (neighbours .entry))) (take n (now (held .entry))) (now (places .exit)) ⌝ }
+    requires { ⌜ Checked (lent n (now starts) (now neighbours)) × (n ≤ length (now held)) × Order n (take n (now held)) ⌝ }
+    requires { ⌜ (n ≤ length (now tree)) × (n ≤ length (now counts)) ⌝ }
     ensures { λ _. ⌜ (take n (now (counts .exit)) ≡ map length (columns (lent n (now (starts .entry)) (now (neighbours .entry))) (take n (now (held .entry))))) × Tree (lent n (now (starts .entry)) (now (neighbours .entry))) (take n (now (held .entry))) (now (tree .exit)) ⌝ }
 {
-    let all = &held[..];
-    let nodes = &all[..n];
-    invert(nodes, places);
-    count_rows(n, starts, neighbours, nodes, places, tree, marks, counts);
+    let mut inverse = no_positions();
+    let mut marks = no_positions();
+    let nodes = &held[..n];
+    invert(nodes, &mut inverse);
+    count_rows(
+        n,
+        starts,
+        neighbours,
+        nodes,
+        &inverse,
+        tree,
+        &mut marks,
+        counts,
+    );
 }
 
-// The layout of the order at the front of an array: positions, column starts and rows. `places` are the same positions as working memory. O(4,096 + slots + entries + the ways up the elimination tree).
+// The layout of the order at the front of an array: positions, column starts and rows. O(4,096 + slots + entries + the ways up the elimination tree).
 fn lay_out(
     n: usize,
     starts: &[u32],
     neighbours: &[u16],
-    held: &[u16; 4096],
-    places: &[u16],
+    held: &[u16],
     tree: &[u16],
     counts: &[u16],
     positions: &mut [u16],
     columnStarts: &mut [u32],
     rows: &mut [u16],
 )
-    requires { ⌜ (length (now held) ≡ 4096) × Ordered (lent n (now starts) (now neighbours)) (take n (now held)) (now places) × (n ≤ length (now tree)) × Tree (lent n (now starts) (now neighbours)) (take n (now held)) (now tree) ⌝ }
+    requires { ⌜ Checked (lent n (now starts) (now neighbours)) × (n ≤ length (now held)) × Order n (take n (now held)) × (n ≤ length (now tree)) × Tree (lent n (now starts) (now neighbours)) (take n (now held)) (now tree) ⌝ }
     requires { ⌜ (n ≤ length (now counts)) × (take n (now counts) ≡ map length (columns (lent n (now starts) (now neighbours)) (take n (now held)))) ⌝ }
     requires { ⌜ (n ≤ length (now positions)) × (n < length (now columnStarts)) × (length (flatten (columns (lent n (now starts) (now neighbours)) (take n (now held)))) ≤ length (now rows)) ⌝ }
     ensures { λ _. ⌜ now (positions .exit) ≡ written (positionsOf n (take n (now (held .entry)))) (now (positions .entry)) ⌝ }
     ensures { λ _. ⌜ now (columnStarts .exit) ≡ written (startsOf (columns (lent n (now (starts .entry)) (now (neighbours .entry))) (take n (now (held .entry))))) (now (columnStarts .entry)) ⌝ }
     ensures { λ _. ⌜ now (rows .exit) ≡ written (flatten (columns (lent n (now (starts .entry)) (now (neighbours .entry))) (take n (now (held .entry))))) (now (rows .entry)) ⌝ }
 {
-    let all = &held[..];
-    let nodes = &all[..n];
+    let nodes = &held[..n];
     invert(nodes, positions);
     write_starts(n, counts, columnStarts);
     write_columns(
@@ -109,7 +114,7 @@ fn lay_out(
         starts,
         neighbours,
         nodes,
-        places,
+        positions,
         tree,
         columnStarts,
         rows,
@@ -134,35 +139,24 @@ fn plan_checked(
         (buffers (now (order .entry)) (now (positions .entry)) (now (sizes .entry)) (now (parents .entry)) (now (columnStarts .entry)) (now (rows .entry)))
         (buffers (now (order .exit)) (now (positions .exit)) (now (sizes .exit)) (now (parents .exit)) (now (columnStarts .exit)) (now (rows .exit))) ⌝ }
 {
-    let d = dissect(n, starts, neighbours);
-    let mut places = no_positions();
+    let mut held = no_positions();
+    let d = dissect(n, starts, neighbours, &mut held);
     let mut tree = no_positions();
-    let mut marks = no_positions();
     let mut counts = no_positions();
-    count_columns(
-        n,
-        starts,
-        neighbours,
-        &d.order,
-        &mut places,
-        &mut tree,
-        &mut marks,
-        &mut counts,
-    );
+    count_columns(n, starts, neighbours, &held, &mut tree, &mut counts);
     let totals = sum(n, &counts);
     let slots = totals.slots;
     if rows.len() < index(slots) {
         return PlanAnswer::Refused(9);
     }
     let count = d.parts;
-    write_order(n, &d.order, order);
+    write_order(n, &held, order);
     write_parts(n, &d.heads, count, sizes, parents);
     lay_out(
         n,
         starts,
         neighbours,
-        &d.order,
-        &places,
+        &held,
         &tree,
         &counts,
         positions,

@@ -23,27 +23,43 @@ nodes s = take (s .args .n) (s .args .held .now)
 long : (s : tie.Start) → length (nodes s) ≡ s .args .n
 long s = order-length (s .args .n) (nodes s) (s .pre .0 .2)
 
+-- the entry, seen from behind the nodes
+abbrev entry : tie.After-nodes → tie.Start
+entry c = c .before .before .before .before .before .before .before .before
+
 slice-aggregate-nodes : tie.Need-slice-aggregate-nodes
-slice-aggregate-nodes c = sym (long (c .before .before .before .before .before .before .before .before))
+slice-aggregate-nodes c = sym (long (entry c))
 
 invert-requires : tie.Need-invert-requires
 invert-requires c κs =
-    let s = c .before .before .before .before .before .before .before .before .before in
-    (order-own (s .args .n) (nodes s) (s .pre .0 .2), omega (arith, long s, s .pre .0 .0 .few), omega (arith, long s, s .pre .1 .0))
+    let s = entry (c .before) in
+    let few = s .pre .0 .0 .few in
+    (order-own (s .args .n) (nodes s) (s .pre .0 .2), omega (arith, long s, few), omega (arith, long s, few, c .before .before .before .no-positions .ensures))
 
 count-rows-requires : tie.Need-count-rows-requires
 count-rows-requires c κs =
-    let i = c .before .before .before .before .before .before in
-    let s = i .before .before .before .before .before .before .before .before .before .before in
-    let p = s .pre .1 in
-    (inverted (mesh s) (nodes s) (s .args .places .now) _ (s .pre .0 .0) (s .pre .0 .2) (i .invert .ensures), p .1, p .2, p .3)
-
-returns : tie.Need-returns
-returns c =
-    let r = c .before .before .before .before .before .before in
-    let i = r .before .before .before .before .before .before .before in
-    let s = i .before .before .before .before .before .before .before .before .before .before in
-    (inverted (mesh s) (nodes s) (s .args .places .now) _ (s .pre .0 .0) (s .pre .0 .2) (i .invert .ensures), r .count-rows .ensures)
+    let i = c .before .before .before .before .before in
+    let p = i .before .before .before in
+    let s = entry (i .before .before) in
+    let good = s .pre .0 .0 in (
+      inverted (mesh s) (nodes s) (p .before .no-positions .result) _ good (s .pre .0 .2) (i .invert .ensures),
+      s .pre .1 .0,
+      omega (arith, good .few, p .no-positions2 .ensures),
+      s .pre .1 .1,
+    )
 
 pub count-columns-spec : {M : Type 1} → statement M
-count-columns-spec = tie.close (tie.spec slice-aggregate-nodes invert-requires count-rows-requires (λ c. search needs) (λ c. search needs) (λ c. search needs) (λ c. search needs) returns)
+count-columns-spec =
+    tie.close
+    (tie.spec
+    (λ c κs. search needs)
+    (λ c κs. search needs)
+    slice-aggregate-nodes
+    (λ c. search needs)
+    invert-requires
+    (λ c. search needs)
+    (λ c. search needs)
+    count-rows-requires
+    (λ c. search needs)
+    (λ c. search needs)
+    (λ c. c .before .before .before .before .before .count-rows .ensures))

@@ -22,14 +22,14 @@ use Rattle.planner.proofs.plan_checked.Tie as tie
 
 -- where the function begins, and the mesh that is lent
 abbrev start : tie.After-dissect → tie.Start
-start d = d .before .before .before .before .before .before .before .before .before
+start d = d .before .before .before .before .before .before .before .before .before .before .before
 
 abbrev mesh : tie.After-dissect → Mesh
 mesh d = let a = start d .args in lent (a .n) (a .starts .now) (a .neighbours .now)
 
 -- the order and the heads in their arrays, and the number of parts
 abbrev held : tie.After-dissect → List ℕ
-held d = d .dissect .result .order
+held d = d .dissect .last .1 .1 .1 .0
 
 abbrev heads : tie.After-dissect → List ℕ
 heads d = d .dissect .result .heads
@@ -55,94 +55,113 @@ room d = enough-room (mesh d .nodes) (lengthsOf (found d)) (start d .pre .1)
 
 -- ---- the columns are counted
 
+dissect-requires : tie.Need-dissect-requires
+dissect-requires c κs = let p = c .before in let s = p .before .before .before .before .before .before .before .before .before in (s .pre .0, omega (arith, s .pre .0 .few, p .no-positions .ensures))
+
 count-columns-requires : tie.Need-count-columns-requires
 count-columns-requires c κs =
-    let p = c .before .before .before .before .before .before in
-    let d = p .before .before .before .before in
+    let p = c .before .before .before in
+    let d = p .before .before .before in
     let few = good d .few in (
       (good d, dissected d .orderLong, dissected-order (mesh d) (held d) (heads d) (count d) (dissected d)),
-      (
-        omega (arith, few, p .before .before .before .no-positions .ensures),
-        omega (arith, few, p .before .before .no-positions2 .ensures),
-        omega (arith, few, p .before .no-positions3 .ensures),
-        omega (arith, few, p .no-positions4 .ensures),
-      ),
+      (omega (arith, few, p .before .no-positions2 .ensures), omega (arith, few, p .no-positions3 .ensures)),
     )
 
 -- ---- what is known once the slots are summed
 
--- where the columns were counted, and where the mesh was dissected
-abbrev counted : tie.After-index → tie.After-count-columns
-counted i = i .before .before .before .before .before .before .before
+-- where they were summed, where the columns were counted, and where the mesh was dissected
+abbrev summed : tie.After-index → tie.After-sum
+summed i = i .before
 
-abbrev divided : tie.After-index → tie.After-dissect
-divided i = counted i .before .before .before .before .before .before .before .before .before .before .before
+abbrev counted : tie.After-sum → tie.After-count-columns
+counted t = t .before .before .before .before
+
+abbrev divided : tie.After-sum → tie.After-dissect
+divided t = counted t .before .before .before .before .before .before .before
 
 -- the counts are those of the columns
-counts : (i : tie.After-index) → let d = divided i in take (mesh d .nodes) (counted i .count-columns .last .1 .1 .1 .1 .1 .1 .1 .0) ≡ map length (columns (mesh d) (take (mesh d .nodes) (held d)))
-counts i = counted i .count-columns .ensures .1 .0
+counts : (t : tie.After-sum) → let d = divided t in take (mesh d .nodes) (counted t .count-columns .last .1 .1 .1 .1 .1 .0) ≡ map length (columns (mesh d) (take (mesh d .nodes) (held d)))
+counts t = counted t .count-columns .ensures .0
 
 -- the tree's array and the counts' are long enough
-tree-long : (i : tie.After-index) → mesh (divided i) .nodes ≤ length (counted i .count-columns .last .1 .1 .1 .1 .1 .0)
-tree-long i =
-    let k = counted i in
-    omega (arith, good (divided i) .few, k .count-columns .kept .1 .1 .1 .1 .1 .0, k .before .before .before .before .before .before .before .before .before .no-positions2 .ensures)
+tree-long : (t : tie.After-sum) → mesh (divided t) .nodes ≤ length (counted t .count-columns .last .1 .1 .1 .1 .0)
+tree-long t = let k = counted t in omega (arith, good (divided t) .few, k .count-columns .kept .1 .1 .1 .1 .0, k .before .before .before .before .before .no-positions2 .ensures)
 
-counts-long : (i : tie.After-index) → mesh (divided i) .nodes ≤ length (counted i .count-columns .last .1 .1 .1 .1 .1 .1 .1 .0)
-counts-long i =
-    let k = counted i in
-    omega (arith, good (divided i) .few, k .count-columns .kept .1 .1 .1 .1 .1 .1 .1 .0, k .before .before .before .before .before .before .before .no-positions4 .ensures)
+counts-long : (t : tie.After-sum) → mesh (divided t) .nodes ≤ length (counted t .count-columns .last .1 .1 .1 .1 .1 .0)
+counts-long t = let k = counted t in omega (arith, good (divided t) .few, k .count-columns .kept .1 .1 .1 .1 .1 .0, k .before .before .before .before .no-positions3 .ensures)
+
+index-requires : tie.Need-index-requires
+index-requires c κs = search needs
 
 -- the slots are the plan's
-slots : (i : tie.After-index) → i .index .result ≡ planOf (mesh (divided i)) .slots
+slots : (i : tie.After-index) → i .index .result ≡ planOf (mesh (divided (summed i))) .slots
 slots i =
-    let d = divided i in
-    i .index .ensures ∙ i .before .sum .ensures .0 ∙ counted-slots (mesh d) (good d) (held d) (heads d) (count d) (dissected d) _ (counts i)
+    let t = summed i in
+    let d = divided t in
+    i .index .ensures ∙ t .sum .ensures .0 ∙ counted-slots (mesh d) (good d) (held d) (heads d) (count d) (dissected d) _ (counts t)
 
 returns : tie.Need-returns
-returns c = let d = divided (c .before) in checked-refused (mesh d) (found d) (omega (arith, slots (c .before), c .if1 .taken))
+returns c = let d = divided (summed (c .before)) in checked-refused (mesh d) (found d) (omega (arith, slots (c .before), c .if1 .taken))
 
 -- ---- the plan is written
 
+slice-aggregate-write-order : tie.Need-slice-aggregate-write-order
+slice-aggregate-write-order c = search needs
+
 write-order-requires : tie.Need-write-order-requires
-write-order-requires c κs = let d = divided (c .before .before .before .before) in (dissected d .orderLong, good d .few, room d .order)
+write-order-requires c κs = let d = divided (summed (c .before .before .before)) in (omega (arith, dissected d .orderLong), omega (arith, room d .order))
+
+-- where the rows were found long enough, seen from the call of `write_parts`, and from there `write_order`
+abbrev enough : tie.After-write-parts-arg3 → tie.Else1
+enough c = c .before .before .before .before .before .before .before .before .before
+
+abbrev ordered : tie.After-write-parts-arg3 → tie.After-write-order
+ordered c = c .before .before .before .before .before .before
+
+-- `write_parts` from behind `lay_out`
+abbrev parted : tie.After-lay-out → tie.After-write-parts
+parted c = c .before .before .before .before .before .before .before .before .before .before .before
+
+-- where the slots were summed, from there
+abbrev total : tie.After-write-parts → tie.After-sum
+total p = summed (enough (p .before) .before)
 
 write-parts-requires : tie.Need-write-parts-requires
 write-parts-requires c κs =
-    let d = divided (c .before .before .before .before .before .before .before .before .before .before .before) in
+    let d = divided (summed (enough c .before)) in
     let few : count d ≤ mesh d .nodes = parts-within (mesh d) (held d) (heads d) (count d) (dissected d) in
     (dissected d .headsLong, good d .few, dissected-parts (mesh d) (good d) (held d) (heads d) (count d) (dissected d) .0, omega (arith, few, room d .sizes), omega (arith, few, room d .parents))
 
 lay-out-requires : tie.Need-lay-out-requires
 lay-out-requires c κs =
-    let e = c .before .before .before .before .before .before .before .before .before .before .before .before .before .before .before .before .before .before .before .before .before .before .before in
-    let i = e .before in
-    let d = divided i in
-    let k = counted i in
+    let p = c .before .before .before .before .before .before .before .before .before .before in
+    let e = enough (p .before) in
+    let t = total p in
+    let d = divided t in
     let fit : length (flatten (columns (mesh d) (take (mesh d .nodes) (held d)))) ≤ length (found d .rows) =
-    omega (arith, held-slots (mesh d) (good d) (held d) (heads d) (count d) (dissected d), slots i, e .if1 .left) in (
-      (dissected d .orderLong, k .count-columns .ensures .0, tree-long i, k .count-columns .ensures .1 .1),
-      ((counts-long i, counts i), (room d .positions, room d .columnStarts, fit)),
+    omega (arith, held-slots (mesh d) (good d) (held d) (heads d) (count d) (dissected d), slots (e .before), e .if1 .left) in (
+      (good d, dissected d .orderLong, dissected-order (mesh d) (held d) (heads d) (count d) (dissected d), tree-long t, counted t .count-columns .ensures .1),
+      ((counts-long t, counts t), (room d .positions, room d .columnStarts, fit)),
     )
 
 cast-new : tie.Need-cast-new
-cast-new c = let d = divided (c .before .before .before .before .before .before .before .before .before .before .before .before .before .before .before .before .before .before .before .before .before .before .before .before .before .before .before .before .before .before .before) in omega (arith, good d .few)
+cast-new c = omega (arith, good (divided (total (parted (c .before .before .before .before .before .before)))) .few)
 
 cast-new-2 : tie.Need-cast-new-2
-cast-new-2 c = let d = divided (c .before .before .before .before .before .before .before .before .before .before .before .before .before .before .before .before .before .before .before .before .before .before .before .before .before .before .before .before .before .before .before) in omega (arith, good d .few, parts-within (mesh d) (held d) (heads d) (count d) (dissected d))
+cast-new-2 c = let d = divided (total (parted (c .before .before .before .before .before .before))) in omega (arith, good d .few, parts-within (mesh d) (held d) (heads d) (count d) (dissected d))
 
 returns-2 : tie.Need-returns-2
 unfolding handOut fill heldPlan
 returns-2 c =
     let l = c .before .before .before .before .before .before .before in
-    let p = l .before .before .before .before .before .before .before .before .before .before .before .before .before in
-    let o = p .before .before .before .before .before .before .before in
-    let e = o .before .before .before .before in
-    let i = e .before in
-    let d = divided i in
-    checked-accepted (mesh d) (good d) (held d) (heads d) (count d) (dissected d) (Accepted (c .new .result)) (found d) _ (omega (arith, slots i, e .if1 .left))
+    let p = parted l in
+    let o = ordered (p .before) in
+    let e = enough (p .before) in
+    let t = total p in
+    let d = divided t in
+    checked-accepted (mesh d) (good d) (held d) (heads d) (count d) (dissected d) (Accepted (c .new .result)) (found d) _ (omega (arith, slots (e .before), e .if1 .left))
     (record {
-      reply = held-reply (mesh d) (held d) (heads d) (count d) _ (i .before .sum .result .slots) (i .before .sum .result .multiplications) (c .new .result) (counts i) (i .before .sum .ensures .0) (i .before .sum .ensures .1) (c .new .ensures);
+      reply = held-reply (mesh d) (held d) (heads d) (count d) _ (t .sum .result .slots) (t .sum .result .multiplications) (c .new .result) (counts t) (t .sum .ensures .0) (t .sum .ensures .1) (c .new .ensures);
       order = o .write-order .ensures;
       positions = l .lay-out .ensures .0;
       sizes = p .write-parts .ensures .0;
@@ -156,19 +175,19 @@ plan-checked-spec =
     tie.close
     (tie.spec
     (λ c κs. search needs)
-    (λ c κs. search needs)
-    (λ c κs. search needs)
-    (λ c κs. search needs)
-    (λ c κs. search needs)
     (λ c. search needs)
+    dissect-requires
+    (λ c κs. search needs)
+    (λ c κs. search needs)
     (λ c. search needs)
     (λ c. search needs)
     (λ c. search needs)
     count-columns-requires
     (λ c. search needs)
     (λ c κs. search needs)
-    (λ c κs. search needs)
+    index-requires
     returns
+    slice-aggregate-write-order
     write-order-requires
     write-parts-requires
     (λ c. search needs)
