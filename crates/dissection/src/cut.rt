@@ -5,17 +5,16 @@ use crate::levels::fill;
 use crate::levels::label;
 use crate::root::search;
 use mesh::list;
-use mesh::node;
+use mesh::wide;
 ghost use mathlib.Core.Path.{_≡_};
 ghost use mathlib.Core.Bool.{cond};
 ghost use Prim.Native.Nat.{_≤_, _<_};
 ghost use lib.Dec.{eqb};
 ghost use lib.ListN.{length, getD};
 ghost use Rattle.plan.specs.Lists.{exists};
-ghost use Rattle.plan.specs.Mesh.{neighboursOf};
+ghost use Rattle.plan.specs.Mesh.{lent, neighboursOf};
 ghost use Rattle.plan.specs.Choice.{rootOf};
 ghost use Rattle.theory.specs.Checked.{Checked};
-ghost use Rattle.mesh.specs.Lent.{lent};
 ghost use Rattle.dissection.specs.Numbers.{outside, Within, NumberedBy, Renumbered};
 ghost use Rattle.dissection.specs.Standing.{Regional, Standing, restFresh, partNumbered, separatesAt, Parted, Divided};
 ghost use Rattle.dissection.specs.Rooted.{Rooted};
@@ -27,7 +26,7 @@ fn next_to(n: usize, starts: &[u32], neighbours: &[u16], v: usize, x: u16, numbe
 {
     let entries = list(starts, neighbours, v);
     for k in 0..entries.len() {
-        if numbers[node(entries[k])] == x {
+        if numbers[wide(entries[k])] == x {
             return true;
         }
     }
@@ -77,7 +76,7 @@ fn separate(
     ensures { λ _. ⌜ NumberedBy (λ v. cond (separatesAt (lent n (now (starts .entry)) (now (neighbours .entry))) j (now (numbers .entry)) v) outside (getD (now (numbers .entry)) v 0)) (now (nodes .entry)) (now (numbers .entry)) (now (numbers .exit)) ⌝ }
 {
     for i in 0..nodes.len() {
-        let v = node(nodes[i]);
+        let v = wide(nodes[i]);
         numbers[v] = separated(n, starts, neighbours, v, j, numbers);
     }
 }
@@ -98,7 +97,7 @@ fn refresh_rest(nodes: &[u16], numbers: &mut [u16])
     ensures { λ _. ⌜ Renumbered restFresh (now (nodes .entry)) (now (numbers .entry)) (now (numbers .exit)) ⌝ }
 {
     for i in 0..nodes.len() {
-        let v = node(nodes[i]);
+        let v = wide(nodes[i]);
         numbers[v] = rest_fresh(numbers[v]);
     }
 }
@@ -119,7 +118,7 @@ fn number_part(nodes: &[u16], k: u16, numbers: &mut [u16])
     ensures { λ _. ⌜ Renumbered (partNumbered k) (now (nodes .entry)) (now (numbers .entry)) (now (numbers .exit)) ⌝ }
 {
     for i in 0..nodes.len() {
-        let v = node(nodes[i]);
+        let v = wide(nodes[i]);
         numbers[v] = part_numbered(k, numbers[v]);
     }
 }

@@ -1,7 +1,7 @@
 // Levels from a root and connected components, over lent arrays. Each node has a number: `FRESH` in the set at hand while it is not reached;
 // any other number keeps a walk out.
 use mesh::list;
-use mesh::node;
+use mesh::wide;
 ghost use mathlib.Core.Path.{_≡_};
 ghost use mathlib.Core.Logic.{_⊎_};
 ghost use mathlib.Core.Bool.{true};
@@ -9,9 +9,8 @@ ghost use Prim.Native.Nat.{ℕ, _+_, _≤_, _<_};
 ghost use lib.Dec.{eqb};
 ghost use lib.ListN.{length, getD};
 ghost use Rattle.plan.specs.Lists.{exists, isIn, segment};
-ghost use Rattle.plan.specs.Mesh.{adjacent};
+ghost use Rattle.plan.specs.Mesh.{lent, adjacent};
 ghost use Rattle.theory.specs.Checked.{Checked};
-ghost use Rattle.mesh.specs.Lent.{lent};
 ghost use Rattle.dissection.specs.Numbers.{fresh, freshOf, Within, Renumbered, Walked, Skipped, Taken, Labelled};
 ghost use Rattle.dissection.specs.Spread.{Spread, Room};
 
@@ -25,7 +24,7 @@ fn touch(n: usize, w: u16, x: u16, numbers: &mut [u16], queue: &mut [u16], tail:
     requires { ⌜ (w < n) × (x < fresh) × Room n (now numbers) (now queue) tail ⌝ }
     ensures { λ r. ⌜ Spread n x tail (now (numbers .entry)) (now (queue .entry)) (λ v. eqb v w) (now (numbers .exit)) (now (queue .exit)) r ⌝ }
 {
-    let v = node(w);
+    let v = wide(w);
     if numbers[v] != FRESH {
         return tail;
     }
@@ -77,7 +76,7 @@ fn advance(
             n,
             starts,
             neighbours,
-            node(queue[k]),
+            wide(queue[k]),
             x,
             numbers,
             queue,
@@ -105,7 +104,7 @@ pub fn walk(
     requires { ⌜ Checked (lent n (now starts) (now neighbours)) × (root < n) × (getD (now numbers) root 0 ≡ fresh) × (n ≤ length (now numbers)) × (n ≤ length (now queue)) ⌝ }
     ensures { λ r. ⌜ Walked n (adjacent (lent n (now (starts .entry)) (now (neighbours .entry)))) (freshOf n (now (numbers .entry))) root (now (numbers .entry)) (now (numbers .exit)) (now (queue .exit)) (r .last) (r .reached) ⌝ }
 {
-    let first = node(root);
+    let first = wide(root);
     numbers[first] = 0;
     queue[0] = root;
     let mut last: u16 = 0;
@@ -129,7 +128,7 @@ pub fn fill(nodes: &[u16], x: u16, numbers: &mut [u16])
     ensures { λ _. ⌜ Renumbered (λ _. x) (now (nodes .entry)) (now (numbers .entry)) (now (numbers .exit)) ⌝ }
 {
     for i in 0..nodes.len() {
-        let v = node(nodes[i]);
+        let v = wide(nodes[i]);
         numbers[v] = x;
     }
 }
@@ -150,7 +149,7 @@ fn component(
     requires { ⌜ (getD (now numbers) v 0 ≡ fresh → count < n) × (getD (now begins) count 0 ≤ n + n) ⌝ }
     ensures { λ r. ⌜ Skipped v (now (numbers .entry)) (now (numbers .exit)) (now (begins .entry)) (now (begins .exit)) count r ⊎ Taken n (adjacent (lent n (now (starts .entry)) (now (neighbours .entry)))) v (now (numbers .entry)) (now (numbers .exit)) (now (begins .entry)) (now (begins .exit)) count r ⌝ }
 {
-    if numbers[node(v)] != FRESH {
+    if numbers[wide(v)] != FRESH {
         return count;
     }
     let r = walk(n, starts, neighbours, v, numbers, queue);

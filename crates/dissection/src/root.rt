@@ -4,7 +4,7 @@ use crate::levels::OUTSIDE;
 use crate::levels::fill;
 use crate::levels::label;
 use crate::levels::walk;
-use mesh::node;
+use mesh::wide;
 ghost use mathlib.Core.Path.{_≡_};
 ghost use mathlib.Core.Bool.{true};
 ghost use mathlib.Core.Logic.{_≢_};
@@ -12,9 +12,9 @@ ghost use mathlib.Core.List.{List, [], headD};
 ghost use Prim.Native.Nat.{ℕ, _≤_, _<_};
 ghost use lib.ListN.{length, take, getD};
 ghost use Rattle.plan.specs.Lists.{isIn, keep};
+ghost use Rattle.plan.specs.Mesh.{lent};
 ghost use Rattle.plan.specs.Choice.{degreeIn, candidates as candidatesOf, improves, nextRoot, rootOf};
 ghost use Rattle.theory.specs.Checked.{Checked};
-ghost use Rattle.mesh.specs.Lent.{lent};
 ghost use Rattle.dissection.specs.Numbers.{Within, Only, Renumbered, grouped};
 ghost use Rattle.dissection.specs.Standing.{Regional, Standing, onlyLevel};
 ghost use Rattle.dissection.specs.Rooted.{none, betterOf, bestOf, Bests, Compared, Rooted, Better};
@@ -38,7 +38,7 @@ fn keep_level(nodes: &[u16], last: u16, numbers: &mut [u16])
     ensures { λ _. ⌜ Renumbered (onlyLevel last) (now (nodes .entry)) (now (numbers .entry)) (now (numbers .exit)) ⌝ }
 {
     for i in 0..nodes.len() {
-        let v = node(nodes[i]);
+        let v = wide(nodes[i]);
         numbers[v] = only_level(last, numbers[v]);
     }
 }
@@ -48,7 +48,7 @@ fn degree(n: usize, starts: &[u32], neighbours: &[u16], v: u16) -> u32
     requires { ⌜ Checked (lent n (now starts) (now neighbours)) × (v < n) ⌝ }
     ensures { λ r. ⌜ ((region : List ℕ) → r ≡ degreeIn (lent n (now (starts .entry)) (now (neighbours .entry))) region v) ⌝ }
 {
-    let u = node(v);
+    let u = wide(v);
     starts[u + 1] - starts[u]
 }
 
@@ -79,7 +79,7 @@ fn compare(
     requires { ⌜ Checked (lent n (now starts) (now neighbours)) × (v < n) × (n ≤ length (now numbers)) × (count ≤ length (now best)) × Bests n count (now best) ⌝ }
     ensures { λ _. ⌜ ((region : List ℕ) → Compared (degreeIn (lent n (now (starts .entry)) (now (neighbours .entry))) region) v (now (numbers .entry)) count (now (best .entry)) (now (best .exit))) ⌝ }
 {
-    let c = node(numbers[node(v)]);
+    let c = wide(numbers[wide(v)]);
     if c >= count {
         return;
     }

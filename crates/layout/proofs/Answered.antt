@@ -17,7 +17,7 @@ use Rattle.theory.proofs.Bools.{cond-true, cond-false}
 use Rattle.theory.proofs.Lists.{isIn-head}
 use Rattle.theory.proofs.Checked.{node-count}
 use Rattle.theory.proofs.ColumnRule.{good-column, good-columns}
-use Rattle.mesh.specs.Lent.{ListWithin}
+use Rattle.mesh.specs.Lists.{ListWithin}
 use Rattle.mesh.proofs.Lists.{good-starts-within}
 use Rattle.layout.proofs.Asked.{GoodLayout, layout-fault, position-fault, no-question-fault, good-question}
 

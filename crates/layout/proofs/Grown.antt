@@ -13,8 +13,8 @@ use Rattle.plan.specs.Elimination.{column, columns, startsOf}
 use Rattle.theory.proofs.Ranges.{upFrom-snoc}
 use Rattle.theory.proofs.Flatten.{flatten-append, flatten-nil, flatten-cons}
 use Rattle.theory.proofs.Compressed.{sums-first, sums-next, sums-length}
-use Rattle.theory.proofs.Slots.{counts-length, column-number}
-use Rattle.mesh.specs.Lent.{ListWithin}
+use Rattle.theory.proofs.Slots.{column-counts-length, column-number}
+use Rattle.mesh.specs.Lists.{ListWithin}
 use Rattle.layout.specs.Arrays.{rowsBefore}
 
 module _ (m : Mesh) (order : List ℕ) where
@@ -65,7 +65,7 @@ module _ (m : Mesh) (order : List ℕ) where
   starts-rows zero le = simp append-nil at (sums-first 0 (map length (columns m order)) []) ∙ sym (ap length (flatten-nil {A = ℕ}))
   starts-rows (suc j) le =
       let next : getD (runningSums 0 (map length (columns m order))) (j + 1) 0 ≡ getD (runningSums 0 (map length (columns m order))) j 0 + getD (map length (columns m order)) j 0 =
-      simp append-nil at (sums-next 0 (map length (columns m order)) [] j (omega (arith, counts-length m order))) in
+      simp append-nil at (sums-next 0 (map length (columns m order)) [] j (omega (arith, column-counts-length m order))) in
       let size : getD (map length (columns m order)) j 0 ≡ length (column m order j) = List·getD-map length (columns m order) j [] ∙ ap length (column-number m order j le) in
       subst (λ (k : ℕ). getD (startsOf (columns m order)) k 0 ≡ length (rowsBefore m order k)) (add-one j)
       (omega (arith, next, size, starts-rows j (omega arith), ap length (rows-more j), length-append (rowsBefore m order j) (column m order j)))
@@ -74,7 +74,7 @@ module _ (m : Mesh) (order : List ℕ) where
     -- there is one behind the last column
     pub starts-long : m .nodes < length columnStarts
     unfolding startsOf
-    starts-long = omega (arith, ap length s, length-take (m .nodes + 1) columnStarts, sums-length 0 (map length (columns m order)), counts-length m order)
+    starts-long = omega (arith, ap length s, length-take (m .nodes + 1) columnStarts, sums-length 0 (map length (columns m order)), column-counts-length m order)
 
     -- and so it is in the array
     pub start-at : (j : ℕ) → j ≤ m .nodes → getD columnStarts j 0 ≡ length (rowsBefore m order j)

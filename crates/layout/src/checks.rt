@@ -1,6 +1,6 @@
 // Checks that several entry points make: 8, of the lent results, and 17's rule of the columns of a layout.
 use mesh::list;
-use mesh::node;
+use mesh::wide;
 ghost use mathlib.Core.Path.{_≡_};
 ghost use mathlib.Core.Bool.{false};
 ghost use Prim.Native.Nat.{_≤_};
@@ -41,7 +41,7 @@ pub fn bad_column(n: usize, j: usize, column: &[u16]) -> bool
 {
     let mut before = j;
     for k in 0..column.len() {
-        let i = node(column[k]);
+        let i = wide(column[k]);
         if i <= before {
             return true;
         }

@@ -2,7 +2,7 @@
 use crate::positions::NONE;
 use mesh::index;
 use mesh::list;
-use mesh::node;
+use mesh::wide;
 ghost use mathlib.Core.Path.{_≡_};
 ghost use mathlib.Core.Bool.{true, cond};
 ghost use mathlib.Core.List.{flatten};
@@ -10,8 +10,9 @@ ghost use Prim.Native.Nat.{ℕ, _+_, _≤_, _<_};
 ghost use lib.Dec.{eqb};
 ghost use lib.ListN.{length, take, set, getD};
 ghost use Rattle.plan.specs.Lists.{written, isIn, listAt};
+ghost use Rattle.plan.specs.Mesh.{lent};
 ghost use Rattle.plan.specs.Elimination.{columns, startsOf};
-ghost use Rattle.mesh.specs.Lent.{lent, ListWithin};
+ghost use Rattle.mesh.specs.Lists.{ListWithin};
 ghost use Rattle.layout.specs.Arrays.{none, Ordered, Tree, Rising, Children, Marked, Unmarked, neighbourPosition, childRow, markedBelow, Meets, rowsBefore};
 
 // Column c is put before the children of its parent, where it has one. `n` is for the contract alone. O(1).
@@ -23,8 +24,8 @@ fn link(n: usize, c: usize, tree: &[u16], first: &mut [u16], next: &mut [u16])
     if p == NONE {
         return;
     }
-    next[c] = first[node(p)];
-    first[node(p)] = c as u16;
+    next[c] = first[wide(p)];
+    first[wide(p)] = c as u16;
 }
 
 // The children of each column in the elimination tree, the greatest first. `first` is lent with none at every place. O(n).
@@ -51,9 +52,9 @@ fn mark_neighbours(
     requires { ⌜ Ordered (lent n (now starts) (now neighbours)) (now order) (now positions) × (j < n) × (n ≤ length (now marks)) ⌝ }
     ensures { λ _. ⌜ Marked j (neighbourPosition (lent n (now (starts .entry)) (now (neighbours .entry))) (now (order .entry)) (now (positions .entry)) j) (now (marks .entry)) (now (marks .exit)) ⌝ }
 {
-    let entries = list(starts, neighbours, node(order[j]));
+    let entries = list(starts, neighbours, wide(order[j]));
     for e in 0..entries.len() {
-        marks[node(positions[node(entries[e])])] = j as u16;
+        marks[wide(positions[wide(entries[e])])] = j as u16;
     }
 }
 
@@ -63,7 +64,7 @@ fn mark_rows(rows: &[u16], j: u16, marks: &mut [u16])
     ensures { λ _. ⌜ Marked j (λ i. isIn i (now (rows .entry))) (now (marks .entry)) (now (marks .exit)) ⌝ }
 {
     for e in 0..rows.len() {
-        marks[node(rows[e])] = j;
+        marks[wide(rows[e])] = j;
     }
 }
 
@@ -84,8 +85,8 @@ fn mark_children(
 {
     let mut c = first[j];
     while c != NONE {
-        mark_rows(list(columnStarts, rows, node(c)), j as u16, marks);
-        c = next[node(c)];
+        mark_rows(list(columnStarts, rows, wide(c)), j as u16, marks);
+        c = next[wide(c)];
     }
 }
 
@@ -94,7 +95,7 @@ fn put(k: u16, j: u16, marks: &[u16], at: usize, rows: &mut [u16]) -> usize
     requires { ⌜ (k < length (now marks)) × (at < length (now rows)) ⌝ }
     ensures { λ r. ⌜ (r ≡ cond (eqb (getD (now (marks .entry)) k 0) j) (at + 1) at) × (now (rows .exit) ≡ cond (eqb (getD (now (marks .entry)) k 0) j) (set (now (rows .entry)) at k) (now (rows .entry))) ⌝ }
 {
-    if marks[node(k)] != j {
+    if marks[wide(k)] != j {
         return at;
     }
     rows[at] = k;
@@ -111,7 +112,7 @@ fn write_column(n: usize, j: u16, count: usize, tree: &[u16], marks: &[u16], row
     let mut k = j;
     let mut at: usize = 0;
     while at < count {
-        k = tree[node(k)];
+        k = tree[wide(k)];
         at = put(k, j, marks, at, rows);
     }
 }

@@ -2,7 +2,7 @@
 // its earlier neighbours.
 use crate::positions::NONE;
 use mesh::list;
-use mesh::node;
+use mesh::wide;
 ghost use mathlib.Core.Path.{_≡_};
 ghost use mathlib.Core.Bool.{cond};
 ghost use mathlib.Core.List.{map};
@@ -10,8 +10,8 @@ ghost use Prim.Native.Nat.{ℕ, _+_, _≤_, _<_};
 ghost use lib.Dec.{eqb};
 ghost use lib.ListN.{length, take, getD};
 ghost use Rattle.plan.specs.Lists.{total, runningSums, written};
+ghost use Rattle.plan.specs.Mesh.{lent};
 ghost use Rattle.plan.specs.Elimination.{columns, multiplications};
-ghost use Rattle.mesh.specs.Lent.{lent};
 ghost use Rattle.layout.specs.Arrays.{none, Ordered, CountedBelow, Tree, Unmarked};
 ghost use Rattle.layout.specs.Climbing.{Climbable, Climbed};
 
@@ -34,13 +34,13 @@ fn climb(i: u16, start: u16, tree: &mut [u16], marks: &mut [u16], counts: &mut [
     if start > i {
         return;
     }
-    let mut k = node(start);
+    let mut k = wide(start);
     while marks[k] != i {
         let p = parent_of(tree[k], i);
         tree[k] = p;
         marks[k] = i;
         counts[k] += 1;
-        k = node(p);
+        k = wide(p);
     }
 }
 
@@ -61,9 +61,9 @@ fn count_row(
     ensures { λ _. ⌜ CountedBelow (lent n (now (starts .entry)) (now (neighbours .entry))) (now (order .entry)) (i + 1) (now (tree .exit)) (now (counts .exit)) × Unmarked n (i + 1) (now (marks .exit)) ⌝ }
 {
     marks[i] = i as u16;
-    let entries = list(starts, neighbours, node(order[i]));
+    let entries = list(starts, neighbours, wide(order[i]));
     for e in 0..entries.len() {
-        climb(i as u16, positions[node(entries[e])], tree, marks, counts);
+        climb(i as u16, positions[wide(entries[e])], tree, marks, counts);
     }
 }
 

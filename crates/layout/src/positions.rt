@@ -1,5 +1,5 @@
 // The positions of the nodes in an order, and the number that is none.
-use mesh::node;
+use mesh::wide;
 ghost use mathlib.Core.Path.{_≡_};
 ghost use Prim.Native.Nat.{_≤_};
 ghost use lib.ListN.{length};
@@ -16,7 +16,7 @@ pub fn invert(order: &[u16], positions: &mut [u16])
     ensures { λ _. ⌜ now (positions .exit) ≡ written (positionsOf (length (now (order .entry))) (now (order .entry))) (now (positions .entry)) ⌝ }
 {
     for i in 0..order.len() {
-        let v = node(order[i]);
+        let v = wide(order[i]);
         positions[v] = i as u16;
     }
 }

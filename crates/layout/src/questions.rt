@@ -6,7 +6,7 @@ use mesh::bad_starts;
 use mesh::index;
 use mesh::list;
 use mesh::lower_bound;
-use mesh::node;
+use mesh::wide;
 use plan::PairAnswer;
 use plan::Span;
 ghost use mathlib.Core.Path.{_≡_};
@@ -16,7 +16,7 @@ ghost use Rattle.plan.specs.Refusals.{firstFault};
 ghost use Rattle.plan.specs.Answers.{accepted, pairReply};
 ghost use Rattle.plan.specs.Mesh.{badNodeCount};
 ghost use Rattle.plan.specs.Questions.{badLayout, layoutChecks, slotOf, pairQuestion, columnRefusal, columnSpan, columnRows};
-ghost use Rattle.mesh.specs.Lent.{ListWithin};
+ghost use Rattle.mesh.specs.Lists.{ListWithin};
 
 // Check 22: the starts are not those of n columns, the last is above the rows' length, or a column breaks 17's rule. O(n + slots).
 fn bad_layout(n: usize, columnStarts: &[u32], rows: &[u16]) -> bool
@@ -55,7 +55,7 @@ fn slot(columnStarts: &[u32], rows: &[u16], i: usize, j: usize) -> PairAnswer
     if k == column.len() {
         return PairAnswer::NoSlot;
     }
-    if node(column[k]) != i {
+    if wide(column[k]) != i {
         return PairAnswer::NoSlot;
     }
     PairAnswer::Slot(columnStarts[j] + k as u32)

@@ -13,8 +13,8 @@ use Rattle.theory.proofs.Bools.{eq-or-ne, lt-or-le}
 use Rattle.theory.proofs.Lists.{none-exists, getD-indexOf, indexOf-le}
 use Rattle.theory.proofs.Ranges.{isIn-below}
 use Rattle.theory.proofs.Ascending.{ascending-getD}
-use Rattle.mesh.specs.Lent.{LowerBound}
-use Rattle.mesh.proofs.Scans.{elementAt, found-in, none-in}
+use Rattle.mesh.specs.Lists.{LowerBound}
+use Rattle.theory.proofs.Scans.{elementAt, found-in, none-in}
 
 -- each element before `low` is less than x, and none from `high` on is
 pub record Bracket (l : List ℕ) (x low high : ℕ) : Type 0 where

@@ -1,3 +1,2 @@
-pub mod Scans
 pub mod Bisection
 pub mod Lists

@@ -12,7 +12,7 @@ use Rattle.theory.specs.Checked.{Starts, Checked}
 use Rattle.theory.proofs.Ascending.{falls-getD}
 use Rattle.theory.proofs.Checked.{good-starts, mesh-starts}
 use Rattle.theory.proofs.Lists.{isIn-getD}
-use Rattle.mesh.specs.Lent.{ListWithin}
+use Rattle.mesh.specs.Lists.{ListWithin}
 
 -- each of n lists lies within the entries, by their starts
 pub starts-within : (n : ℕ) (starts entries : List ℕ) → Starts n starts → getD starts n 0 ≤ length entries → (v : ℕ) → v < n → ListWithin starts entries v

@@ -6,18 +6,18 @@ ghost use mathlib.Core.List.{List};
 ghost use Prim.Native.Nat.{ℕ};
 ghost use Rattle.plan.specs.Lists.{isIn, listAt, ascending, falls};
 ghost use Rattle.plan.specs.Refusals.{firstFault};
-ghost use Rattle.plan.specs.Mesh.{badNodeCount, badStarts, badMeshStarts, tooManyEntries, neighbourOutside, listsItself, notAscending, oneSided, meshChecks};
-ghost use Rattle.mesh.specs.Lent.{lent, ListWithin, LowerBound};
+ghost use Rattle.plan.specs.Mesh.{lent, badNodeCount, badStarts, badMeshStarts, tooManyEntries, neighbourOutside, listsItself, notAscending, oneSided, meshChecks};
+ghost use Rattle.mesh.specs.Lists.{ListWithin, LowerBound};
 
-// A start as an index. O(1).
+// A number of 32 bits, a start or a count, as an index. O(1).
 pub fn index(x: u32) -> usize
     ensures { λ r. ⌜ r ≡ x ⌝ }
 {
     x as usize
 }
 
-// An entry of a list as a node. O(1).
-pub fn node(x: u16) -> usize
+// A number of 16 bits, a node, a position, a part or a size, as an index. O(1).
+pub fn wide(x: u16) -> usize
     ensures { λ r. ⌜ r ≡ x ⌝ }
 {
     x as usize
@@ -79,7 +79,7 @@ fn neighbour_outside(n: usize, neighbours: &[u16]) -> bool
     ensures { λ r. ⌜ ((starts : List ℕ) → r ≡ neighbourOutside (lent n starts (now (neighbours .entry)))) ⌝ }
 {
     for k in 0..neighbours.len() {
-        if node(neighbours[k]) >= n {
+        if wide(neighbours[k]) >= n {
             return true;
         }
     }
@@ -101,7 +101,7 @@ pub fn contains(entries: &[u16], x: usize) -> bool
     ensures { λ r. ⌜ r ≡ isIn x (now (entries .entry)) ⌝ }
 {
     for k in 0..entries.len() {
-        if node(entries[k]) == x {
+        if wide(entries[k]) == x {
             return true;
         }
     }
@@ -122,7 +122,7 @@ fn lists_itself(n: usize, starts: &[u32], neighbours: &[u16]) -> bool
 }
 
 // Whether each entry of a list is greater than the one before it. O(length).
-fn rising(entries: &[u16]) -> bool
+fn ascends(entries: &[u16]) -> bool
     ensures { λ r. ⌜ r ≡ ascending (now (entries .entry)) ⌝ }
 {
     for i in 1..entries.len() {
@@ -139,7 +139,7 @@ fn not_ascending(n: usize, starts: &[u32], neighbours: &[u16]) -> bool
     ensures { λ r. ⌜ r ≡ notAscending (lent n (now (starts .entry)) (now (neighbours .entry))) ⌝ }
 {
     for v in 0..n {
-        if !rising(list(starts, neighbours, v)) {
+        if !ascends(list(starts, neighbours, v)) {
             return true;
         }
     }
@@ -155,7 +155,7 @@ pub fn lower_bound(entries: &[u16], x: usize) -> usize
     let mut high = entries.len();
     while low < high {
         let middle = low + (high - low) / 2;
-        if node(entries[middle]) < x {
+        if wide(entries[middle]) < x {
             low = middle + 1;
         } else {
             high = middle;
@@ -165,7 +165,7 @@ pub fn lower_bound(entries: &[u16], x: usize) -> usize
 }
 
 // Whether x stands in an ascending list. O(log length).
-fn bisect(entries: &[u16], x: usize) -> bool
+fn contains_sorted(entries: &[u16], x: usize) -> bool
     requires { ⌜ ascending (now entries) ≡ true ⌝ }
     ensures { λ r. ⌜ r ≡ isIn x (now (entries .entry)) ⌝ }
 {
@@ -173,7 +173,7 @@ fn bisect(entries: &[u16], x: usize) -> bool
     if k == entries.len() {
         return false;
     }
-    node(entries[k]) == x
+    wide(entries[k]) == x
 }
 
 // Check 7: an entry is one-sided, w in v's list and v not in w's. "The first one-sided entry ends the whole comparison of lists."
@@ -188,8 +188,8 @@ fn one_sided(n: usize, starts: &[u32], neighbours: &[u16]) -> bool
     'nodes: for v in 0..n {
         let entries = list(starts, neighbours, v);
         for k in 0..entries.len() {
-            let w = node(entries[k]);
-            missing = !bisect(list(starts, neighbours, w), v);
+            let w = wide(entries[k]);
+            missing = !contains_sorted(list(starts, neighbours, w), v);
             if missing {
                 break 'nodes;
             }
@@ -200,7 +200,7 @@ fn one_sided(n: usize, starts: &[u32], neighbours: &[u16]) -> bool
 
 // The first refusal of checks 1 to 7, 0 for none. "Each check covers the whole input before the next begins." O(n + entries · log degree).
 pub fn check(n: usize, starts: &[u32], neighbours: &[u16]) -> u32
-    ensures { λ r. ⌜ r ≡ firstFault (meshChecks (record { nodes = n; starts = now (starts .entry); neighbours = now (neighbours .entry) })) ⌝ }
+    ensures { λ r. ⌜ r ≡ firstFault (meshChecks (lent n (now (starts .entry)) (now (neighbours .entry)))) ⌝ }
 {
     if bad_node_count(n) {
         return 1;

@@ -74,7 +74,7 @@ pub fn lists(n: u8, cells: &[u8; 4096]) -> Case {
     }
 }
 
-fn node(edges: &[u8], i: usize) -> u8 {
+fn wide(edges: &[u8], i: usize) -> u8 {
     if i < edges.len() {
         return edges[i];
     }
@@ -85,7 +85,7 @@ fn node(edges: &[u8], i: usize) -> u8 {
 pub fn from_edges(n: u8, edges: &[u8]) -> Case {
     let mut cells = [0u8; 4096];
     for i in 0..edges.len() / 2 {
-        join(&mut cells, node(edges, i * 2), node(edges, i * 2 + 1));
+        join(&mut cells, wide(edges, i * 2), wide(edges, i * 2 + 1));
     }
     lists(n, &cells)
 }
@@ -98,7 +98,7 @@ pub fn numbered(n: u8, number: u64) -> Case {
     let mut cells = [0u8; 4096];
     for i in 0..10usize {
         if (number >> i) % 2 == 1 {
-            join(&mut cells, node(&PAIRS, i * 2), node(&PAIRS, i * 2 + 1));
+            join(&mut cells, wide(&PAIRS, i * 2), wide(&PAIRS, i * 2 + 1));
         }
     }
     lists(n, &cells)

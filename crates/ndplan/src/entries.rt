@@ -16,11 +16,11 @@ use planner::plan;
 ghost use mathlib.Core.Path.{_≡_};
 ghost use Rattle.plan.specs.Answers.{planReply, writeReply};
 ghost use Rattle.plan.specs.Refusals.{familyOf};
+ghost use Rattle.plan.specs.Mesh.{lent};
 ghost use Rattle.plan.specs.Planning.{contents, buffers, capacity, Filled, Planned};
 ghost use Rattle.plan.specs.Reading.{reading};
 ghost use Rattle.plan.specs.Writing.{Wrote};
 ghost use Rattle.plan.specs.Questions.{pairQuestion, columnRefusal, columnSpan};
-ghost use Rattle.mesh.specs.Lent.{lent};
 ghost use Rattle.ndplan.specs.Replies.{planAnswerOf, writeAnswerOf, ndpPlan, ndpWritten, ndpSlot, ndpRows, familyNumber};
 
 // Planning, as planner::plan does it.

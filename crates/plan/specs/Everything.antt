@@ -9,7 +9,7 @@ use Rattle.plan.specs.Choice.{degreeIn, lesser, leastFrom, leastDegree, 
 use Rattle.plan.specs.Dissection.{dissect, dissection, parts, parentsFrom, parents, order, sizes, positions}
 use Rattle.plan.specs.Steps.{pendingBelow, begin, stepWith, step, steps, byNumber}
 use Rattle.plan.specs.Elimination.{tabulate, initial, remaining, eliminate, joinsAfter, column, columns, startsOf, multiplications}
-use Rattle.plan.specs.Parts.{partOf, parentOf, ancestorsUpTo, ancestors, atOrAbove, nodesWhere, nodesOfPart, wasCut, regionOfPart, boundary, boundarySize, partBound, bound}
+use Rattle.plan.specs.Parts.{partOf, parentOf, ancestorsUpTo, ancestors, atOrAbove, nodesWhere, regionOfPart, boundary, boundarySize, partBound, bound}
 use Rattle.plan.specs.Demand3.{isPath, allEarlier, hasSlot}
 use Rattle.plan.specs.Planning.{rowCounts, planBy, planOf, capacity, buffersTooShort, rowsTooShort, planChecks, handOut, planning, fill, Demand3Of}
 use Rattle.plan.specs.File.{encode16, encode32, encode16s, decode16, decode32, decode16s, lengthAt, fileLength, encodeParts, encodeContents, encode, parseAt, parse, badHeader, badOrder, mayBeParent, badParts, badColumn, badColumns, badRows, outsideAncestors, notNested, covered, notCovered, contentsChecks}
@@ -20,5 +20,5 @@ use Rattle.plan.specs.Questions.{badLayout, layoutChecks, positionOutsid
 use Rattle.plan.specs.Listing.{neighboursAt, entryCount, inputMesh, badInput, listingChecks, decimalUpTo, decimal, spaced, headLine, positionLine, refusalLine, print, listing}
 
 unfoldable pub everything : ℕ
-unfolding headD getLastD flatten listAt eachOnce firstFault familyOf neighboursOf adjacent badNodeCount badStarts badMeshStarts tooManyEntries neighbourOutside listsItself notAscending oneSided meshChecks nextLevel addLevel levelsBack levels eccentricity component componentsUpTo components degreeIn lesser leastFrom leastDegree candidates improves nextRoot rootFrom rootOf staysWhole cutLevel separator numbering standard choosePart georgeLiu dissect dissection parts parentsFrom parents order sizes positions pendingBelow begin stepWith step steps byNumber tabulate initial remaining eliminate joinsAfter column columns startsOf multiplications partOf parentOf ancestorsUpTo ancestors atOrAbove nodesWhere nodesOfPart wasCut regionOfPart boundary boundarySize partBound bound isPath allEarlier hasSlot rowCounts planBy planOf capacity buffersTooShort rowsTooShort planChecks handOut planning fill Demand3Of encode16 encode32 encode16s decode16 decode32 decode16s lengthAt fileLength encodeParts encodeContents encode parseAt parse badHeader badOrder mayBeParent badParts badColumn badColumns badRows outsideAncestors notNested covered notCovered contentsChecks tooFewBytes badMagic badVersion badLength headerChecks readChecks reading badSupply used suppliedChecks outputTooShort writeChecks writeOut writing handed badLayout layoutChecks positionOutside positionChecks questionChecks slotOf pairFound pairQuestion columnRefusal spanFound columnSpan columnRows neighboursAt entryCount inputMesh badInput listingChecks decimalUpTo decimal spaced headLine positionLine refusalLine print listing
+unfolding headD getLastD flatten listAt eachOnce firstFault familyOf neighboursOf adjacent badNodeCount badStarts badMeshStarts tooManyEntries neighbourOutside listsItself notAscending oneSided meshChecks nextLevel addLevel levelsBack levels eccentricity component componentsUpTo components degreeIn lesser leastFrom leastDegree candidates improves nextRoot rootFrom rootOf staysWhole cutLevel separator numbering standard choosePart georgeLiu dissect dissection parts parentsFrom parents order sizes positions pendingBelow begin stepWith step steps byNumber tabulate initial remaining eliminate joinsAfter column columns startsOf multiplications partOf parentOf ancestorsUpTo ancestors atOrAbove nodesWhere regionOfPart boundary boundarySize partBound bound isPath allEarlier hasSlot rowCounts planBy planOf capacity buffersTooShort rowsTooShort planChecks handOut planning fill Demand3Of encode16 encode32 encode16s decode16 decode32 decode16s lengthAt fileLength encodeParts encodeContents encode parseAt parse badHeader badOrder mayBeParent badParts badColumn badColumns badRows outsideAncestors notNested covered notCovered contentsChecks tooFewBytes badMagic badVersion badLength headerChecks readChecks reading badSupply used suppliedChecks outputTooShort writeChecks writeOut writing handed badLayout layoutChecks positionOutside positionChecks questionChecks slotOf pairFound pairQuestion columnRefusal spanFound columnSpan columnRows neighboursAt entryCount inputMesh badInput listingChecks decimalUpTo decimal spaced headLine positionLine refusalLine print listing
 everything = 0

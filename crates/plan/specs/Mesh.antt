@@ -23,6 +23,10 @@ pub record Mesh : Type 0 where
   pub starts : List ℕ
   pub neighbours : List ℕ
 
+-- the mesh that n, the starts and the neighbours make
+abbrev pub lent : ℕ → List ℕ → List ℕ → Mesh
+lent n starts neighbours = record { nodes = n; starts = starts; neighbours = neighbours }
+
 -- "node v's list runs from start v up to, not including, start v + 1"
 unfoldable pub neighboursOf : Mesh → ℕ → List ℕ
 neighboursOf m v = listAt (m .starts) (m .neighbours) v

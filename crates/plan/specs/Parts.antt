@@ -35,14 +35,6 @@ atOrAbove parents q r = eqb q r || isIn r (ancestors parents q)
 unfoldable pub nodesWhere : (ℕ → Bool) → List ℕ → List ℕ
 nodesWhere test order = map (λ i. getD order i 0) (keep test (below (length order)))
 
--- the nodes of part q
-unfoldable pub nodesOfPart : List ℕ → List ℕ → ℕ → List ℕ
-nodesOfPart order sizes q = nodesWhere (λ i. eqb (partOf sizes i) q) order
-
--- whether part q was cut from its region: some part has it as its parent
-unfoldable pub wasCut : List ℕ → ℕ → Bool
-wasCut parents q = isIn q parents
-
 -- The nodes of part q's region: "the part with everything below it in the tree".
 unfoldable pub regionOfPart : List ℕ → List ℕ → List ℕ → ℕ → List ℕ
 regionOfPart order sizes parents q = nodesWhere (λ i. atOrAbove parents (partOf sizes i) q) order

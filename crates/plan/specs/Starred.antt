@@ -40,8 +40,8 @@ unfoldable pub stale : ℕ → List ℕ
 stale size = upFrom 9000 size
 
 -- buffers for n nodes, each one entry longer than needed, and a rows buffer so long
-unfoldable pub lent : ℕ → ℕ → Buffers
-lent n rows = record {
+unfoldable pub staleBuffers : ℕ → ℕ → Buffers
+staleBuffers n rows = record {
   order = stale (n + 1);
   positions = stale (n + 1);
   sizes = stale (n + 1);
@@ -60,7 +60,7 @@ sameReply a b = eqb (a .number) (b .number) && same (a .values) (b .values)
 -- whether the outcome, for buffers so lent, is the one expected: the reply, and what each of the six buffers holds afterwards
 unfoldable pub agrees : ℕ → ℕ → Outcome → Outcome → Bool
 agrees n rows expected o =
-    let left : Buffers = fill o (lent n rows) in
+    let left : Buffers = fill o (staleBuffers n rows) in
     sameReply (o .reply) (expected .reply)
     && holdsFront (n + 1) (expected .order) (left .order)
     && holdsFront (n + 1) (expected .positions) (left .positions)
@@ -96,12 +96,12 @@ refusal k = record {
 
 unfoldable pub holds : Row → Bool
 holds (planned m rows expected claims) =
-    let o : Outcome = planning m (capacity (lent (m .nodes) rows)) in
+    let o : Outcome = planning m (capacity (staleBuffers (m .nodes) rows)) in
     agrees (m .nodes) rows expected o && every (claimed m o) claims
-holds (read n rows bytes expected) = agrees n rows expected (reading bytes (capacity (lent n rows)))
+holds (read n rows bytes expected) = agrees n rows expected (reading bytes (capacity (staleBuffers n rows)))
 holds (faulty c k) =
     writes 100 (refused k) [] (writing c 100)
-    && agrees (c .nodes) (c .slots) (refusal k) (reading (encode c) (capacity (lent (c .nodes) (c .slots))))
+    && agrees (c .nodes) (c .slots) (refusal k) (reading (encode c) (capacity (staleBuffers (c .nodes) (c .slots))))
 holds (listed input output) = same (listing input) output
 
 abbrev pub triangle : Mesh
@@ -262,5 +262,5 @@ table =
 
 -- every row of the table holds
 pub starred : every holds table ≡ true
-unfolding everything stale lent holdsFront sameReply agrees writes claimed holds table
+unfolding everything stale staleBuffers holdsFront sameReply agrees writes claimed holds table
 starred = refl

@@ -9,7 +9,7 @@ use Rattle.plan.specs.Lists.{written, listAt}
 use Rattle.plan.specs.File.{decode16s}
 use Rattle.theory.proofs.Coding.{decode16s-length, decode16s-segment}
 use Rattle.theory.proofs.Written.{front-written}
-use Rattle.mesh.specs.Lent.{ListWithin}
+use Rattle.mesh.specs.Lists.{ListWithin}
 use Rattle.mesh.proofs.Lists.{list-long}
 use Rattle.planfile.specs.Filed.{rowsIn}
 

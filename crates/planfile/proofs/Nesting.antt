@@ -15,7 +15,7 @@ use Rattle.theory.proofs.Ascending.{ascending-tail}
 use Rattle.theory.proofs.ColumnRule.{good-column, column-few, good-columns}
 use Rattle.theory.proofs.PartOf.{part-mono, part-lt}
 use Rattle.theory.proofs.PartChecks.{parents-may, passes-tree}
-use Rattle.mesh.specs.Lent.{ListWithin}
+use Rattle.mesh.specs.Lists.{ListWithin}
 use Rattle.mesh.proofs.Lists.{good-starts-within}
 use Rattle.planfile.specs.Supplied.{orderAndParts, SoundParts, SoundParents, PartNumbers, outside, Started, LaidOut}
 

@@ -6,7 +6,7 @@ use crate::rules::outside;
 use coding::read16s;
 use layout::bad_column;
 use mesh::index;
-use mesh::node;
+use mesh::wide;
 ghost use mathlib.Core.Path.{_≡_};
 ghost use mathlib.Core.Bool.{false};
 ghost use mathlib.Core.List.{[]};
@@ -120,7 +120,7 @@ fn covered_at(
         return true;
     }
     let k = load(n, columnStarts, bytes, j, column);
-    let first = node(column[0]);
+    let first = wide(column[0]);
     let l = load(n, columnStarts, bytes, first, other);
     contains_all(&other[..l], &column[1..k])
 }

@@ -1,6 +1,6 @@
 // Checks 15 and 16: the order is each node once, and sizes and parents make a tree of parts.
 use mesh::contains;
-use mesh::node;
+use mesh::wide;
 use plan::Plan;
 ghost use mathlib.Core.Path.{_≡_};
 ghost use mathlib.Core.Bool.{not};
@@ -26,7 +26,7 @@ fn bad_order(order: &[u16]) -> bool
 {
     let mut marks = no_marks();
     for i in 0..order.len() {
-        let v = node(order[i]);
+        let v = wide(order[i]);
         if v >= order.len() {
             return true;
         }
@@ -45,7 +45,7 @@ fn sum_sizes(sizes: &[u16]) -> usize
 {
     let mut sum: usize = 0;
     for q in 0..sizes.len() {
-        sum += node(sizes[q]);
+        sum += wide(sizes[q]);
     }
     sum
 }
@@ -57,10 +57,10 @@ fn may_be_parent(p: usize, q: usize, r: u16) -> bool
     if r == Plan::NO_PARENT {
         return true;
     }
-    if node(r) <= q {
+    if wide(r) <= q {
         return false;
     }
-    node(r) < p
+    wide(r) < p
 }
 
 // Whether some part's parent is neither none nor a later part. O(p).

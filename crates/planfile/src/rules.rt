@@ -1,5 +1,5 @@
 // The rules of checks 18 and 19 for the rows of one column.
-use mesh::node;
+use mesh::wide;
 ghost use mathlib.Core.Path.{_≡_};
 ghost use mathlib.Core.Bool.{true, false};
 ghost use Prim.Native.Nat.{ℕ, _+_, _≤_, _<_};
@@ -7,7 +7,7 @@ ghost use lib.ListN.{length, getD};
 ghost use Rattle.plan.specs.Lists.{every, isIn, ascending, total};
 ghost use Rattle.plan.specs.Parts.{partOf, atOrAbove};
 ghost use Rattle.plan.specs.File.{badColumn};
-ghost use Rattle.mesh.specs.Lent.{LowerBound};
+ghost use Rattle.mesh.specs.Lists.{LowerBound};
 ghost use Rattle.planfile.specs.Supplied.{SoundParents, PartNumbers, outside as outsideOf};
 
 // The number q at `count` places from place `at` on. O(count).
@@ -27,7 +27,7 @@ pub(crate) fn number_parts(sizes: &[u16], numbers: &mut [u16])
 {
     let mut at: usize = 0;
     for q in 0..sizes.len() {
-        let size = node(sizes[q]);
+        let size = wide(sizes[q]);
         fill(at, size, q as u16, numbers);
         at += size;
     }
@@ -40,7 +40,7 @@ fn reaches(parents: &[u16], part: u16, to: u16) -> bool
 {
     let mut r = part;
     while r < to {
-        r = parents[node(r)];
+        r = parents[wide(r)];
     }
     r == to
 }
@@ -52,7 +52,7 @@ pub(crate) fn outside(n: usize, numbers: &[u16], parents: &[u16], j: usize, colu
 {
     let mut part = numbers[j];
     for k in 0..column.len() {
-        let to = numbers[node(column[k])];
+        let to = numbers[wide(column[k])];
         if !reaches(parents, part, to) {
             return true;
         }
@@ -68,7 +68,7 @@ fn advance(entries: &[u16], k: usize, x: usize) -> usize
 {
     let mut at = k;
     while at < entries.len() {
-        if node(entries[at]) >= x {
+        if wide(entries[at]) >= x {
             return at;
         }
         at += 1;
@@ -83,12 +83,12 @@ pub(crate) fn contains_all(entries: &[u16], numbers: &[u16]) -> bool
 {
     let mut at: usize = 0;
     for k in 0..numbers.len() {
-        let x = node(numbers[k]);
+        let x = wide(numbers[k]);
         at = advance(entries, at, x);
         if at == entries.len() {
             return false;
         }
-        if node(entries[at]) != x {
+        if wide(entries[at]) != x {
             return false;
         }
     }

@@ -8,7 +8,7 @@ use layout::bad_columns;
 use mesh::bad_starts;
 use mesh::index;
 use mesh::list;
-use mesh::node;
+use mesh::wide;
 ghost use mathlib.Core.Path.{_≡_};
 ghost use mathlib.Core.Bool.{false};
 ghost use mathlib.Core.List.{[]};
@@ -59,7 +59,7 @@ fn column_covered(n: usize, columnStarts: &[u32], rows: &[u16], j: usize) -> boo
     if column.len() < 2 {
         return true;
     }
-    let first = node(column[0]);
+    let first = wide(column[0]);
     contains_all(list(columnStarts, rows, first), &column[1..])
 }
 

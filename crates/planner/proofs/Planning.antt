@@ -29,7 +29,7 @@ use Rattle.theory.proofs.Ranges.{map-ext-upFrom, length-map-upFrom, getD-map-be
 use Rattle.theory.proofs.Written.{front-written}
 use Rattle.theory.proofs.Compressed.{sums-length, total-lengths}
 use Rattle.theory.proofs.Orders.{order-length}
-use Rattle.theory.proofs.Slots.{column-counted, counts-length}
+use Rattle.theory.proofs.Slots.{column-counted, column-counts-length}
 use Rattle.theory.proofs.Choice.{georgeLiu-takes}
 use Rattle.theory.proofs.Dissection.{order-count, parts-few}
 use Rattle.layout.specs.Arrays.{Ordered}
@@ -88,7 +88,7 @@ starts-written m nodes counts found left same e = rw same at e
 pub starts-front : (m : Mesh) (nodes found left : List ℕ) → left ≡ written (startsOf (columns m nodes)) found → take (m .nodes + 1) left ≡ startsOf (columns m nodes)
 unfolding startsOf
 starts-front m nodes found left e =
-    front-written (m .nodes + 1) (runningSums 0 (map length (columns m nodes))) found left e (omega (arith, sums-length 0 (map length (columns m nodes)), counts-length m nodes))
+    front-written (m .nodes + 1) (runningSums 0 (map length (columns m nodes))) found left e (omega (arith, sums-length 0 (map length (columns m nodes)), column-counts-length m nodes))
 
 -- ---- the dissection in its arrays
 

@@ -26,7 +26,7 @@ use Rattle.theory.proofs.Slots.{column-listed, column-at, slots-last}
 use Rattle.theory.proofs.Eliminated.{columns-starts}
 use Rattle.theory.proofs.Handed.{Holds, accepted-holds}
 use Rattle.theory.proofs.Planned.{planned-nodes, planned-once, planned-sizes}
-use Rattle.mesh.specs.Lent.{ListWithin}
+use Rattle.mesh.specs.Lists.{ListWithin}
 use Rattle.mesh.proofs.Lists.{good-starts-within}
 use Rattle.text.specs.Lines.{shown, headOf, linesOf, lentPlan, PlanWithin, answerText, AnswerWithin, meshText}
 use Rattle.text.proofs.Lines.{head-counts, plan-parts}

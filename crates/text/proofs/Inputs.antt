@@ -8,13 +8,13 @@ use lib.Dec.{ltb, eqb}
 use lib.ListN.{length, getD, take, drop, length-append}
 use borrow.Author.Tests.{lt-ltb, le-ltb, ltb-false}
 use Rattle.plan.specs.Lists.{written}
+use Rattle.plan.specs.Mesh.{lent}
 use Rattle.plan.specs.File.{decode16, decode32}
 use Rattle.plan.specs.Listing.{maxListedNodes, maxListedEntries, neighboursAt, entryCount, inputMesh, badInput}
 use Rattle.theory.proofs.Bools.{or-left, or-right, or-false-left, or-false-right}
 use Rattle.theory.proofs.Written.{front-written}
 use Rattle.theory.proofs.Ranges.{getD-map-below, length-map-upFrom}
 use Rattle.theory.proofs.Coding.{decode16s-length}
-use Rattle.mesh.specs.Lent.{lent}
 
 -- input that passes
 pub record Passes (bytes : List ℕ) : Type 0 where

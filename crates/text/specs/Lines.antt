@@ -9,7 +9,7 @@ use Rattle.plan.specs.Refusals.{firstFault}
 use Rattle.plan.specs.Mesh.{Mesh, meshChecks}
 use Rattle.plan.specs.Planning.{Contents, planOf}
 use Rattle.plan.specs.Listing.{spaced, headLine, positionLine, refusalLine, print}
-use Rattle.mesh.specs.Lent.{ListWithin}
+use Rattle.mesh.specs.Lists.{ListWithin}
 
 -- a word, and a number behind a space
 abbrev pub labelled : List ℕ → ℕ → List ℕ

@@ -2,7 +2,7 @@
 use coding::read16;
 use coding::read16s;
 use coding::read32;
-use mesh::node;
+use mesh::wide;
 ghost use mathlib.Core.Path.{_≡_};
 ghost use Prim.Native.Nat.{_+_, _≤_, _<_};
 ghost use lib.ListN.{length};
@@ -20,7 +20,7 @@ pub(crate) fn node_count(input: &[u8]) -> usize
     requires { ⌜ 2 ≤ length (now input) ⌝ }
     ensures { λ r. ⌜ (r ≡ decode16 (now (input .entry)) 0) × (r < 65536) ⌝ }
 {
-    node(read16(input, 0))
+    wide(read16(input, 0))
 }
 
 // Where the neighbours begin. O(1).

@@ -14,8 +14,8 @@ ghost use mathlib.Core.Path.{_≡_};
 ghost use mathlib.Core.Bool.{false};
 ghost use Prim.Native.Nat.{ℕ, _≤_, _<_};
 ghost use lib.ListN.{length, take, getD};
+ghost use Rattle.plan.specs.Mesh.{lent};
 ghost use Rattle.plan.specs.Listing.{maxListedNodes, inputMesh, badInput, listing};
-ghost use Rattle.mesh.specs.Lent.{lent};
 ghost use Rattle.text.specs.Put.{Put};
 ghost use Rattle.text.specs.Lines.{meshText};
 

@@ -4,7 +4,7 @@ use crate::output::put_line;
 use crate::output::put_refusal;
 use mesh::index;
 use mesh::list;
-use mesh::node;
+use mesh::wide;
 use plan::Plan;
 use plan::PlanAnswer;
 ghost use mathlib.Core.Path.{_≡_};
@@ -12,7 +12,7 @@ ghost use Prim.Native.Nat.{ℕ, _+_, _≤_, _<_};
 ghost use lib.ListN.{length};
 ghost use Rattle.plan.specs.Parts.{partOf};
 ghost use Rattle.plan.specs.Listing.{print};
-ghost use Rattle.mesh.specs.Lent.{ListWithin};
+ghost use Rattle.mesh.specs.Lists.{ListWithin};
 ghost use Rattle.text.specs.Put.{Put};
 ghost use Rattle.text.specs.Lines.{linesOf, lentPlan, PlanWithin, answerText, AnswerWithin};
 
@@ -22,7 +22,7 @@ fn part_of(sizes: &[u16], i: usize) -> usize
 {
     let mut left = i;
     for q in 0..sizes.len() {
-        let size = node(sizes[q]);
+        let size = wide(sizes[q]);
         if left < size {
             return q;
         }
@@ -50,7 +50,7 @@ fn put_lines(
             out,
             last,
             j,
-            node(order[j]),
+            wide(order[j]),
             part_of(sizes, j),
             list(columnStarts, rows, j),
         );

@@ -1,6 +1,6 @@
 // Writing text into a lent buffer: each function puts its text from place `at` on and gives the place behind it.
 use mesh::index;
-use mesh::node;
+use mesh::wide;
 ghost use mathlib.Core.Path.{_≡_};
 ghost use mathlib.Core.List.{[], _∷_};
 ghost use Prim.Native.Nat.{_+_, _≤_, _<_};
@@ -66,7 +66,7 @@ fn put_all(out: &mut [u8], at: usize, numbers: &[u16]) -> usize
 {
     let mut last = at;
     for i in 0..numbers.len() {
-        last = put_spaced(out, last, node(numbers[i]));
+        last = put_spaced(out, last, wide(numbers[i]));
     }
     last
 }

@@ -14,7 +14,8 @@ use Rattle.theory.proofs.Lists.{isIn-getD}
 use Rattle.theory.proofs.Segments.{segment-append}
 use Rattle.theory.proofs.Ranges.{isIn-below, length-upFrom, length-map-upFrom, map-getD}
 use Rattle.theory.proofs.Compressed.{sums-counts}
-use Rattle.theory.proofs.Coding.{decode16s-length, decode16s-getD, blocks-length, encode16-length, encode16s-length, decode16-drop, decode32-drop, encoded16, encoded32, decode-blocks, decoded16, decoded-pair, decoded32, segment-blocks, decoded16s}
+use Rattle.theory.proofs.Coding.{decode16s-length, decode16s-getD, encode16-length, encode16s-length, decode16-drop, decode32-drop, encoded16, encoded32, decode-blocks, decoded16, decoded-pair, decoded32, segment-blocks, decoded16s}
+use Rattle.theory.proofs.Flatten.{blocks-length}
 
 -- the fields, one behind the other
 pub encode-fields : (c : Contents)

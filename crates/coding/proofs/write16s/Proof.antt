@@ -8,7 +8,8 @@ use borrow.Author.Needs.{needs}
 use Rattle.plan.specs.Lists.{written}
 use Rattle.plan.specs.File.{encode16}
 use Rattle.theory.proofs.Written.{reached-long, reached-room, reached-more}
-use Rattle.theory.proofs.Coding.{encode16-length, blocks, encode16s-blocks, Blocks, blocks-none, blocks-next, blocks-all}
+use Rattle.theory.proofs.Coding.{encode16-length, encode16s-blocks, Blocks, blocks-none, blocks-next, blocks-all}
+use Rattle.theory.proofs.Flatten.{blocks}
 use Rattle.coding.proofs.write16s.Statement.{statement}
 use Rattle.coding.proofs.write16s.Tie as tie
 

@@ -4,9 +4,8 @@ use mathlib.Core.Bool.{Bool, false}
 use lib.ListN.{drop}
 use borrow.Author.Needs.{needs}
 use Rattle.plan.specs.Refusals.{firstFault}
-use Rattle.plan.specs.Mesh.{Mesh, badNodeCount, badMeshStarts, tooManyEntries, neighbourOutside, listsItself, notAscending, oneSided, meshChecks}
+use Rattle.plan.specs.Mesh.{Mesh, lent, badNodeCount, badMeshStarts, tooManyEntries, neighbourOutside, listsItself, notAscending, oneSided, meshChecks}
 use Rattle.theory.proofs.Refusals.{fault-here, fault-later}
-use Rattle.mesh.specs.Lent.{lent}
 use Rattle.mesh.proofs.check.Statement.{statement}
 use Rattle.mesh.proofs.check.Tie as tie
 

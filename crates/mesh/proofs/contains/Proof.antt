@@ -5,7 +5,7 @@ use native.Mathlib.Omega.{arith}
 use lib.Dec.{eqb}
 use borrow.Author.Tests.{eq-eqb, ne-eqb}
 use borrow.Author.Needs.{needs}
-use Rattle.mesh.proofs.Scans.{Clear, clear-more, elementAt, found-in, none-in}
+use Rattle.theory.proofs.Scans.{Clear, clear-more, elementAt, found-in, none-in}
 use Rattle.mesh.proofs.contains.Statement.{statement}
 use Rattle.mesh.proofs.contains.Tie as tie
 
@@ -19,13 +19,13 @@ returns : tie.Need-returns Inv-loop μ-loop
 returns c =
     let k = c .before .before .before .before in
     let s = k .before .before .args in
-    sym (found-in (eqb (s .x)) (s .entries .now) (k .loop .k) (omega arith) (eq-eqb _ _ (sym (c .if1 .taken) ∙ c .before .node .ensures)))
+    sym (found-in (eqb (s .x)) (s .entries .now) (k .loop .k) (omega arith) (eq-eqb _ _ (sym (c .if1 .taken) ∙ c .before .wide .ensures)))
 
 loop-again : tie.Need-loop-again Inv-loop μ-loop
 loop-again c =
     let k = c .before .before .before .before in
     let s = k .before .before .args in
-    clear-more (elementAt (eqb (s .x)) (s .entries .now)) (k .loop .k) (k .loop .inv) (ne-eqb _ _ (λ e. c .if1 .left (c .before .node .ensures ∙ sym e)))
+    clear-more (elementAt (eqb (s .x)) (s .entries .now)) (k .loop .k) (k .loop .inv) (ne-eqb _ _ (λ e. c .if1 .left (c .before .wide .ensures ∙ sym e)))
 
 returns-2 : tie.Need-returns-2 Inv-loop μ-loop
 returns-2 c =

@@ -5,7 +5,7 @@ use native.Mathlib.Omega.{arith}
 use lib.ListN.{length}
 use borrow.Author.Tests.{lt-ltb, le-ltb}
 use borrow.Author.Needs.{needs}
-use Rattle.mesh.proofs.Scans.{Clear, clear-more, found-below, none-below, pairAt, pairAt-is, less, falls-pairs}
+use Rattle.theory.proofs.Scans.{Clear, clear-more, found-below, none-below, pairAt, pairAt-is, less, falls-pairs}
 use Rattle.mesh.proofs.falling.Statement.{statement}
 use Rattle.mesh.proofs.falling.Tie as tie
 

@@ -5,9 +5,8 @@ use Prim.Native.Nat.{ℕ, _-_}
 use native.Mathlib.Omega.{arith}
 use borrow.Author.Needs.{needs}
 use Rattle.plan.specs.Lists.{isIn}
-use Rattle.plan.specs.Mesh.{Mesh, neighboursOf, adjacent, listsItself}
-use Rattle.mesh.specs.Lent.{lent}
-use Rattle.mesh.proofs.Scans.{Clear, clear-more, found-below, none-below}
+use Rattle.plan.specs.Mesh.{Mesh, lent, neighboursOf, adjacent, listsItself}
+use Rattle.theory.proofs.Scans.{Clear, clear-more, found-below, none-below}
 use Rattle.mesh.proofs.Lists.{list-within}
 use Rattle.mesh.proofs.lists_itself.Statement.{statement}
 use Rattle.mesh.proofs.lists_itself.Tie as tie

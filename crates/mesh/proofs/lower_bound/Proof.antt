@@ -20,14 +20,14 @@ loop-again c =
     let k = c .before .before .before .before in
     let s = k .before .before in
     let b = k .loop in
-    bracket-up (s .args .entries .now) (s .args .x) (b .low) (b .high) (b .low + (b .high - b .low) / 2) (s .pre) (b .inv) (omega arith) (omega arith) (rw (c .before .node .ensures) at (c .if1 .taken))
+    bracket-up (s .args .entries .now) (s .args .x) (b .low) (b .high) (b .low + (b .high - b .low) / 2) (s .pre) (b .inv) (omega arith) (omega arith) (rw (c .before .wide .ensures) at (c .if1 .taken))
 
 loop-again-2 : tie.Need-loop-again-2 Inv-loop μ-loop
 loop-again-2 c =
     let k = c .before .before .before .before in
     let s = k .before .before in
     let b = k .loop in
-    bracket-down (s .args .entries .now) (s .args .x) (b .low) (b .high) (b .low + (b .high - b .low) / 2) (s .pre) (b .inv) (omega arith) (omega arith) (rw (c .before .node .ensures) at (c .if1 .left))
+    bracket-down (s .args .entries .now) (s .args .x) (b .low) (b .high) (b .low + (b .high - b .low) / 2) (s .pre) (b .inv) (omega arith) (omega arith) (rw (c .before .wide .ensures) at (c .if1 .left))
 
 returns : tie.Need-returns Inv-loop μ-loop
 returns c = bracket-met _ _ _ _ (c .before .loop .inv) (omega arith)

@@ -6,7 +6,7 @@ use lib.Dec.{leb}
 use borrow.Author.Tests.{le-leb, lt-leb}
 use borrow.Author.Needs.{needs}
 use Rattle.plan.specs.Mesh.{neighbourOutside}
-use Rattle.mesh.proofs.Scans.{Clear, clear-more, elementAt, found-in, none-in}
+use Rattle.theory.proofs.Scans.{Clear, clear-more, elementAt, found-in, none-in}
 use Rattle.mesh.proofs.neighbour_outside.Statement.{statement}
 use Rattle.mesh.proofs.neighbour_outside.Tie as tie
 
@@ -21,13 +21,13 @@ unfolding neighbourOutside
 returns c =
     let k = c .before .before .before .before in
     let s = k .before .before .args in
-    λ starts. sym (found-in (leb (s .n)) (s .neighbours .now) (k .loop .k) (omega arith) (le-leb _ _ (rw (c .before .node .ensures) at (c .if1 .taken))))
+    λ starts. sym (found-in (leb (s .n)) (s .neighbours .now) (k .loop .k) (omega arith) (le-leb _ _ (rw (c .before .wide .ensures) at (c .if1 .taken))))
 
 loop-again : tie.Need-loop-again Inv-loop μ-loop
 loop-again c =
     let k = c .before .before .before .before in
     let s = k .before .before .args in
-    clear-more (elementAt (leb (s .n)) (s .neighbours .now)) (k .loop .k) (k .loop .inv) (lt-leb _ _ (rw (c .before .node .ensures) at (c .if1 .left)))
+    clear-more (elementAt (leb (s .n)) (s .neighbours .now)) (k .loop .k) (k .loop .inv) (lt-leb _ _ (rw (c .before .wide .ensures) at (c .if1 .left)))
 
 returns-2 : tie.Need-returns-2 Inv-loop μ-loop
 unfolding neighbourOutside

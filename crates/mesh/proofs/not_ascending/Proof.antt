@@ -5,9 +5,8 @@ use Prim.Native.Nat.{ℕ, _-_}
 use native.Mathlib.Omega.{arith}
 use borrow.Author.Needs.{needs}
 use Rattle.plan.specs.Lists.{ascending}
-use Rattle.plan.specs.Mesh.{Mesh, neighboursOf, notAscending}
-use Rattle.mesh.specs.Lent.{lent}
-use Rattle.mesh.proofs.Scans.{Clear, clear-more, found-below, none-below}
+use Rattle.plan.specs.Mesh.{Mesh, lent, neighboursOf, notAscending}
+use Rattle.theory.proofs.Scans.{Clear, clear-more, found-below, none-below}
 use Rattle.mesh.proofs.Lists.{list-within}
 use Rattle.mesh.proofs.not_ascending.Statement.{statement}
 use Rattle.mesh.proofs.not_ascending.Tie as tie
@@ -26,12 +25,12 @@ abbrev μ-loop : tie.MeasureT-loop
 abbrev mesh : tie.Start Inv-loop μ-loop → Mesh
 mesh s = lent (s .args .n) (s .args .starts .now) (s .args .neighbours .now)
 
--- what `rising` answers
-answer : (c : tie.After-rising Inv-loop μ-loop) →
+-- what `ascends` answers
+answer : (c : tie.After-ascends Inv-loop μ-loop) →
     let k = c .before .before .before in
-    unordered (mesh (k .before .before .before)) (k .loop .v) ≡ not (c .rising .result)
+    unordered (mesh (k .before .before .before)) (k .loop .v) ≡ not (c .ascends .result)
 unfolding neighboursOf
-answer c = ap not (sym (c .rising .ensures ∙ ap ascending (c .before .list .ensures)))
+answer c = ap not (sym (c .ascends .ensures ∙ ap ascending (c .before .list .ensures)))
 
 list-requires : tie.Need-list-requires Inv-loop μ-loop
 list-requires c κs =

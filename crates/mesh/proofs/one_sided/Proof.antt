@@ -7,11 +7,10 @@ use native.Mathlib.Omega.{arith}
 use lib.ListN.{getD}
 use borrow.Author.Needs.{needs}
 use Rattle.plan.specs.Lists.{exists, isIn}
-use Rattle.plan.specs.Mesh.{Mesh, neighboursOf, adjacent, oneSided}
+use Rattle.plan.specs.Mesh.{Mesh, lent, neighboursOf, adjacent, oneSided}
 use Rattle.theory.proofs.Lists.{isIn-getD}
 use Rattle.theory.proofs.Checked.{entry-inside, list-ascends}
-use Rattle.mesh.specs.Lent.{lent}
-use Rattle.mesh.proofs.Scans.{Clear, clear-more, found-below, none-below, elementAt, found-in, none-in}
+use Rattle.theory.proofs.Scans.{Clear, clear-more, found-below, none-below, elementAt, found-in, none-in}
 use Rattle.mesh.proofs.Lists.{list-within}
 use Rattle.mesh.proofs.one_sided.Statement.{statement}
 use Rattle.mesh.proofs.one_sided.Tie as tie
@@ -56,21 +55,21 @@ unfolding neighboursOf
 whole l = l .before .list .ensures
 
 -- an entry is a node
-inside : (c : tie.After-node Inv-loop μ-loop Inv-nodes μ-nodes) → c .node .result < start (c .before .before .before) .args .n
+inside : (c : tie.After-wide Inv-loop μ-loop Inv-nodes μ-nodes) → c .wide .result < start (c .before .before .before) .args .n
 unfolding adjacent
 inside c =
     let l = c .before .before .before in
     let e : isIn (getD (entries l) (l .loop .k) 0) (entries l) ≡ true = isIn-getD (entries l) (l .loop .k) 0 (c .before .before .loop-test .taken) in
-    rw (c .node .ensures) (entry-inside (mesh (start l)) (start l .pre .1 .0) (outer l .nodes .v) (getD (entries l) (l .loop .k) 0) (ap (isIn (getD (entries l) (l .loop .k) 0)) (sym (whole l)) ∙ e))
+    rw (c .wide .ensures) (entry-inside (mesh (start l)) (start l .pre .1 .0) (outer l .nodes .v) (getD (entries l) (l .loop .k) 0) (ap (isIn (getD (entries l) (l .loop .k) 0)) (sym (whole l)) ∙ e))
 
--- what `bisect` answers
-answer : (c : tie.After-bisect Inv-loop μ-loop Inv-nodes μ-nodes) →
+-- what `contains-sorted` answers
+answer : (c : tie.After-contains-sorted Inv-loop μ-loop Inv-nodes μ-nodes) →
     let l = c .before .before .before .before .before in
-    elementAt (lone (mesh (start l)) (outer l .nodes .v)) (entries l) (l .loop .k) ≡ not (c .bisect .result)
+    elementAt (lone (mesh (start l)) (outer l .nodes .v)) (entries l) (l .loop .k) ≡ not (c .contains-sorted .result)
 unfolding adjacent neighboursOf
 answer c =
     let l = c .before .before .before .before .before in
-    rw (← c .before .before .node .ensures) (ap not (sym (c .bisect .ensures ∙ ap (isIn (outer l .nodes .v)) (c .before .list2 .ensures))))
+    rw (← c .before .before .wide .ensures) (ap not (sym (c .contains-sorted .ensures ∙ ap (isIn (outer l .nodes .v)) (c .before .list2 .ensures))))
 
 nodes-holds : tie.Need-nodes-holds Inv-loop μ-loop Inv-nodes μ-nodes
 nodes-holds c = (refl, refl)
@@ -86,13 +85,13 @@ loop-holds c = (c .before .before .nodes .inv .0, refl)
 list-requires-2 : tie.Need-list-requires-2 Inv-loop μ-loop Inv-nodes μ-nodes
 list-requires-2 c κs =
     let s = start (c .before .before .before) in
-    list-within (mesh s) (s .pre .0) (c .node .result) (inside c)
+    list-within (mesh s) (s .pre .0) (c .wide .result) (inside c)
 
-bisect-requires : tie.Need-bisect-requires Inv-loop μ-loop Inv-nodes μ-nodes
+contains-sorted-requires : tie.Need-contains-sorted-requires Inv-loop μ-loop Inv-nodes μ-nodes
 unfolding neighboursOf
-bisect-requires c κs =
+contains-sorted-requires c κs =
     let s = start (c .before .before .before .before) in
-    rw (c .list2 .ensures) (list-ascends (mesh s) (s .pre .1 .1) (c .before .node .result) (inside (c .before)))
+    rw (c .list2 .ensures) (list-ascends (mesh s) (s .pre .1 .1) (c .before .wide .result) (inside (c .before)))
 
 loop-again : tie.Need-loop-again Inv-loop μ-loop Inv-nodes μ-nodes
 loop-again c =
@@ -136,7 +135,7 @@ one-sided-spec =
     (λ c. search needs)
     (λ c κs. search needs)
     list-requires-2
-    bisect-requires
+    contains-sorted-requires
     (λ c. search needs)
     (λ c. search needs)
     loop-again

@@ -5,9 +5,8 @@ use Prim.Native.Nat.{ℕ}
 use native.Mathlib.Omega.{arith}
 use lib.ListN.{length, take}
 use borrow.Author.Needs.{needs}
-use Rattle.plan.specs.Mesh.{Mesh}
+use Rattle.plan.specs.Mesh.{Mesh, lent}
 use Rattle.theory.proofs.Orders.{order-length}
-use Rattle.mesh.specs.Lent.{lent}
 use Rattle.planner.proofs.Planning.{order-own, inverted}
 use Rattle.planner.proofs.count_columns.Statement.{statement}
 use Rattle.planner.proofs.count_columns.Tie as tie

@@ -6,10 +6,9 @@ use native.Mathlib.Omega.{arith}
 use lib.ListN.{length, take}
 use borrow.Author.Needs.{needs}
 use Rattle.plan.specs.Lists.{written}
-use Rattle.plan.specs.Mesh.{Mesh}
+use Rattle.plan.specs.Mesh.{Mesh, lent}
 use Rattle.plan.specs.Elimination.{columns, startsOf}
 use Rattle.theory.proofs.Orders.{order-length}
-use Rattle.mesh.specs.Lent.{lent}
 use Rattle.planner.proofs.Planning.{order-own, inverted, starts-written, starts-front}
 use Rattle.planner.proofs.lay_out.Statement.{statement}
 use Rattle.planner.proofs.lay_out.Tie as tie

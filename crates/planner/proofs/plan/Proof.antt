@@ -2,10 +2,9 @@
 use mathlib.Core.Path.{_≡_, sym, _∙_}
 use borrow.Author.Needs.{needs}
 use Rattle.plan.specs.Refusals.{firstFault}
-use Rattle.plan.specs.Mesh.{Mesh}
+use Rattle.plan.specs.Mesh.{Mesh, lent}
 use Rattle.plan.specs.Planning.{Buffers, buffers}
 use Rattle.theory.proofs.Handed.{lengthsOf}
-use Rattle.mesh.specs.Lent.{lent}
 use Rattle.planner.specs.Checked.{earlyChecks}
 use Rattle.planner.proofs.Planning.{early-passed, planned-refused, planned-checked}
 use Rattle.planner.proofs.plan.Statement.{statement}

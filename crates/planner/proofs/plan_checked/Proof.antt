@@ -6,12 +6,11 @@ use native.Mathlib.Omega.{arith}
 use lib.ListN.{length, take}
 use borrow.Author.Needs.{needs}
 use Rattle.plan.specs.declared.PlanAnswer.the-variants.{Accepted}
-use Rattle.plan.specs.Mesh.{Mesh}
+use Rattle.plan.specs.Mesh.{Mesh, lent}
 use Rattle.plan.specs.Elimination.{columns}
 use Rattle.plan.specs.Planning.{Buffers, planOf, handOut, fill, buffers}
 use Rattle.theory.specs.Checked.{Checked}
 use Rattle.theory.proofs.Handed.{Room, enough-room, lengthsOf}
-use Rattle.mesh.specs.Lent.{lent}
 use Rattle.dissection.specs.Blocks.{Dissected}
 use Rattle.dissection.proofs.Heads.{dissected-parts}
 use Rattle.planner.proofs.Planning.{dissected-order, parts-within, heldPlan, held-slots, counted-slots, held-reply, checked-refused, checked-accepted}

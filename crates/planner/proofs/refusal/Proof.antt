@@ -4,9 +4,8 @@ use mathlib.Core.List.{[], _∷_, _++_}
 use borrow.Author.Needs.{needs}
 use Rattle.plan.specs.Refusals.{firstFault, Checks}
 use Rattle.plan.specs.Planning.{buffersTooShort, lengths}
-use Rattle.plan.specs.Mesh.{Mesh, meshChecks}
+use Rattle.plan.specs.Mesh.{Mesh, lent, meshChecks}
 use Rattle.theory.proofs.Refusals.{fault-here, fault-later, first-some}
-use Rattle.mesh.specs.Lent.{lent}
 use Rattle.planner.proofs.Planning.{mesh-passed}
 use Rattle.planner.proofs.refusal.Statement.{statement}
 use Rattle.planner.proofs.refusal.Tie as tie

@@ -3,9 +3,8 @@ use mathlib.Core.Path.{ap}
 use native.Mathlib.Omega.{arith}
 use lib.ListN.{length}
 use borrow.Author.Needs.{needs}
-use Rattle.plan.specs.Mesh.{Mesh}
+use Rattle.plan.specs.Mesh.{Mesh, lent}
 use Rattle.plan.specs.Planning.{Buffers, capacity}
-use Rattle.mesh.specs.Lent.{lent}
 use Rattle.text.specs.Lines.{meshText}
 use Rattle.text.proofs.Puts.{put-as}
 use Rattle.text.proofs.Answers.{Roomy, Listed, planned-listed, mesh-fits}

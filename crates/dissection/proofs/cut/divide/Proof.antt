@@ -2,8 +2,7 @@
 use Prim.Native.Nat.{_≤_}
 use native.Mathlib.Omega.{arith}
 use borrow.Author.Needs.{needs}
-use Rattle.plan.specs.Mesh.{Mesh}
-use Rattle.mesh.specs.Lent.{lent}
+use Rattle.plan.specs.Mesh.{Mesh, lent}
 use Rattle.dissection.proofs.Cuts.{parted-fresh, parted-high, divided}
 use Rattle.dissection.proofs.cut.divide.Statement.{statement}
 use Rattle.dissection.proofs.cut.divide.Tie as tie

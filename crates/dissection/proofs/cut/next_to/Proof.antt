@@ -7,10 +7,9 @@ use lib.ListN.{length, getD}
 use borrow.Author.Tests.{eq-eqb, ne-eqb}
 use borrow.Author.Needs.{needs}
 use Rattle.plan.specs.Lists.{exists}
-use Rattle.plan.specs.Mesh.{Mesh, neighboursOf}
-use Rattle.mesh.specs.Lent.{lent}
+use Rattle.plan.specs.Mesh.{Mesh, lent, neighboursOf}
 use Rattle.mesh.proofs.Lists.{checked-within, entry-node}
-use Rattle.mesh.proofs.Scans.{Clear, clear-more, elementAt, found-in, none-in}
+use Rattle.theory.proofs.Scans.{Clear, clear-more, elementAt, found-in, none-in}
 use Rattle.dissection.proofs.Grouped.{hasNumber}
 use Rattle.dissection.proofs.cut.next_to.Statement.{statement}
 use Rattle.dissection.proofs.cut.next_to.Tie as tie
@@ -43,12 +42,12 @@ unfolding neighboursOf
 whole l = l .before .list .ensures
 
 -- an entry is a node, and so has a number
-inside : (c : tie.After-node Inv-loop μ-loop) → c .node .result < length (start (c .before .before .before) .args .numbers .now)
+inside : (c : tie.After-wide Inv-loop μ-loop) → c .wide .result < length (start (c .before .before .before) .args .numbers .now)
 inside c =
     let l = c .before .before .before in
     let s = start l in
     let lt : l .loop .k < length (neighboursOf (mesh s) (s .args .v)) = rw (← whole l) (c .before .before .loop-test .taken) in
-    omega (arith, c .node .ensures, ap (λ (e : List ℕ). getD e (l .loop .k) 0) (whole l), entry-node (mesh s) (s .pre .0) (s .args .v) (l .loop .k) lt, s .pre .2)
+    omega (arith, c .wide .ensures, ap (λ (e : List ℕ). getD e (l .loop .k) 0) (whole l), entry-node (mesh s) (s .pre .0) (s .args .v) (l .loop .k) lt, s .pre .2)
 
 mul-if1 : tie.Need-mul-if1 Inv-loop μ-loop
 mul-if1 c = let lt = inside c in search needs
@@ -58,13 +57,13 @@ returns c =
     let l = c .before .before .before .before .before in
     let a = start l .args in
     sym (ap (exists (hasNumber (a .numbers .now) (a .x))) (sym (whole l))
-    ∙ found-in (hasNumber (a .numbers .now) (a .x)) (entries l) (l .loop .k) (omega arith) (rw (← c .before .before .node .ensures) (eq-eqb _ _ (c .if1 .taken))))
+    ∙ found-in (hasNumber (a .numbers .now) (a .x)) (entries l) (l .loop .k) (omega arith) (rw (← c .before .before .wide .ensures) (eq-eqb _ _ (c .if1 .taken))))
 
 loop-again : tie.Need-loop-again Inv-loop μ-loop
 loop-again c =
     let l = c .before .before .before .before .before in
     let a = start l .args in
-    clear-more (elementAt (hasNumber (a .numbers .now) (a .x)) (entries l)) (l .loop .k) (l .loop .inv) (rw (← c .before .before .node .ensures) (ne-eqb _ _ (c .if1 .left)))
+    clear-more (elementAt (hasNumber (a .numbers .now) (a .x)) (entries l)) (l .loop .k) (l .loop .inv) (rw (← c .before .before .wide .ensures) (ne-eqb _ _ (c .if1 .left)))
 
 returns-2 : tie.Need-returns-2 Inv-loop μ-loop
 returns-2 c =

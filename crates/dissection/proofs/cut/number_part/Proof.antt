@@ -24,13 +24,13 @@ mul-part-numbered c = omega (arith, c .before .shared-slice-known2 .given (c .be
 slice-read-part-numbered : tie.Need-slice-read-part-numbered Inv-loop μ-loop
 slice-read-part-numbered c =
     let k = c .before .before .before .before in
-    renumbering-inside (k .loop .inv .1) (c .before .node .ensures) (omega arith) (k .before .before .before .pre .inside)
+    renumbering-inside (k .loop .inv .1) (c .before .wide .ensures) (omega arith) (k .before .before .before .pre .inside)
 
 loop-again : tie.Need-loop-again Inv-loop μ-loop
 loop-again c =
     let k = c .before .before .before .before .before in
     let s = k .before .before .before in
-    (refl, renumbering-each (partNumbered (s .args .k)) (k .loop .inv .1) (c .before .before .node .ensures) (omega arith) (s .pre) (c .part-numbered .ensures))
+    (refl, renumbering-each (partNumbered (s .args .k)) (k .loop .inv .1) (c .before .before .wide .ensures) (omega arith) (s .pre) (c .part-numbered .ensures))
 
 returns : tie.Need-returns Inv-loop μ-loop
 returns c = renumbering-all (c .before .loop .inv .1) (omega arith)

@@ -4,9 +4,8 @@ use Prim.Native.Nat.{_-_, _<_}
 use native.Mathlib.Omega.{arith}
 use lib.ListN.{length, getD}
 use borrow.Author.Needs.{needs}
-use Rattle.plan.specs.Mesh.{Mesh}
+use Rattle.plan.specs.Mesh.{Mesh, lent}
 use Rattle.theory.proofs.Lists.{isIn-getD}
-use Rattle.mesh.specs.Lent.{lent}
 use Rattle.dissection.proofs.Renumbering.{Renumbering, renumbering-none, renumbering-more, renumbering-all}
 use Rattle.dissection.proofs.Cuts.{leftOut, left-out-next}
 use Rattle.dissection.proofs.cut.separate.Statement.{statement}
@@ -28,11 +27,11 @@ abbrev start : tie.At-loop Inv-loop μ-loop → tie.Start Inv-loop μ-loop
 start l = l .before .before .before .before .before
 
 -- a node of the list is a node of the mesh
-inside : (c : tie.After-node Inv-loop μ-loop) → c .node .result < start (c .before .before .before) .args .n
+inside : (c : tie.After-wide Inv-loop μ-loop) → c .wide .result < start (c .before .before .before) .args .n
 inside c =
     let l = c .before .before .before in
     let s = start l in
-    rw (c .node .ensures) (s .pre .1 .inside (getD (s .args .nodes .now) (l .loop .i) 0) (isIn-getD (s .args .nodes .now) (l .loop .i) 0 (c .before .before .loop-test .taken)))
+    rw (c .wide .ensures) (s .pre .1 .inside (getD (s .args .nodes .now) (l .loop .i) 0) (isIn-getD (s .args .nodes .now) (l .loop .i) 0 (c .before .before .loop-test .taken)))
 
 loop-holds : tie.Need-loop-holds Inv-loop μ-loop
 loop-holds c = (refl, renumbering-none _ _ _)
@@ -52,7 +51,7 @@ loop-again c =
     let s = start l in
     let a = s .args in
     let r = l .loop .inv .1 in
-    let same = c .before .before .node .ensures in
+    let same = c .before .before .wide .ensures in
     let within = s .pre .1 in (
       refl,
       renumbering-more r same (omega arith) (λ v h. omega (arith, within .inside v h, s .pre .2)) (c .separated .result)

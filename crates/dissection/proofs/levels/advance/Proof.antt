@@ -6,10 +6,9 @@ use native.Mathlib.Omega.{arith}
 use borrow.Author.Needs.{needs}
 use lib.ListN.{getD}
 use Rattle.plan.specs.Lists.{exists, segment}
-use Rattle.plan.specs.Mesh.{Mesh, adjacent}
+use Rattle.plan.specs.Mesh.{Mesh, lent, adjacent}
 use Rattle.theory.proofs.Lists.{getD-front}
 use Rattle.theory.proofs.Segments.{segment-none, segment-more}
-use Rattle.mesh.specs.Lent.{lent}
 use Rattle.dissection.specs.Spread.{Spread}
 use Rattle.dissection.proofs.Spreads.{spread-start, spread-as, spread-both}
 use Rattle.dissection.proofs.levels.advance.Statement.{statement}
@@ -36,8 +35,8 @@ loop-holds c =
       spread-start (s .pre .3) (λ v. ap (exists (λ u. adjacent (mesh s) u v)) (segment-none (a .queue .now) (a .lo))),
     )
 
-slice-read-node : tie.Need-slice-read-node Inv-loop μ-loop
-slice-read-node c =
+slice-read-wide : tie.Need-slice-read-wide Inv-loop μ-loop
+slice-read-wide c =
     let l = c .before .before .loop in
     omega (arith, c .before .loop-test .taken, l .inv .2, l .inv .3 .left .queueLong)
 
@@ -55,7 +54,7 @@ visit-requires c κs =
     let k = c .before .before .before .before in
     let l = k .before .loop in
     let s = k .before .before .before .before .before .before in
-    (s .pre .0, omega (arith, c .before .before .node .ensures, same-node k, s .pre .4 (l .k) (k .loop-test .taken)), s .pre .1, l .inv .3 .left)
+    (s .pre .0, omega (arith, c .before .before .wide .ensures, same-node k, s .pre .4 (l .k) (k .loop-test .taken)), s .pre .1, l .inv .3 .left)
 
 loop-again : tie.Need-loop-again Inv-loop μ-loop
 loop-again c =
@@ -63,14 +62,14 @@ loop-again c =
     let l = k .before .loop in
     let s = k .before .before .before .before .before .before in
     let a = s .args in
-    let same = c .before .before .before .before .before .before .before .node .ensures ∙ same-node k in (
+    let same = c .before .before .before .before .before .before .before .wide .ensures ∙ same-node k in (
       omega arith,
       omega (arith, k .loop-test .taken),
       l .inv .2,
       spread-as
           (λ v. ap (λ (w : ℕ). exists (λ u. adjacent (mesh s) u v) (segment (a .queue .now) (a .lo) (l .k)) || adjacent (mesh s) w v) same
           ∙ sym (segment-more (λ u. adjacent (mesh s) u v) (a .queue .now) (a .lo) (l .k) (l .inv .0) (omega (arith, k .loop-test .taken, l .inv .2, s .pre .3 .queueLong))))
-          (spread-both {t = adjacent (mesh s) (c .before .before .before .before .before .before .before .node .result)} (s .pre .1) (l .inv .3) (c .before .before .before .before .visit .ensures)),
+          (spread-both {t = adjacent (mesh s) (c .before .before .before .before .before .before .before .wide .result)} (s .pre .1) (l .inv .3) (c .before .before .before .before .visit .ensures)),
     )
 
 returns : tie.Need-returns Inv-loop μ-loop
@@ -90,7 +89,7 @@ advance-spec =
     μ-loop
     loop-holds
     (λ c. search needs)
-    slice-read-node
+    slice-read-wide
     (λ c κs. search needs)
     visit-requires
     (λ c. search needs)

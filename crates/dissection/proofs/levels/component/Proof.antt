@@ -6,9 +6,8 @@ use native.Mathlib.Omega.{arith}
 use borrow.Author.Needs.{needs}
 use borrow.Author.Tests.{ne-eqb}
 use lib.ListN.{length, getD}
-use Rattle.plan.specs.Mesh.{adjacent}
+use Rattle.plan.specs.Mesh.{lent, adjacent}
 use Rattle.plan.specs.Levels.{Graph}
-use Rattle.mesh.specs.Lent.{lent}
 use Rattle.dissection.specs.Numbers.{fresh}
 use Rattle.dissection.proofs.Labels.{walked-inside, walked-taken}
 use Rattle.dissection.proofs.levels.component.Statement.{statement}
@@ -23,8 +22,8 @@ abbrev graph : tie.Start → Graph
 graph s = adjacent (lent (s .args .n) (s .args .starts .now) (s .args .neighbours .now))
 
 -- the number tested is the node's
-number : (c : tie.After-slice-known4) → getD (start c .args .numbers .now) (c .before .node .result) 0 ≡ getD (start c .args .numbers .now) (start c .args .v) 0
-number c = ap (λ (v : ℕ). getD (start c .args .numbers .now) v 0) (c .before .node .ensures)
+number : (c : tie.After-slice-known4) → getD (start c .args .numbers .now) (c .before .wide .result) 0 ≡ getD (start c .args .numbers .now) (start c .args .v) 0
+number c = ap (λ (v : ℕ). getD (start c .args .numbers .now) v 0) (c .before .wide .ensures)
 
 -- behind the test the node is fresh
 unreached : (c : tie.Else1) → getD (start (c .before) .args .numbers .now) (start (c .before) .args .v) 0 ≡ fresh
@@ -90,7 +89,7 @@ component-spec =
     (tie.spec
     (λ c κs. search needs)
     (λ c. search needs)
-    (λ c. omega (arith, c .before .node .ensures, start c .pre .0))
+    (λ c. omega (arith, c .before .wide .ensures, start c .pre .0))
     returns
     walk-requires
     (λ c. search needs)

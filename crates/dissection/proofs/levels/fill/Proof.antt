@@ -23,13 +23,13 @@ mul-numbers c = omega (arith, c .before .shared-slice-known2 .given (c .before .
 slice-write-numbers : tie.Need-slice-write-numbers Inv-loop μ-loop
 slice-write-numbers c =
     let k = c .before .before .before in
-    renumbering-inside (k .loop .inv .1) (c .node .ensures) (omega arith) (k .before .before .before .pre)
+    renumbering-inside (k .loop .inv .1) (c .wide .ensures) (omega arith) (k .before .before .before .pre)
 
 loop-again : tie.Need-loop-again Inv-loop μ-loop
 loop-again c =
     let k = c .before .before .before in
     let s = k .before .before .before in
-    (refl, renumbering-more (k .loop .inv .1) (c .node .ensures) (omega arith) (s .pre) (s .args .x) refl)
+    (refl, renumbering-more (k .loop .inv .1) (c .wide .ensures) (omega arith) (s .pre) (s .args .x) refl)
 
 returns : tie.Need-returns Inv-loop μ-loop
 returns c = renumbering-all (c .before .loop .inv .1) (omega arith)

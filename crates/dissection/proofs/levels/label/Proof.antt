@@ -4,9 +4,8 @@ use Prim.Native.Nat.{_-_, _<_}
 use native.Mathlib.Omega.{arith}
 use borrow.Author.Needs.{needs}
 use lib.ListN.{length, getD, length-set}
-use Rattle.plan.specs.Mesh.{adjacent}
+use Rattle.plan.specs.Mesh.{lent, adjacent}
 use Rattle.theory.proofs.Lists.{isIn-getD}
-use Rattle.mesh.specs.Lent.{lent}
 use Rattle.dissection.proofs.Labels.{Labelable, Labelling, labelling-none, labelling-room, labelling-end, labelling-more, labelling-all}
 use Rattle.dissection.proofs.levels.label.Statement.{statement}
 use Rattle.dissection.proofs.levels.label.Tie as tie

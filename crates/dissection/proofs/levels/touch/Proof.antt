@@ -12,11 +12,11 @@ use Rattle.dissection.proofs.levels.touch.Tie as tie
 returns : tie.Need-returns
 returns c =
     let s = c .before .before .before .before .before in
-    spread-numbered (s .args .w) (s .pre .2) (rw (c .before .before .node .ensures) at (c .if1 .taken))
+    spread-numbered (s .args .w) (s .pre .2) (rw (c .before .before .wide .ensures) at (c .if1 .taken))
 
 -- node w is fresh
 was-fresh : (c : tie.Else1) → let a = c .before .before .before .before .before .args in getD (a .numbers .now) (a .w) 0 ≡ fresh
-was-fresh c = rw (c .before .before .node .ensures) at (c .if1 .left)
+was-fresh c = rw (c .before .before .wide .ensures) at (c .if1 .left)
 
 -- the queue has a place for it
 place : (c : tie.Else1) → let a = c .before .before .before .before .before .args in a .tail < a .n
@@ -30,7 +30,7 @@ slice-write-queue c = omega (arith, place c, c .before .before .before .before .
 returns-2 : tie.Need-returns-2
 returns-2 c =
     let s = c .before .before .before .before .before in
-    rw (c .before .before .node .ensures) (spread-one (s .pre .2) (s .pre .0) (s .pre .1) (was-fresh c))
+    rw (c .before .before .wide .ensures) (spread-one (s .pre .2) (s .pre .0) (s .pre .1) (was-fresh c))
 
 pub touch-spec : {M : Type 1} → statement M
 touch-spec =

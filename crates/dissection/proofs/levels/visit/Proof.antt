@@ -7,9 +7,8 @@ use lib.Dec.{eqb}
 use lib.ListN.{take, getD}
 use lib.Seq.{take-all}
 use Rattle.plan.specs.Lists.{isIn}
-use Rattle.plan.specs.Mesh.{Mesh, neighboursOf, adjacent}
+use Rattle.plan.specs.Mesh.{Mesh, lent, neighboursOf, adjacent}
 use Rattle.theory.proofs.Lists.{exists-more}
-use Rattle.mesh.specs.Lent.{lent}
 use Rattle.mesh.proofs.Lists.{checked-within, entry-node}
 use Rattle.dissection.specs.Spread.{Spread}
 use Rattle.dissection.proofs.Spreads.{spread-start, spread-as, spread-both}

@@ -6,8 +6,7 @@ use native.Mathlib.Omega.{arith}
 use borrow.Author.Needs.{needs}
 use lib.ListN.{length, set, length-set}
 use Rattle.plan.specs.Levels.{Graph}
-use Rattle.plan.specs.Mesh.{adjacent}
-use Rattle.mesh.specs.Lent.{lent}
+use Rattle.plan.specs.Mesh.{lent, adjacent}
 use Rattle.dissection.specs.Numbers.{fresh}
 use Rattle.dissection.proofs.Walks.{Walking, walking-as, stand-few, restored, walk-start, walk-step, walk-node, walk-end}
 use Rattle.dissection.proofs.levels.walk.Statement.{statement}
@@ -38,12 +37,12 @@ inside : (s : tie.Start Inv-loop μ-loop) (u v : ℕ) → edge s u v ≡ true �
 inside s u v h = s .pre .0 .inside u v h .1
 
 -- the numbers before the walk
-old : (c : tie.After-node Inv-loop μ-loop) →
+old : (c : tie.After-wide Inv-loop μ-loop) →
     let a = c .before .before .before .before .before .args in
-    set (set (a .numbers .now) (c .node .result) 0) (a .root) fresh ≡ a .numbers .now
+    set (set (a .numbers .now) (c .wide .result) 0) (a .root) fresh ≡ a .numbers .now
 old c =
     let s = c .before .before .before .before .before in
-    rw (c .node .ensures) (restored (s .args .numbers .now) (s .args .root) (s .pre .2))
+    rw (c .wide .ensures) (restored (s .args .numbers .now) (s .args .root) (s .pre .2))
 
 -- what holds between two levels
 walking : (c : tie.At-loop Inv-loop μ-loop) →
@@ -69,7 +68,7 @@ loop-holds c =
     let begun = walk-start (a .n) (edge s) (a .numbers .now) (a .root) (a .queue .now) (s .pre .1) (s .pre .2) (s .pre .3) (s .pre .4) in (
       refl,
       refl,
-      walking-as (edge s) (a .root) (sym (old c)) (rw (c .node .ensures) begun),
+      walking-as (edge s) (a .root) (sym (old c)) (rw (c .wide .ensures) begun),
     )
 
 advance-requires : tie.Need-advance-requires Inv-loop μ-loop

@@ -7,9 +7,8 @@ use native.Mathlib.Omega.{arith}
 use borrow.Author.Needs.{needs}
 use borrow.Author.Tests.{eq-eqb, lt-ltb, le-ltb}
 use lib.Dec.{eqb, ltb}
-use Rattle.plan.specs.Mesh.{Mesh}
+use Rattle.plan.specs.Mesh.{Mesh, lent}
 use Rattle.plan.specs.Choice.{degreeIn, lesser}
-use Rattle.mesh.specs.Lent.{lent}
 use Rattle.theory.proofs.Bools.{cond-true, cond-false}
 use Rattle.dissection.specs.Rooted.{none, betterOf}
 use Rattle.dissection.proofs.Roots.{better-some}

@@ -2,8 +2,7 @@
 use Prim.Native.Nat.{_≤_}
 use native.Mathlib.Omega.{arith}
 use borrow.Author.Needs.{needs}
-use Rattle.plan.specs.Mesh.{Mesh}
-use Rattle.mesh.specs.Lent.{lent}
+use Rattle.plan.specs.Mesh.{Mesh, lent}
 use Rattle.dissection.proofs.Roots.{fresh-inside, level-high, candidates-only, candidates-found}
 use Rattle.dissection.proofs.root.candidates.Statement.{statement}
 use Rattle.dissection.proofs.root.candidates.Tie as tie

@@ -4,9 +4,8 @@ use Prim.Native.Nat.{ℕ}
 use native.Mathlib.Omega.{arith}
 use lib.ListN.{getD}
 use borrow.Author.Needs.{needs}
-use Rattle.plan.specs.Mesh.{Mesh}
+use Rattle.plan.specs.Mesh.{Mesh, lent}
 use Rattle.plan.specs.Choice.{degreeIn}
-use Rattle.mesh.specs.Lent.{lent}
 use Rattle.dissection.proofs.Roots.{compared-not, compared-set}
 use Rattle.dissection.proofs.root.compare.Statement.{statement}
 use Rattle.dissection.proofs.root.compare.Tie as tie
@@ -16,12 +15,12 @@ abbrev mesh : tie.Start → Mesh
 mesh s = lent (s .args .n) (s .args .starts .now) (s .args .neighbours .now)
 
 -- the function's entry
-abbrev entry : tie.After-node2 → tie.Start
+abbrev entry : tie.After-wide2 → tie.Start
 entry c = c .before .before .before .before .before .before .before
 
 -- the group is v's number
-group : (c : tie.After-node2) → c .node2 .result ≡ getD (entry c .args .numbers .now) (entry c .args .v) 0
-group c = c .node2 .ensures ∙ ap (λ (i : ℕ). getD (entry c .args .numbers .now) i 0) (c .before .before .node .ensures)
+group : (c : tie.After-wide2) → c .wide2 .result ≡ getD (entry c .args .numbers .now) (entry c .args .v) 0
+group c = c .wide2 .ensures ∙ ap (λ (i : ℕ). getD (entry c .args .numbers .now) i 0) (c .before .before .wide .ensures)
 
 returns : tie.Need-returns
 returns c region =
@@ -31,14 +30,14 @@ returns c region =
 better-of-requires : tie.Need-better-of-requires
 better-of-requires c κs =
     let s = entry (c .before .before) in
-    (s .pre .0, s .pre .1, s .pre .4 (c .before .before .node2 .result) (c .before .if1 .left))
+    (s .pre .0, s .pre .1, s .pre .4 (c .before .before .wide2 .result) (c .before .if1 .left))
 
 returns-2 : tie.Need-returns-2
 returns-2 c region =
     let n = c .before .before .before in
     let s = entry n in
     rw (c .better-of .ensures region)
-    (compared-set (degreeIn (mesh s) region) (s .args .v) (s .args .numbers .now) (s .args .count) (s .args .best .now) (n .node2 .result) (group n) (omega arith))
+    (compared-set (degreeIn (mesh s) region) (s .args .v) (s .args .numbers .now) (s .args .count) (s .args .best .now) (n .wide2 .result) (group n) (omega arith))
 
 pub compare-spec : {M : Type 1} → statement M
 compare-spec =

@@ -9,10 +9,10 @@ use lib.Seq.{length-take-le, getD-take}
 use borrow.Author.Needs.{needs}
 use borrow.Author.Tests.{lt-ltb, le-ltb}
 use Rattle.plan.specs.Lists.{keep}
-use Rattle.plan.specs.Mesh.{Mesh}
+use Rattle.plan.specs.Mesh.{Mesh, lent}
 use Rattle.plan.specs.Choice.{improves}
-use Rattle.theory.proofs.Lists.{isIn-getD, scan-miss, scan-hit, scan-none}
-use Rattle.mesh.specs.Lent.{lent}
+use Rattle.theory.proofs.Lists.{isIn-getD}
+use Rattle.theory.proofs.Scans.{scan-miss, scan-hit, scan-none}
 use Rattle.dissection.specs.Standing.{Regional}
 use Rattle.dissection.proofs.Roots.{regional-again, better-walked, better-same, improves-is}
 use Rattle.dissection.proofs.root.first_better.Statement.{statement}

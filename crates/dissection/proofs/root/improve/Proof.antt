@@ -5,10 +5,9 @@ use Prim.Native.Nat.{ℕ}
 use native.Mathlib.Omega.{arith}
 use borrow.Author.Needs.{needs}
 use Rattle.plan.specs.Lists.{isIn, keep}
-use Rattle.plan.specs.Mesh.{Mesh}
+use Rattle.plan.specs.Mesh.{Mesh, lent}
 use Rattle.plan.specs.Choice.{improves, nextRoot}
 use Rattle.theory.proofs.RootInside.{candidate-inside}
-use Rattle.mesh.specs.Lent.{lent}
 use Rattle.dissection.proofs.Roots.{regional-again}
 use Rattle.dissection.proofs.root.improve.Statement.{statement}
 use Rattle.dissection.proofs.root.improve.Tie as tie

@@ -24,13 +24,13 @@ mul-only-level c = omega (arith, c .before .shared-slice-known2 .given (c .befor
 slice-read-only-level : tie.Need-slice-read-only-level Inv-loop μ-loop
 slice-read-only-level c =
     let k = c .before .before .before .before in
-    renumbering-inside (k .loop .inv .1) (c .before .node .ensures) (omega arith) (k .before .before .before .pre .inside)
+    renumbering-inside (k .loop .inv .1) (c .before .wide .ensures) (omega arith) (k .before .before .before .pre .inside)
 
 loop-again : tie.Need-loop-again Inv-loop μ-loop
 loop-again c =
     let k = c .before .before .before .before .before in
     let s = k .before .before .before in
-    (refl, renumbering-each (onlyLevel (s .args .last)) (k .loop .inv .1) (c .before .before .node .ensures) (omega arith) (s .pre) (c .only-level .ensures))
+    (refl, renumbering-each (onlyLevel (s .args .last)) (k .loop .inv .1) (c .before .before .wide .ensures) (omega arith) (s .pre) (c .only-level .ensures))
 
 returns : tie.Need-returns Inv-loop μ-loop
 returns c = renumbering-all (c .before .loop .inv .1) (omega arith)

@@ -4,9 +4,9 @@ use Prim.Native.Nat.{ℕ, _-_, _≤_}
 use native.Mathlib.Omega.{arith}
 use lib.ListN.{length, getD, take}
 use borrow.Author.Needs.{needs}
+use Rattle.plan.specs.Mesh.{lent}
 use Rattle.plan.specs.Choice.{degreeIn}
 use Rattle.theory.proofs.Lists.{isIn-getD}
-use Rattle.mesh.specs.Lent.{lent}
 use Rattle.dissection.proofs.Roots.{Leading, leading-bests, leading-more, leading-all}
 use Rattle.dissection.proofs.root.least.Statement.{statement}
 use Rattle.dissection.proofs.root.least.Tie as tie

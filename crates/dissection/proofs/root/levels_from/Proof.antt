@@ -4,9 +4,8 @@ use native.Mathlib.Omega.{arith}
 use lib.ListN.{getD}
 use borrow.Author.Needs.{needs}
 use Rattle.plan.specs.Lists.{isIn}
-use Rattle.plan.specs.Mesh.{Mesh}
+use Rattle.plan.specs.Mesh.{Mesh, lent}
 use Rattle.theory.proofs.Bools.{cond-true}
-use Rattle.mesh.specs.Lent.{lent}
 use Rattle.dissection.specs.Numbers.{fresh}
 use Rattle.dissection.proofs.Standing.{walk-rooted, walk-standing}
 use Rattle.dissection.proofs.root.levels_from.Statement.{statement}

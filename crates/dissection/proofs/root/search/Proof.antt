@@ -5,11 +5,10 @@ use Prim.Native.Nat.{ℕ, _-_}
 use native.Mathlib.Omega.{arith}
 use lib.ListN.{length}
 use borrow.Author.Needs.{needs}
-use Rattle.plan.specs.Mesh.{Mesh, adjacent}
+use Rattle.plan.specs.Mesh.{Mesh, lent, adjacent}
 use Rattle.plan.specs.Choice.{rootOf}
 use Rattle.theory.proofs.Lists.{isIn-getD}
 use Rattle.theory.proofs.RootSearch.{eccentricity-le}
-use Rattle.mesh.specs.Lent.{lent}
 use Rattle.dissection.specs.Standing.{Regional, Standing}
 use Rattle.dissection.specs.Rooted.{Rooted}
 use Rattle.dissection.proofs.Roots.{regional-again, foundFrom, found-first, found-next, found-last}

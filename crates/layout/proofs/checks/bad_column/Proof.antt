@@ -20,19 +20,19 @@ returns : tie.Need-returns Inv-loop μ-loop
 returns c =
     let t = c .before .before .before .before in
     let a = t .before .before .args in
-    sym (scan-low (a .n) (a .j) (a .column .now) (t .loop .before) (t .loop .k) (t .loop .inv) (omega arith) (omega (arith, c .before .node .ensures)))
+    sym (scan-low (a .n) (a .j) (a .column .now) (t .loop .before) (t .loop .k) (t .loop .inv) (omega arith) (omega (arith, c .before .wide .ensures)))
 
 returns-2 : tie.Need-returns-2 Inv-loop μ-loop
 returns-2 c =
     let t = c .before .before .before .before .before in
     let a = t .before .before .args in
-    sym (scan-high (a .n) (a .j) (a .column .now) (t .loop .before) (t .loop .k) (t .loop .inv) (omega arith) (omega (arith, c .before .before .node .ensures)))
+    sym (scan-high (a .n) (a .j) (a .column .now) (t .loop .before) (t .loop .k) (t .loop .inv) (omega arith) (omega (arith, c .before .before .wide .ensures)))
 
 loop-again : tie.Need-loop-again Inv-loop μ-loop
 loop-again c =
     let t = c .before .before .before .before .before in
     let a = t .before .before .args in
-    let e = c .before .before .node .ensures in
+    let e = c .before .before .wide .ensures in
     rw e (scan-next (a .n) (a .j) (a .column .now) (t .loop .before) (t .loop .k) (t .loop .inv) (omega arith) (omega (arith, e)) (omega (arith, e)))
 
 returns-3 : tie.Need-returns-3 Inv-loop μ-loop

@@ -7,7 +7,7 @@ use native.Mathlib.Omega.{arith}
 use borrow.Author.Needs.{needs}
 use Rattle.plan.specs.Lists.{listAt}
 use Rattle.plan.specs.File.{badColumn, badColumns}
-use Rattle.mesh.proofs.Scans.{Clear, clear-more, found-below, none-below}
+use Rattle.theory.proofs.Scans.{Clear, clear-more, found-below, none-below}
 use Rattle.mesh.proofs.Lists.{good-starts-within}
 use Rattle.layout.proofs.checks.bad_columns.Statement.{statement}
 use Rattle.layout.proofs.checks.bad_columns.Tie as tie

@@ -7,11 +7,10 @@ use native.Mathlib.Omega.{arith}
 use borrow.Author.Needs.{needs}
 use lib.ListN.{length, take, drop, getD, length-take, length-drop}
 use Rattle.plan.specs.Lists.{isIn, listAt, written}
-use Rattle.plan.specs.Mesh.{Mesh}
+use Rattle.plan.specs.Mesh.{Mesh, lent}
 use Rattle.plan.specs.Elimination.{column}
 use Rattle.theory.specs.Rows.{isRow}
 use Rattle.theory.proofs.EliminationTree.{row-range}
-use Rattle.mesh.specs.Lent.{lent}
 use Rattle.layout.specs.Arrays.{rowsBefore}
 use Rattle.theory.proofs.Written.{written-grow}
 use Rattle.layout.proofs.Grown.{rows-more, starts-long, start-at, start-next, column-found, column-within}

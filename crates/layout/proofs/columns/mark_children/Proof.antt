@@ -21,7 +21,7 @@ abbrev start : tie.At-loop Inv-loop μ-loop → tie.Start Inv-loop μ-loop
 start l = l .before .before .before .before .before .before .before .before
 
 -- the turn of the loop, seen from the next child
-abbrev turn : tie.After-node2 Inv-loop μ-loop → tie.In-loop Inv-loop μ-loop
+abbrev turn : tie.After-wide2 Inv-loop μ-loop → tie.In-loop Inv-loop μ-loop
 turn c = c .before .before .before .before .before .before .before
 
 -- the child that is met
@@ -32,16 +32,16 @@ child c =
     walked-child (a .n) (a .tree .now) (listAt (a .columnStarts .now) (a .rows .now)) (a .j) (a .marks .now) (l .loop .marks) (l .loop .c) (l .loop .inv .1) (c .loop-test .taken)
 
 -- the next one
-next-child : (c : tie.After-node2 Inv-loop μ-loop) →
+next-child : (c : tie.After-wide2 Inv-loop μ-loop) →
     let l = turn c .before in
-    getD (start l .args .next .now) (c .node2 .result) 0 ≡ childBelow (start l .args .tree .now) (start l .args .j) (l .loop .c)
+    getD (start l .args .next .now) (c .wide2 .result) 0 ≡ childBelow (start l .args .tree .now) (start l .args .j) (l .loop .c)
 next-child c =
     let k = turn c in
     let l = k .before in
     let s = start l in
     let here = child k in
     let lt : getD (s .args .tree .now) (l .loop .c) 0 < s .args .n = omega (arith, here .1) in
-    ap (λ (x : ℕ). getD (s .args .next .now) x 0) (c .node2 .ensures)
+    ap (λ (x : ℕ). getD (s .args .next .now) x 0) (c .wide2 .ensures)
     ∙ s .pre .0 .1 .next (l .loop .c) (here .0) lt
     ∙ ap (λ (p : ℕ). childBelow (s .args .tree .now) p (l .loop .c)) (here .1)
 
@@ -55,14 +55,14 @@ list-requires : tie.Need-list-requires Inv-loop μ-loop
 list-requires c κs =
     let l = c .before .before in
     let here = child (c .before) in
-    rw (c .node .ensures) (start l .pre .1 (l .loop .c) (here .0) (here .1) .0)
+    rw (c .wide .ensures) (start l .pre .1 (l .loop .c) (here .0) (here .1) .0)
 
 mark-rows-requires : tie.Need-mark-rows-requires Inv-loop μ-loop
 mark-rows-requires c κs i m =
     let l = c .before .before .before .before in
     let here = child (c .before .before .before) in
     let same : c .before .list .result .now ≡ listAt (start l .args .columnStarts .now) (start l .args .rows .now) (l .loop .c) =
-    c .before .list .ensures ∙ ap (listAt (start l .args .columnStarts .now) (start l .args .rows .now)) (c .before .before .node .ensures) in
+    c .before .list .ensures ∙ ap (listAt (start l .args .columnStarts .now) (start l .args .rows .now)) (c .before .before .wide .ensures) in
     omega (arith, l .loop .inv .0, start l .pre .1 (l .loop .c) (here .0) (here .1) .1 i (ap (isIn i) (sym same) ∙ m))
 
 loop-less : tie.Need-loop-less Inv-loop μ-loop
@@ -78,10 +78,10 @@ loop-again c =
     let l = k .before in
     let a = start l .args in
     let same : r .before .before .list .result .now ≡ listAt (a .columnStarts .now) (a .rows .now) (l .loop .c) =
-    r .before .before .list .ensures ∙ ap (listAt (a .columnStarts .now) (a .rows .now)) (r .before .before .before .node .ensures) in (
+    r .before .before .list .ensures ∙ ap (listAt (a .columnStarts .now) (a .rows .now)) (r .before .before .before .wide .ensures) in (
       r .mark-rows .kept .1 .1 .0 ∙ l .loop .inv .0,
       walked-more (a .n) (a .tree .now) (listAt (a .columnStarts .now) (a .rows .now)) (a .j) (a .marks .now) (l .loop .marks) (l .loop .c) (l .loop .inv .1)
-          (r .mark-rows .last .1 .1 .0) (getD (a .next .now) (c .before .node2 .result) 0) (k .loop-test .taken)
+          (r .mark-rows .last .1 .1 .0) (getD (a .next .now) (c .before .wide2 .result) 0) (k .loop-test .taken)
           (λ i. rw (← same) (r .mark-rows .ensures i)) (next-child (c .before)),
     )
 
@@ -106,11 +106,11 @@ mark-children-spec =
     (λ c. search needs)
     mark-rows-requires
     (λ c κs. search needs)
-    (λ c. let h = child (turn c) in omega (arith, c .node2 .ensures))
+    (λ c. let h = child (turn c) in omega (arith, c .wide2 .ensures))
     (λ c.
     let k = turn (c .before) in
     let h = child k in
-    omega (arith, c .before .node2 .ensures, start (k .before) .pre .0 .1 .nextRoom))
+    omega (arith, c .before .wide2 .ensures, start (k .before) .pre .0 .1 .nextRoom))
     loop-less
     loop-again
     (λ c. search needs)

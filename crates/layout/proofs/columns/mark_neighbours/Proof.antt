@@ -8,9 +8,8 @@ use lib.Dec.{eqb}
 use lib.ListN.{length, take, getD}
 use lib.Seq.{take-all}
 use Rattle.plan.specs.Lists.{exists}
-use Rattle.plan.specs.Mesh.{Mesh, neighboursOf}
+use Rattle.plan.specs.Mesh.{Mesh, lent, neighboursOf}
 use Rattle.theory.proofs.Orders.{order-length, order-inside}
-use Rattle.mesh.specs.Lent.{lent}
 use Rattle.mesh.proofs.Lists.{checked-within, entry-node}
 use Rattle.layout.specs.Arrays.{Marked, neighbourPosition}
 use Rattle.layout.proofs.Inverse.{inverse-inside}
@@ -39,35 +38,35 @@ full s = order-length (s .args .n) (s .args .order .now) (s .pre .0 .once)
 -- the entries are the neighbours of the node at position j
 whole : (l : tie.At-loop Inv-loop μ-loop) → l .before .list .result .now ≡ neighboursOf (mesh (start l)) (getD (start l .args .order .now) (start l .args .j) 0)
 unfolding neighboursOf
-whole l = l .before .list .ensures ∙ ap (neighboursOf (mesh (start l))) (l .before .before .node .ensures)
+whole l = l .before .list .ensures ∙ ap (neighboursOf (mesh (start l))) (l .before .before .wide .ensures)
 
 -- an entry is a node
-known : (c : tie.After-node2 Inv-loop μ-loop) → c .node2 .result < start (c .before .before .before) .args .n
+known : (c : tie.After-wide2 Inv-loop μ-loop) → c .wide2 .result < start (c .before .before .before) .args .n
 known c =
     let l = c .before .before .before in
     let s = start l in
     let v : ℕ = getD (s .args .order .now) (s .args .j) 0 in
     let lt = entry-node (mesh s) (s .pre .0 .checked) v (l .loop .e) (omega (arith, ap length (whole l), c .before .before .loop-test .taken)) in
-    omega (arith, lt, c .node2 .ensures, ap (λ (w : List ℕ). getD w (l .loop .e) 0) (whole l))
+    omega (arith, lt, c .wide2 .ensures, ap (λ (w : List ℕ). getD w (l .loop .e) 0) (whole l))
 
 -- its position is a place of the marks
-inside : (c : tie.After-node3 Inv-loop μ-loop) → c .node3 .result < length (c .before .before .before .before .before .loop .marks)
+inside : (c : tie.After-wide3 Inv-loop μ-loop) → c .wide3 .result < length (c .before .before .before .before .before .loop .marks)
 inside c =
     let l = c .before .before .before .before .before in
     let s = start l in
-    let lt = inverse-inside (mesh s) (s .args .order .now) (s .args .positions .now) (s .pre .0) (c .before .before .node2 .result) (known (c .before .before)) in
-    omega (arith, lt, c .node3 .ensures)
+    let lt = inverse-inside (mesh s) (s .args .order .now) (s .args .positions .now) (s .pre .0) (c .before .before .wide2 .result) (known (c .before .before)) in
+    omega (arith, lt, c .wide3 .ensures)
 
 list-requires : tie.Need-list-requires Inv-loop μ-loop
 list-requires c κs =
     let s = c .before .before .before .before .before .before .before in
-    rw (c .node .ensures) (checked-within (mesh s) (s .pre .0 .checked) (getD (s .args .order .now) (s .args .j) 0) (order-inside (s .args .n) (s .args .order .now) (s .pre .0 .once) (s .args .j) (s .pre .1)))
+    rw (c .wide .ensures) (checked-within (mesh s) (s .pre .0 .checked) (getD (s .args .order .now) (s .args .j) 0) (order-inside (s .args .n) (s .args .order .now) (s .pre .0 .once) (s .args .j) (s .pre .1)))
 
 loop-again : tie.Need-loop-again Inv-loop μ-loop
 loop-again c =
     let l = c .before .before .before .before .before in
     let s = start l in
-    let e : c .node3 .result ≡ getD (s .args .positions .now) (getD (l .before .list .result .now) (l .loop .e) 0) 0 = c .node3 .ensures ∙ ap (λ (x : ℕ). getD (s .args .positions .now) x 0) (c .before .before .node2 .ensures) in (
+    let e : c .wide3 .result ≡ getD (s .args .positions .now) (getD (l .before .list .result .now) (l .loop .e) 0) 0 = c .wide3 .ensures ∙ ap (λ (x : ℕ). getD (s .args .positions .now) x 0) (c .before .before .wide2 .ensures) in (
       search needs,
       search needs,
       search needs,

@@ -20,12 +20,12 @@ abbrev μ-loop : tie.MeasureT-loop
 μ-loop rows j marks₀ e₀ e-end marks e = e-end - e
 
 -- a row is a place of the marks
-inside : (c : tie.After-node Inv-loop μ-loop) → c .node .result < length (c .before .before .before .loop .marks)
+inside : (c : tie.After-wide Inv-loop μ-loop) → c .wide .result < length (c .before .before .before .loop .marks)
 inside c =
     let l = c .before .before .before in
     let s = l .before .before .before in
     let lt = s .pre (getD (s .args .rows .now) (l .loop .e) 0) (isIn-getD (s .args .rows .now) (l .loop .e) 0 (omega arith)) in
-    omega (arith, lt, c .node .ensures)
+    omega (arith, lt, c .wide .ensures)
 
 loop-again : tie.Need-loop-again Inv-loop μ-loop
 loop-again c =
@@ -35,7 +35,7 @@ loop-again c =
       search needs,
       search needs,
       search needs,
-      rw (c .node .ensures) (marked-more (s .args .j) (λ w. w) rows (l .loop .e) (s .args .marks .now) (l .loop .marks) (omega arith) (rw (c .node .ensures) at (inside c)) (l .loop .inv .3)),
+      rw (c .wide .ensures) (marked-more (s .args .j) (λ w. w) rows (l .loop .e) (s .args .marks .now) (l .loop .marks) (omega arith) (rw (c .wide .ensures) at (inside c)) (l .loop .inv .3)),
     )
 
 returns : tie.Need-returns Inv-loop μ-loop

@@ -6,10 +6,10 @@ use Rattle.layout.proofs.columns.put.Statement.{statement}
 use Rattle.layout.proofs.columns.put.Tie as tie
 
 returns : tie.Need-returns
-returns c = rw (ne-eqb _ _ (rw (c .before .before .node .ensures) at (c .if1 .taken))) (refl, refl)
+returns c = rw (ne-eqb _ _ (rw (c .before .before .wide .ensures) at (c .if1 .taken))) (refl, refl)
 
 returns-2 : tie.Need-returns-2
-returns-2 c = rw (eq-eqb _ _ (rw (c .before .before .node .ensures) at (c .if1 .left))) (refl, refl)
+returns-2 c = rw (eq-eqb _ _ (rw (c .before .before .wide .ensures) at (c .if1 .left))) (refl, refl)
 
 pub put-spec : {M : Type 1} → statement M
 put-spec =

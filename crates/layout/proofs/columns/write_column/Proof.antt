@@ -38,10 +38,10 @@ put-requires : tie.Need-put-requires Inv-loop μ-loop
 put-requires c κs =
     let k = c .before .before .before in
     let s = start (k .before) in
-    (rw (c .before .before .node .ensures) (omega (arith, up k .1, s .pre .0 .3)), omega (arith, k .loop-test .taken, s .pre .1 .1, k .before .loop .inv .0))
+    (rw (c .before .before .wide .ensures) (omega (arith, up k .1, s .pre .0 .3)), omega (arith, k .loop-test .taken, s .pre .1 .1, k .before .loop .inv .0))
 
 loop-less : tie.Need-loop-less Inv-loop μ-loop
-loop-less c = rw (c .before .before .before .before .before .node .ensures) (omega (arith, up (c .before .before .before .before .before .before)))
+loop-less c = rw (c .before .before .before .before .before .wide .ensures) (omega (arith, up (c .before .before .before .before .before .before)))
 
 loop-again : tie.Need-loop-again Inv-loop μ-loop
 loop-again c =
@@ -49,7 +49,7 @@ loop-again c =
     let k = p .before .before .before .before in
     let l = k .before in
     let s = start l in
-    let here = p .before .before .before .node .ensures in (
+    let here = p .before .before .before .wide .ensures in (
       p .put .kept .1 .1 .1 .1 .0 ∙ l .loop .inv .0,
       rw here
           (ascent-more (s .args .n) (s .args .j) (s .args .tree .now) (s .args .marks .now) (s .args .rows .now) (omega arith) (s .pre .0 .4) (l .loop .rows) (l .loop .k) (l .loop .at) (l .loop .inv .1)
@@ -72,8 +72,8 @@ write-column-spec =
     μ-loop
     loop-holds
     (λ c κs. search needs)
-    (λ c. omega (arith, c .node .ensures, c .before .before .loop .inv .1 .known))
-    (λ c. omega (arith, c .before .node .ensures, c .before .before .before .loop .inv .1 .known))
+    (λ c. omega (arith, c .wide .ensures, c .before .before .loop .inv .1 .known))
+    (λ c. omega (arith, c .before .wide .ensures, c .before .before .before .loop .inv .1 .known))
     put-requires
     loop-less
     loop-again

@@ -6,9 +6,8 @@ use native.Mathlib.Omega.{arith}
 use borrow.Author.Needs.{needs}
 use lib.ListN.{length}
 use Rattle.plan.specs.Lists.{written}
-use Rattle.plan.specs.Mesh.{Mesh}
+use Rattle.plan.specs.Mesh.{Mesh, lent}
 use Rattle.plan.specs.Elimination.{column}
-use Rattle.mesh.specs.Lent.{lent}
 use Rattle.layout.specs.Arrays.{Unmarked, rowsBefore}
 use Rattle.theory.proofs.Written.{written-again, written-over}
 use Rattle.layout.proofs.Grown.{rows-none, rows-more, rows-all}

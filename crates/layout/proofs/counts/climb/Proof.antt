@@ -58,7 +58,7 @@ loop-holds c =
     let s = c .before .before .before .before .before in
     let a = s .args in
     invariant (s .pre) refl refl refl
-    (λ w. rw (c .node .ensures) (way-start (w .mesh) (w .order) (a .i) (w .inside) (a .start) (a .marks .now) (a .tree .now) (a .counts .now) (omega arith) (w .row) (w .climbing)))
+    (λ w. rw (c .wide .ensures) (way-start (w .mesh) (w .order) (a .i) (w .inside) (a .start) (a .marks .now) (a .tree .now) (a .counts .now) (omega arith) (w .row) (w .climbing)))
 
 -- a turn's step up the way
 step : (c : tie.After-parent-of Inv-loop μ-loop) →
@@ -79,7 +79,7 @@ loop-less : tie.Need-loop-less Inv-loop μ-loop
 loop-less c =
     let p = c .before .before in
     let t = step p (start (p .before .before .before .before) .pre) in
-    omega (arith, t .0, t .1 .low, c .node2 .ensures)
+    omega (arith, t .0, t .1 .low, c .wide2 .ensures)
 
 loop-again : tie.Need-loop-again Inv-loop μ-loop
 loop-again c =
@@ -92,7 +92,7 @@ loop-again c =
     (length-set (l .tree) (l .k) p ∙ l .inv .longTree)
     (length-set (l .marks) (l .k) (s .args .i) ∙ l .inv .longMarks)
     (length-set (l .counts) (l .k) (getD (l .counts) (l .k) 0 + 1) ∙ l .inv .longCounts)
-    (λ w. rw (c .node2 .ensures) (step t w .1))
+    (λ w. rw (c .wide2 .ensures) (step t w .1))
 
 returns-2 : tie.Need-returns-2 Inv-loop μ-loop
 returns-2 c = λ w.

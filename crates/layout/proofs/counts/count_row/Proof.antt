@@ -9,11 +9,10 @@ use native.Mathlib.Omega.{arith}
 use borrow.Author.Needs.{needs}
 use lib.ListN.{length, getD, length-set}
 use Rattle.plan.specs.Lists.{listAt}
-use Rattle.plan.specs.Mesh.{Mesh, neighboursOf}
+use Rattle.plan.specs.Mesh.{Mesh, lent, neighboursOf}
 use Rattle.theory.specs.Rows.{isRow}
 use Rattle.theory.proofs.Bools.{eq-or-ne}
 use Rattle.theory.proofs.Orders.{order-length, order-inside}
-use Rattle.mesh.specs.Lent.{lent}
 use Rattle.mesh.proofs.Lists.{checked-within, entry-node}
 use Rattle.layout.specs.Climbing.{Climbing, Climbable}
 use Rattle.layout.proofs.Climbing.{climbing-start, climbing-end, entry-row, entries-all}
@@ -42,19 +41,19 @@ abbrev mesh : tie.Start Inv-loop μ-loop → Mesh
 mesh s = lent (s .args .n) (s .args .starts .now) (s .args .neighbours .now)
 
 -- the function's start, seen from the node at position i
-abbrev start : tie.After-node Inv-loop μ-loop → tie.Start Inv-loop μ-loop
+abbrev start : tie.After-wide Inv-loop μ-loop → tie.Start Inv-loop μ-loop
 start v = v .before .before .before .before .before .before .before .before .before
 
-shared-slice-read-node : tie.Need-shared-slice-read-node Inv-loop μ-loop
-shared-slice-read-node c =
+shared-slice-read-wide : tie.Need-shared-slice-read-wide Inv-loop μ-loop
+shared-slice-read-wide c =
     let s = c .before .before .before .before .before .before .before .before in
     omega (arith, order-length (s .args .n) (s .args .order .now) (s .pre .0 .0 .once))
 
 list-requires : tie.Need-list-requires Inv-loop μ-loop
 list-requires c κs =
     let s = start c in
-    checked-within (mesh s) (s .pre .0 .0 .checked) (c .node .result)
-    (omega (arith, c .node .ensures, order-inside (s .args .n) (s .args .order .now) (s .pre .0 .0 .once) (s .args .i) (s .pre .0 .1)))
+    checked-within (mesh s) (s .pre .0 .0 .checked) (c .wide .result)
+    (omega (arith, c .wide .ensures, order-inside (s .args .n) (s .args .order .now) (s .pre .0 .0 .once) (s .args .i) (s .pre .0 .1)))
 
 loop-holds : tie.Need-loop-holds Inv-loop μ-loop
 unfolding neighboursOf
@@ -62,7 +61,7 @@ loop-holds c =
     let s = start (c .before) in
     let a = s .args in
     record {
-      near = c .list .ensures ∙ ap (listAt (a .starts .now) (a .neighbours .now)) (c .before .node .ensures);
+      near = c .list .ensures ∙ ap (listAt (a .starts .now) (a .neighbours .now)) (c .before .wide .ensures);
       climbing = climbing-start (mesh s) (a .order .now) (a .i) (s .pre .0 .1) (a .tree .now) (a .marks .now) (a .counts .now) (omega arith) (s .pre .1 .0) (s .pre .1 .1);
       reached = λ p h. absurd (omega arith);
       low = search needs;
@@ -72,18 +71,18 @@ loop-holds c =
     }
 
 -- what a neighbour's position is
-placed : (c : tie.After-node2 Inv-loop μ-loop) →
+placed : (c : tie.After-wide2 Inv-loop μ-loop) →
     let at = c .before .before .before in
     let l = at .loop in
     let s = start (at .before .before) in
-    (c .node2 .result < s .args .n)
-    × (getD (s .args .positions .now) (c .node2 .result) 0 < s .args .i → isRow (mesh s) (s .args .order .now) (s .args .i) (getD (s .args .positions .now) (c .node2 .result) 0) ≡ true)
+    (c .wide2 .result < s .args .n)
+    × (getD (s .args .positions .now) (c .wide2 .result) 0 < s .args .i → isRow (mesh s) (s .args .order .now) (s .args .i) (getD (s .args .positions .now) (c .wide2 .result) 0) ≡ true)
 placed c =
     let at = c .before .before .before in
     let l = at .loop in
     let s = start (at .before .before) in
     let lt : l .e < length (neighboursOf (mesh s) (getD (s .args .order .now) (s .args .i) 0)) = omega (arith, ap length (l .inv .near)) in
-    rw (c .node2 .ensures, l .inv .near) (
+    rw (c .wide2 .ensures, l .inv .near) (
       entry-node (mesh s) (s .pre .0 .0 .checked) (getD (s .args .order .now) (s .args .i) 0) (l .e) lt,
       entry-row (mesh s) (s .args .order .now) (s .args .positions .now) (s .pre .0 .0) (s .args .i) (s .pre .0 .1) (l .e) lt,
     )
@@ -95,11 +94,11 @@ shared-slice-read-climb : tie.Need-shared-slice-read-climb Inv-loop μ-loop
 shared-slice-read-climb c = omega (arith, placed (c .before) .0)
 
 -- the climb from it
-able : (c : tie.After-node2 Inv-loop μ-loop) →
+able : (c : tie.After-wide2 Inv-loop μ-loop) →
     let at = c .before .before .before in
     let l = at .loop in
     let s = start (at .before .before) in
-    Climbable (s .args .i) (getD (s .args .positions .now) (c .node2 .result) 0) (l .tree) (l .marks) (l .counts)
+    Climbable (s .args .i) (getD (s .args .positions .now) (c .wide2 .result) 0) (l .tree) (l .marks) (l .counts)
 able c =
     let at = c .before .before .before in
     let l = at .loop in
@@ -132,7 +131,7 @@ loop-again c =
       climbing = t .climbing;
       reached = λ p h lt. elim (eq-or-ne p (l .e)) [
         | inl e ↦
-            let q : k .node2 .result ≡ getD entries p 0 = k .node2 .ensures ∙ ap (λ (x : ℕ). getD entries x 0) (sym e) in
+            let q : k .wide2 .result ≡ getD entries p 0 = k .wide2 .ensures ∙ ap (λ (x : ℕ). getD entries x 0) (sym e) in
             rw (← q) (t .reached (rw (← q) at lt))
         | inr e ↦ t .kept _ (l .inv .reached p (omega (arith, e)) lt)
       ];
@@ -168,7 +167,7 @@ count-row-spec =
     (λ c. search needs)
     (λ c. search needs)
     (λ c. search needs)
-    shared-slice-read-node
+    shared-slice-read-wide
     (λ c κs. search needs)
     list-requires
     loop-holds

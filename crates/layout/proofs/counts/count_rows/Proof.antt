@@ -5,8 +5,7 @@ use mathlib.Core.List.{List}
 use native.Mathlib.Omega.{arith}
 use borrow.Author.Needs.{needs}
 use lib.ListN.{length}
-use Rattle.plan.specs.Mesh.{Mesh}
-use Rattle.mesh.specs.Lent.{lent}
+use Rattle.plan.specs.Mesh.{Mesh, lent}
 use Rattle.layout.specs.Arrays.{Unmarked, CountedBelow}
 use Rattle.layout.proofs.Climbing.{counted-none, counted-all}
 use Rattle.layout.proofs.counts.count_rows.Statement.{statement}

@@ -16,13 +16,13 @@ abbrev μ-loop : tie.MeasureT-loop
 μ-loop order positions₀ i₀ i-end positions i = length order - i
 
 -- the node that gets a position is one of the order's
-inside : (c : tie.After-node Inv-loop μ-loop) → let s = c .before .before .before .before .before .before in
-    (c .node .result ≡ getD (s .args .order .now) (c .before .before .before .loop .i) 0) × (c .node .result < length (s .args .order .now))
+inside : (c : tie.After-wide Inv-loop μ-loop) → let s = c .before .before .before .before .before .before in
+    (c .wide .result ≡ getD (s .args .order .now) (c .before .before .before .loop .i) 0) × (c .wide .result < length (s .args .order .now))
 inside c =
     let l = c .before .before .before in
     let s = l .before .before .before in
     let h = order-inside (length (s .args .order .now)) (s .args .order .now) (s .pre .0) (l .loop .i) (omega arith) in
-    (c .node .ensures, omega (arith, c .node .ensures))
+    (c .wide .ensures, omega (arith, c .wide .ensures))
 
 loop-holds : tie.Need-loop-holds Inv-loop μ-loop
 loop-holds c = (search needs, record { long = refl; placed = λ p h. absurd (omega arith); rest = λ v h. refl })

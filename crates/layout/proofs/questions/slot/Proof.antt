@@ -11,7 +11,7 @@ use borrow.Author.Needs.{needs}
 use Rattle.plan.specs.Lists.{isIn, listAt, ascending}
 use Rattle.plan.specs.Answers.{accepted, noSlotCase}
 use Rattle.plan.specs.Questions.{slotOf}
-use Rattle.mesh.specs.Lent.{LowerBound}
+use Rattle.mesh.specs.Lists.{LowerBound}
 use Rattle.mesh.proofs.Bisection.{place-none, place-in, place-first}
 use Rattle.mesh.proofs.Lists.{list-long}
 use Rattle.layout.proofs.Answered.{slot-none, slot-found}
@@ -43,8 +43,8 @@ inside : (c : tie.Else1) → c .before .lower-bound .result < length (column (c 
 inside c = omega (arith, c .if1 .left, placed (c .before) .within, ap length (c .before .before .list .ensures))
 
 -- the row at it
-row-there : (c : tie.After-node) → let l = c .before .before .before in c .node .result ≡ getD (column (l .before .before .before .before)) (l .lower-bound .result) 0
-row-there c = let l = c .before .before .before in c .node .ensures ∙ ap (λ (r : List ℕ). getD r (l .lower-bound .result) 0) (l .before .list .ensures)
+row-there : (c : tie.After-wide) → let l = c .before .before .before in c .wide .result ≡ getD (column (l .before .before .before .before)) (l .lower-bound .result) 0
+row-there c = let l = c .before .before .before in c .wide .ensures ∙ ap (λ (r : List ℕ). getD r (l .lower-bound .result) 0) (l .before .list .ensures)
 
 returns-2 : tie.Need-returns-2
 returns-2 c = ap accepted (sym (no-slot (c .before .before .before .before) (λ lt e. c .if2 .taken (row-there (c .before) ∙ e))))

@@ -5,7 +5,7 @@ use native.Mathlib.Omega.{arith}
 use borrow.Author.Needs.{needs}
 use Rattle.plan.specs.Mesh.{maxNodes}
 use Rattle.plan.specs.Questions.{columnRefusal}
-use Rattle.mesh.specs.Lent.{ListWithin}
+use Rattle.mesh.specs.Lists.{ListWithin}
 use Rattle.layout.proofs.Answered.{column-there, span-refused, span-found}
 use Rattle.ndplan.proofs.entries.ndp_rows.Statement.{statement}
 use Rattle.ndplan.proofs.entries.ndp_rows.Tie as tie

@@ -7,7 +7,7 @@ use Rattle.plan.specs.Lists.{listAt}
 use Rattle.plan.specs.File.{badColumn}
 use Rattle.theory.proofs.Written.{front-within, front-long}
 use Rattle.theory.proofs.ColumnRule.{column-many}
-use Rattle.mesh.specs.Lent.{ListWithin}
+use Rattle.mesh.specs.Lists.{ListWithin}
 use Rattle.mesh.proofs.Lists.{list-long}
 use Rattle.planfile.specs.Filed.{rowsIn}
 use Rattle.planfile.proofs.Nesting.{started-within}

@@ -8,7 +8,7 @@ use lib.ListN.{length}
 use borrow.Author.Needs.{needs}
 use Rattle.plan.specs.Lists.{listAt}
 use Rattle.plan.specs.File.{badColumn, badColumns}
-use Rattle.mesh.proofs.Scans.{Clear, clear-more, found-below, none-below}
+use Rattle.theory.proofs.Scans.{Clear, clear-more, found-below, none-below}
 use Rattle.planfile.specs.Filed.{rowsIn}
 use Rattle.planfile.proofs.encoded.bad_columns.Statement.{statement}
 use Rattle.planfile.proofs.encoded.bad_columns.Tie as tie

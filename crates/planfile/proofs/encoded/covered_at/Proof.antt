@@ -7,7 +7,7 @@ use lib.ListN.{length, take, drop, getD}
 use borrow.Author.Needs.{needs}
 use Rattle.plan.specs.Lists.{listAt, ascending}
 use Rattle.theory.proofs.Written.{front-within, front-long, front-entry, front-others}
-use Rattle.mesh.specs.Lent.{ListWithin}
+use Rattle.mesh.specs.Lists.{ListWithin}
 use Rattle.mesh.proofs.Lists.{list-long}
 use Rattle.planfile.specs.Filed.{rowsIn}
 use Rattle.planfile.proofs.Nesting.{laid-within, laid-ascending, laid-row, laid-few, laid-others, covered-few, covered-is}
@@ -53,17 +53,17 @@ many : (c : tie.After-load) → 2 ≤ c .load .result
 many c = omega (arith, c .load .ensures .0, counted (c .before .before .before), c .before .before .if1 .left)
 
 -- where the column was read, seen from its first row
-abbrev loaded : tie.After-node → tie.After-load
+abbrev loaded : tie.After-wide → tie.After-load
 loaded c = c .before .before .before .before
 
 -- the first row
-first : (c : tie.After-node) → let s = start (loaded c) in c .node .result ≡ getD (rowsOf s (s .args .j)) 0 0
+first : (c : tie.After-wide) → let s = start (loaded c) in c .wide .result ≡ getD (rowsOf s (s .args .j)) 0 0
 first c =
     let l = loaded c in
-    c .node .ensures ∙ front-entry _ _ _ (l .load .ensures .0) (l .load .ensures .1) 0 0 (omega (arith, many l))
+    c .wide .ensures ∙ front-entry _ _ _ (l .load .ensures .0) (l .load .ensures .1) 0 0 (omega (arith, many l))
 
 -- is a position
-below-n : (c : tie.After-node) → c .node .result < start (loaded c) .args .n
+below-n : (c : tie.After-wide) → c .wide .result < start (loaded c) .args .n
 below-n c =
     let l = loaded c in
     let s = start l in
@@ -74,7 +74,7 @@ load-requires-2 c κs =
     let s = start (loaded (c .before)) in (
       s .pre .0 .started,
       below-n (c .before),
-      omega (arith, s .pre .3, laid-few (s .args .n) (s .args .columnStarts .now) (rowsIn (s .args .bytes .now)) (s .pre .0) (c .before .node .result) (below-n (c .before))),
+      omega (arith, s .pre .3, laid-few (s .args .n) (s .args .columnStarts .now) (rowsIn (s .args .bytes .now)) (s .pre .0) (c .before .wide .result) (below-n (c .before))),
     )
 
 slice-reshare-prefix-contains-all : tie.Need-slice-reshare-prefix-contains-all
@@ -106,7 +106,7 @@ contains-all-requires c κs =
     let l = loaded i in
     let s = start l in (
       ap ascending (m .load2 .ensures .1)
-          ∙ laid-ascending (s .args .n) (s .args .columnStarts .now) (rowsIn (s .args .bytes .now)) (s .pre .0) (i .node .result) (below-n i),
+          ∙ laid-ascending (s .args .n) (s .args .columnStarts .now) (rowsIn (s .args .bytes .now)) (s .pre .0) (i .wide .result) (below-n i),
       ap ascending (others l)
           ∙ laid-others (s .args .n) (s .args .columnStarts .now) (rowsIn (s .args .bytes .now)) (s .pre .0) (s .args .j) (s .pre .1),
     )

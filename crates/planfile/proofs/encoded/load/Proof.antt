@@ -1,7 +1,7 @@
 -- `planfile::encoded::load` meets its contract: the column's numbers are read to the front of the buffer.
 use native.Mathlib.Omega.{arith}
 use borrow.Author.Needs.{needs}
-use Rattle.mesh.specs.Lent.{ListWithin}
+use Rattle.mesh.specs.Lists.{ListWithin}
 use Rattle.mesh.proofs.Lists.{list-long}
 use Rattle.planfile.specs.Filed.{rowsIn}
 use Rattle.planfile.proofs.Nesting.{started-within}

@@ -8,7 +8,7 @@ use lib.ListN.{length}
 use borrow.Author.Needs.{needs}
 use Rattle.plan.specs.Lists.{listAt}
 use Rattle.plan.specs.File.{outsideAncestors, notNested}
-use Rattle.mesh.proofs.Scans.{Clear, clear-more, found-below, none-below}
+use Rattle.theory.proofs.Scans.{Clear, clear-more, found-below, none-below}
 use Rattle.planfile.specs.Filed.{rowsIn}
 use Rattle.planfile.proofs.Nesting.{parts-total, parts-few, parts-parents, parts-numbers, outside-is, laid-between}
 use Rattle.planfile.proofs.encoded.not_nested.Statement.{statement}

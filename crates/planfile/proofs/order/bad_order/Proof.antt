@@ -26,10 +26,10 @@ returns c =
     let n = c .before in
     let k = n .before .before .before in
     let order = k .before .before .before .args .order .now in
-    sym (entry-outside order (k .loop .i) (omega arith) (omega (arith, n .node .ensures)))
+    sym (entry-outside order (k .loop .i) (omega arith) (omega (arith, n .wide .ensures)))
 
 -- the node is one
-inside : (c : tie.Else1 Inv-loop μ-loop) → c .before .node .result < length (c .before .before .before .before .before .before .before .args .order .now)
+inside : (c : tie.Else1 Inv-loop μ-loop) → c .before .wide .result < length (c .before .before .before .before .before .before .before .args .order .now)
 inside c = omega arith
 
 returns-2 : tie.Need-returns-2 Inv-loop μ-loop
@@ -38,7 +38,7 @@ returns-2 c =
     let n = e .before in
     let k = n .before .before .before in
     let order = k .before .before .before .args .order .now in
-    sym (entry-again order (k .loop .marks) (k .loop .i) (n .node .result) (omega arith) (k .loop .inv) (n .node .ensures) (inside e) (c .if2 .taken))
+    sym (entry-again order (k .loop .marks) (k .loop .i) (n .wide .result) (omega arith) (k .loop .inv) (n .wide .ensures) (inside e) (c .if2 .taken))
 
 loop-again : tie.Need-loop-again Inv-loop μ-loop
 loop-again c =
@@ -46,7 +46,7 @@ loop-again c =
     let n = e .before in
     let k = n .before .before .before in
     let order = k .before .before .before .args .order .now in
-    marked-more order (k .loop .marks) (k .loop .i) (n .node .result) (omega arith) (k .loop .inv) (n .node .ensures) (inside e) (c .if2 .left)
+    marked-more order (k .loop .marks) (k .loop .i) (n .wide .result) (omega arith) (k .loop .inv) (n .wide .ensures) (inside e) (c .if2 .left)
 
 returns-3 : tie.Need-returns-3 Inv-loop μ-loop
 returns-3 c =

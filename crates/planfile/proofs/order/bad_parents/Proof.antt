@@ -7,7 +7,7 @@ use native.Mathlib.Omega.{arith}
 use lib.ListN.{length, getD}
 use borrow.Author.Needs.{needs}
 use Rattle.plan.specs.File.{mayBeParent}
-use Rattle.mesh.proofs.Scans.{Clear, clear-more, found-below, none-below}
+use Rattle.theory.proofs.Scans.{Clear, clear-more, found-below, none-below}
 use Rattle.planfile.proofs.order.bad_parents.Statement.{statement}
 use Rattle.planfile.proofs.order.bad_parents.Tie as tie
 

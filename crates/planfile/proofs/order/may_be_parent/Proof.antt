@@ -13,14 +13,14 @@ returns-2 : tie.Need-returns-2
 unfolding mayBeParent
 returns-2 c =
     let n = c .before in
-    rw (ne-eqb _ _ (n .before .if1 .left), le-ltb _ _ (rw (n .node .ensures) at (c .if2 .taken)))
+    rw (ne-eqb _ _ (n .before .if1 .left), le-ltb _ _ (rw (n .wide .ensures) at (c .if2 .taken)))
 
 returns-3 : tie.Need-returns-3
 unfolding mayBeParent
 returns-3 c =
     let e = c .before in
     let n = e .before in
-    rw (c .node2 .ensures, ne-eqb _ _ (n .before .if1 .left), lt-ltb _ _ (rw (n .node .ensures) at (e .if2 .left)))
+    rw (c .wide2 .ensures, ne-eqb _ _ (n .before .if1 .left), lt-ltb _ _ (rw (n .wide .ensures) at (e .if2 .left)))
 
 pub may-be-parent-spec : {M : Type 1} → statement M
 may-be-parent-spec =

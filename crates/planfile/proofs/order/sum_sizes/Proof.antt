@@ -26,7 +26,7 @@ loop-holds : tie.Need-loop-holds Inv-loop μ-loop
 loop-holds c = record { whole = refl; few = search needs }
 
 -- a size is of 16 bits
-narrow : (c : tie.After-node Inv-loop μ-loop) → c .node .result < 65536
+narrow : (c : tie.After-wide Inv-loop μ-loop) → c .wide .result < 65536
 narrow c = omega (arith, c .before .shared-slice-known2 .given (c .before .before .before .loop .q))
 
 loop-again : tie.Need-loop-again Inv-loop μ-loop

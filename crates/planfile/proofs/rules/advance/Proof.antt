@@ -20,14 +20,14 @@ loop-holds c = (c .before .pre .0, c .before .pre .1)
 returns : tie.Need-returns Inv-loop μ-loop
 returns c =
     let l = c .before .before .before .before .loop in
-    record { within = l .inv .0; before = l .inv .1; from = λ lt. rw (c .before .node .ensures) at (c .if1 .taken) }
+    record { within = l .inv .0; before = l .inv .1; from = λ lt. rw (c .before .wide .ensures) at (c .if1 .taken) }
 
 loop-again : tie.Need-loop-again Inv-loop μ-loop
 loop-again c =
     let l = c .before .before .before .before .loop in (
       search needs,
       λ i lt. elim (eq-or-ne i (l .at)) [
-        | inl e ↦ rw (e, ← c .before .node .ensures) (c .if1 .left)
+        | inl e ↦ rw (e, ← c .before .wide .ensures) (c .if1 .left)
         | inr e ↦ l .inv .1 i (omega (arith, e))
       ],
     )

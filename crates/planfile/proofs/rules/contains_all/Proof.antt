@@ -10,8 +10,8 @@ use borrow.Author.Tests.{eq-eqb, ne-eqb}
 use borrow.Author.Needs.{needs}
 use Rattle.plan.specs.Lists.{isIn}
 use Rattle.theory.proofs.Ascending.{ascending-getD}
-use Rattle.mesh.specs.Lent.{LowerBound}
-use Rattle.mesh.proofs.Scans.{Clear, clear-more, elementAt, fails, one-fails, none-fails}
+use Rattle.mesh.specs.Lists.{LowerBound}
+use Rattle.theory.proofs.Scans.{Clear, clear-more, elementAt, fails, one-fails, none-fails}
 use Rattle.mesh.proofs.Bisection.{place-none, place-in}
 use Rattle.planfile.proofs.rules.contains_all.Statement.{statement}
 use Rattle.planfile.proofs.rules.contains_all.Tie as tie
@@ -49,13 +49,13 @@ loop-holds c = record { within = search needs; less = λ i h lt. absurd (omega a
 advance-requires : tie.Need-advance-requires Inv-loop μ-loop
 advance-requires c κs =
     let l = c .before .before .before in
-    (l .loop .inv .within, λ i h. rw (c .node .ensures) (l .loop .inv .less i h (omega arith)))
+    (l .loop .inv .within, λ i h. rw (c .wide .ensures) (l .loop .inv .less i h (omega arith)))
 
 -- the place of number k
 place : (c : tie.After-advance Inv-loop μ-loop) →
     let l = c .before .before .before .before in
     LowerBound (list (start l)) (getD (sought (start l)) (l .loop .k) 0) (c .advance .result)
-place c = rw (← c .before .node .ensures) (c .advance .ensures)
+place c = rw (← c .before .wide .ensures) (c .advance .ensures)
 
 returns : tie.Need-returns Inv-loop μ-loop
 returns c =
@@ -66,15 +66,15 @@ returns c =
     (place-none (list s) (getD (sought s) (l .loop .k) 0) (a .advance .result) (s .pre .0) (place a) (λ lt. absurd (omega arith))))
 
 -- it is in the list where it is at its place
-answer : (c : tie.After-node2 Inv-loop μ-loop) →
+answer : (c : tie.After-wide2 Inv-loop μ-loop) →
     let a = c .before .before .before in
     let l = a .before .before .before .before in
-    elementAt (has (list (start l))) (sought (start l)) (l .loop .k) ≡ eqb (c .node2 .result) (a .before .node .result)
+    elementAt (has (list (start l))) (sought (start l)) (l .loop .k) ≡ eqb (c .wide2 .result) (a .before .wide .result)
 answer c =
     let a = c .before .before .before in
     let l = a .before .before .before .before in
     let s = start l in
-    rw (c .node2 .ensures, a .before .node .ensures)
+    rw (c .wide2 .ensures, a .before .wide .ensures)
     (sym (place-in (list s) (getD (sought s) (l .loop .k) 0) (a .advance .result) (s .pre .0) (place a) (omega (arith, place a .within))))
 
 returns-2 : tie.Need-returns-2 Inv-loop μ-loop

@@ -32,13 +32,13 @@ loop-holds : tie.Need-loop-holds Inv-loop μ-loop
 loop-holds c = record { few = search needs; reached = refl; long = refl; numbered = λ i h. absurd (omega arith) }
 
 -- part q ends within the numbers
-ends : (c : tie.After-node Inv-loop μ-loop) →
+ends : (c : tie.After-wide Inv-loop μ-loop) →
     let l = c .before .before .before in
-    l .loop .at + c .node .result ≤ length (l .loop .numbers)
+    l .loop .at + c .wide .result ≤ length (l .loop .numbers)
 ends c =
     let l = c .before .before .before in
     let s = l .before .before .before in
-    omega (arith, l .loop .inv .reached, l .loop .inv .long, c .node .ensures, s .pre .1, total-within (s .args .sizes .now) (l .loop .q) (omega arith))
+    omega (arith, l .loop .inv .reached, l .loop .inv .long, c .wide .ensures, s .pre .1, total-within (s .args .sizes .now) (l .loop .q) (omega arith))
 
 fill-requires : tie.Need-fill-requires Inv-loop μ-loop
 fill-requires c κs = ends (c .before)
@@ -55,11 +55,11 @@ loop-again c =
     let h : l .loop .q < length sizes = omega arith in
     record {
       few = search needs;
-      reached = omega (arith, total-more sizes (l .loop .q) h, l .loop .inv .reached, a .node .ensures);
+      reached = omega (arith, total-more sizes (l .loop .q) h, l .loop .inv .reached, a .wide .ensures);
       long = d .fill .kept .1 .1 .1 .0 ∙ l .loop .inv .long;
       numbered = λ i lt. elim (lt-or-le i (l .loop .at)) [
         | inl b ↦ d .fill .ensures .1 i b ∙ l .loop .inv .numbered i b
-        | inr b ↦ d .fill .ensures .0 i b lt ∙ sym (part-here sizes (l .loop .q) i h (omega (arith, l .loop .inv .reached)) (omega (arith, l .loop .inv .reached, a .node .ensures)))
+        | inr b ↦ d .fill .ensures .0 i b lt ∙ sym (part-here sizes (l .loop .q) i h (omega (arith, l .loop .inv .reached)) (omega (arith, l .loop .inv .reached, a .wide .ensures)))
       ];
     }
 

@@ -12,7 +12,7 @@ use Rattle.theory.proofs.Lists.{isIn-getD}
 use Rattle.theory.proofs.Ascending.{ascending-getD}
 use Rattle.theory.proofs.PartAncestors.{Under, here, under-trans, under-of-test}
 use Rattle.theory.proofs.ColumnRule.{good-column}
-use Rattle.mesh.proofs.Scans.{Clear, clear-more, elementAt, found-in, none-in}
+use Rattle.theory.proofs.Scans.{Clear, clear-more, elementAt, found-in, none-in}
 use Rattle.planfile.proofs.Climbs.{above-same}
 use Rattle.planfile.proofs.rules.outside.Statement.{statement}
 use Rattle.planfile.proofs.rules.outside.Tie as tie
@@ -67,10 +67,10 @@ loop-holds c =
     }
 
 -- the row that is tried is a position
-position : (c : tie.After-node Inv-loop μ-loop) → c .node .result < start (c .before .before .before) .args .n
+position : (c : tie.After-wide Inv-loop μ-loop) → c .wide .result < start (c .before .before .before) .args .n
 position c =
     let l = c .before .before .before in
-    rw (c .node .ensures) (row (start l) (l .loop .k) (omega arith) .1)
+    rw (c .wide .ensures) (row (start l) (l .loop .k) (omega arith) .1)
 
 mul-to : tie.Need-mul-to Inv-loop μ-loop
 mul-to c = omega (arith, position c, start (c .before .before .before) .pre .1 .long)
@@ -82,14 +82,14 @@ reaches-requires : tie.Need-reaches-requires Inv-loop μ-loop
 reaches-requires c κs =
     let l = c .before .before .before .before in
     let s = start l in
-    (s .pre .0, l .loop .inv .known, s .pre .1 .inside (c .before .node .result) (position (c .before)))
+    (s .pre .0, l .loop .inv .known, s .pre .1 .inside (c .before .wide .result) (position (c .before)))
 
 -- what `reaches` answers, from `part`
 reached : (c : tie.After-reaches Inv-loop μ-loop) →
     let l = c .before .before .before .before .before in
     let s = start l in
     c .reaches .result ≡ atOrAbove (s .args .parents .now) (l .loop .part) (partAt s (l .loop .k))
-reached c = rw (c .before .before .node .ensures) at (c .reaches .ensures)
+reached c = rw (c .before .before .wide .ensures) at (c .reaches .ensures)
 
 -- so from the column's part
 answer : (c : tie.After-reaches Inv-loop μ-loop) →
@@ -116,7 +116,7 @@ loop-again c =
     let s = start l in
     let k : ℕ = l .loop .k in
     let to : ℕ = partAt s k in
-    let e = c .before .before .before .node .ensures in
+    let e = c .before .before .before .wide .ensures in
     let met = not-false (c .before .reaches .result) (c .if1 .left) in
     let up = ascending-getD (rows s) (good-column (s .args .n) (s .args .j) (rows s) (s .pre .3) .0) k in
     record {

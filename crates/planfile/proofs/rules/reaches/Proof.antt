@@ -15,19 +15,19 @@ abbrev μ-loop : tie.MeasureT-loop
 μ-loop parents part to r₀ r = to - r
 
 shared-slice-read-r : tie.Need-shared-slice-read-r Inv-loop μ-loop
-shared-slice-read-r c = omega (arith, c .before .node .ensures, c .before .before .before .before .before .pre)
+shared-slice-read-r c = omega (arith, c .before .wide .ensures, c .before .before .before .before .before .pre)
 
 loop-less : tie.Need-loop-less Inv-loop μ-loop
 loop-less c =
     let l = c .before .before .before in
     let s = l .before .before in
-    rw (c .before .node .ensures) (omega (arith, reaches-up (s .args .parents .now) (s .pre .0) (l .loop .r) (omega (arith, s .pre))))
+    rw (c .before .wide .ensures) (omega (arith, reaches-up (s .args .parents .now) (s .pre .0) (l .loop .r) (omega (arith, s .pre))))
 
 loop-again : tie.Need-loop-again Inv-loop μ-loop
 loop-again c =
     let l = c .before .before .before in
     let s = l .before .before in
-    rw (c .before .node .ensures) (l .loop .inv ∙ reaches-step (s .args .parents .now) (s .pre .0) (l .loop .r) (s .args .to) (omega arith) (s .pre .2))
+    rw (c .before .wide .ensures) (l .loop .inv ∙ reaches-step (s .args .parents .now) (s .pre .0) (l .loop .r) (s .args .to) (omega arith) (s .pre .2))
 
 returns : tie.Need-returns Inv-loop μ-loop
 returns c =

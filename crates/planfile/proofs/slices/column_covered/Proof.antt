@@ -16,11 +16,11 @@ abbrev column : tie.Start → List ℕ
 column s = listAt (s .args .columnStarts .now) (s .args .rows .now) (s .args .j)
 
 -- its first row is a column of the layout
-first-below : (i : tie.After-node) → i .node .result < i .before .before .before .before .before .before .args .n
+first-below : (i : tie.After-wide) → i .wide .result < i .before .before .before .before .before .before .args .n
 first-below i =
     let l = i .before .before .before in
     let s = l .before .before .before in
-    rw (i .node .ensures, l .list .ensures)
+    rw (i .wide .ensures, l .list .ensures)
     (laid-row (s .args .n) (s .args .columnStarts .now) (s .args .rows .now) (s .pre .0) (s .args .j) (s .pre .1) 0 (omega (arith, i .before .before .if1 .left, ap length (l .list .ensures))))
 
 -- what is lent of the column are its rows behind the first
@@ -43,14 +43,14 @@ returns c =
 list-requires-2 : tie.Need-list-requires-2
 list-requires-2 c κs =
     let s = c .before .before .before .before .before .before in
-    laid-within (s .args .n) (s .args .columnStarts .now) (s .args .rows .now) (s .pre .0) (c .node .result) (first-below c)
+    laid-within (s .args .n) (s .args .columnStarts .now) (s .args .rows .now) (s .pre .0) (c .wide .result) (first-below c)
 
 contains-all-requires : tie.Need-contains-all-requires
 contains-all-requires c κs =
     let i = c .before .before in
     let l = i .before .before .before in
     let s = l .before .before .before in (
-      ap ascending (c .before .list2 .ensures) ∙ laid-ascending (s .args .n) (s .args .columnStarts .now) (s .args .rows .now) (s .pre .0) (i .node .result) (first-below i),
+      ap ascending (c .before .list2 .ensures) ∙ laid-ascending (s .args .n) (s .args .columnStarts .now) (s .args .rows .now) (s .pre .0) (i .wide .result) (first-below i),
       ap ascending (others l) ∙ laid-others (s .args .n) (s .args .columnStarts .now) (s .args .rows .now) (s .pre .0) (s .args .j) (s .pre .1),
     )
 
@@ -59,7 +59,7 @@ returns-2 c =
     let i = c .before .before .before in
     let l = i .before .before .before in
     let s = l .before .before .before in
-    rw (c .contains-all .ensures, others l, c .before .before .list2 .ensures, i .node .ensures, l .list .ensures)
+    rw (c .contains-all .ensures, others l, c .before .before .list2 .ensures, i .wide .ensures, l .list .ensures)
     (sym (covered-is (s .args .columnStarts .now) (s .args .rows .now) (column s) (omega (arith, i .before .before .if1 .left, ap length (l .list .ensures)))))
 
 pub column-covered-spec : {M : Type 1} → statement M

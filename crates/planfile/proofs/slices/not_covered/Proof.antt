@@ -7,7 +7,7 @@ use native.Mathlib.Omega.{arith}
 use borrow.Author.Needs.{needs}
 use Rattle.plan.specs.Lists.{listAt}
 use Rattle.plan.specs.File.{covered, notCovered}
-use Rattle.mesh.proofs.Scans.{Clear, clear-more, found-below, none-below}
+use Rattle.theory.proofs.Scans.{Clear, clear-more, found-below, none-below}
 use Rattle.planfile.proofs.slices.not_covered.Statement.{statement}
 use Rattle.planfile.proofs.slices.not_covered.Tie as tie
 

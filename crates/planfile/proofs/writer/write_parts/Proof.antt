@@ -7,7 +7,8 @@ use lib.ListN.{length, getD}
 use borrow.Author.Needs.{needs}
 use Rattle.plan.specs.File.{encode16, encodeParts}
 use Rattle.theory.proofs.Written.{Reached, lentFrom, reached-long, reached-room, reached-more}
-use Rattle.theory.proofs.Coding.{encode16-length, blocks, Blocks, blocks-none, blocks-next, blocks-all}
+use Rattle.theory.proofs.Coding.{encode16-length, Blocks, blocks-none, blocks-next, blocks-all}
+use Rattle.theory.proofs.Flatten.{blocks}
 use Rattle.planfile.proofs.writer.write_parts.Statement.{statement}
 use Rattle.planfile.proofs.writer.write_parts.Tie as tie
 

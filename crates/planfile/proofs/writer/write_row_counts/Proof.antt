@@ -9,7 +9,8 @@ use Rattle.plan.specs.Lists.{written}
 use Rattle.plan.specs.Planning.{rowCounts}
 use Rattle.plan.specs.File.{encode16}
 use Rattle.theory.proofs.Written.{reached-long, reached-room, reached-more}
-use Rattle.theory.proofs.Coding.{encode16-length, blocks, made-blocks, Blocks, blocks-none, blocks-next, blocks-all}
+use Rattle.theory.proofs.Coding.{encode16-length, made-blocks, Blocks, blocks-none, blocks-next, blocks-all}
+use Rattle.theory.proofs.Flatten.{blocks}
 use Rattle.planfile.proofs.writer.write_row_counts.Statement.{statement}
 use Rattle.planfile.proofs.writer.write_row_counts.Tie as tie
 

@@ -19,13 +19,13 @@ returns : tie.Need-returns Inv-loop μ-loop
 returns c =
     let l = c .before .before .before .before in
     let sizes = l .before .before .args .sizes .now in
-    omega (arith, l .loop .inv .2, part-here sizes (l .loop .q) (l .loop .left) (omega arith) (omega (arith, c .if1 .taken, c .before .node .ensures)))
+    omega (arith, l .loop .inv .2, part-here sizes (l .loop .q) (l .loop .left) (omega arith) (omega (arith, c .if1 .taken, c .before .wide .ensures)))
 
 loop-again : tie.Need-loop-again Inv-loop μ-loop
 loop-again c =
     let l = c .before .before .before .before in
     let sizes = l .before .before .args .sizes .now in
-    let size = c .before .node .ensures in
+    let size = c .before .wide .ensures in
     (search needs, search needs, rw size (omega (arith, l .loop .inv .2, part-behind sizes (l .loop .q) (l .loop .left) (omega arith) (omega (arith, c .if1 .left, size)))))
 
 returns-2 : tie.Need-returns-2 Inv-loop μ-loop

@@ -37,12 +37,12 @@ many s = length-upFrom (length (s .args .order .now)) 0
 put : (c : tie.After-list Inv-loop μ-loop) →
     let l = c .before .before .before .before .before .before in
     let s = l .before .before .before .before .before .before in
-    lineOf (l .loop .j) (c .before .before .node .result) (c .before .part-of .result) (c .list .result .now) ≡ line s (getD (positions s) (l .loop .j) 0)
+    lineOf (l .loop .j) (c .before .before .wide .result) (c .before .part-of .result) (c .list .result .now) ≡ line s (getD (positions s) (l .loop .j) 0)
 unfolding positionLine
 put c =
     let l = c .before .before .before .before .before .before in
     let s = l .before .before .before .before .before .before in
-    rw (getD-below (length (s .args .order .now)) (l .loop .j) (omega (arith, c .before .before .before .before .before .loop-test .taken)), c .list .ensures, c .before .part-of .ensures, c .before .before .node .ensures)
+    rw (getD-below (length (s .args .order .now)) (l .loop .j) (omega (arith, c .before .before .before .before .before .loop-test .taken)), c .list .ensures, c .before .part-of .ensures, c .before .before .wide .ensures)
 
 loop-holds : tie.Need-loop-holds Inv-loop μ-loop
 loop-holds c = let s = c .before .before .before .before .before in (refl, puts-none (line s) (positions s) (s .args .out .now) (s .args .at))

@@ -19,10 +19,10 @@ abbrev μ-loop : tie.MeasureT-loop
 μ-loop out₀ at numbers last₀ i₀ i-end out last i = i-end - i
 
 -- the text of the number that is put
-number : (c : tie.After-node Inv-loop μ-loop) →
+number : (c : tie.After-wide Inv-loop μ-loop) →
     let l = c .before .before .before .before in
-    spaced (c .node .result ∷ []) ≡ spacedOne (getD (l .before .before .before .args .numbers .now) (l .loop .i) 0)
-number c = spaced-one (c .node .result) ∙ ap spacedOne (c .node .ensures)
+    spaced (c .wide .result ∷ []) ≡ spacedOne (getD (l .before .before .before .args .numbers .now) (l .loop .i) 0)
+number c = spaced-one (c .wide .result) ∙ ap spacedOne (c .wide .ensures)
 
 loop-holds : tie.Need-loop-holds Inv-loop μ-loop
 loop-holds c = let a = c .before .before .args in (search needs, puts-none spacedOne (a .numbers .now) (a .out .now) (a .at))

@@ -1,12 +1,7 @@
--- What the functions' contracts cite besides the book: a mesh put together from what is lent, lists that lie within their entries, and the place of a number in an ascending list.
+-- Lists that stand one after the other, by their starts: one that lies within the entries, and the place of a number in an ascending one.
 use mathlib.Core.List.{List}
 use Prim.Native.Nat.{ℕ, _+_, _≤_, _<_}
 use lib.ListN.{length, getD}
-use Rattle.plan.specs.Mesh.{Mesh}
-
--- the mesh that n, the starts and the neighbours make
-abbrev pub lent : ℕ → List ℕ → List ℕ → Mesh
-lent n starts neighbours = record { nodes = n; starts = starts; neighbours = neighbours }
 
 -- list v has a start and an end, in this order, and ends within the entries
 pub record ListWithin (starts entries : List ℕ) (v : ℕ) : Type 0 where

@@ -1,4 +1,4 @@
--- `mesh::rising` meets its contract: the loop tries each entry with the one before it.
+-- `mesh::ascends` meets its contract: the loop tries each entry with the one before it.
 use mathlib.Core.Path.{refl, sym, ap, _∙_}
 use mathlib.Core.Bool.{not}
 use Prim.Native.Nat.{_-_, _≤_}
@@ -7,9 +7,9 @@ use lib.ListN.{length}
 use borrow.Author.Tests.{lt-ltb, le-ltb, not-true, not-false}
 use borrow.Author.Needs.{needs}
 use Rattle.plan.specs.Lists.{ascending}
-use Rattle.mesh.proofs.Scans.{Clear, clear-more, found-below, none-below, pairAt, pairAt-is, notGreater, ascending-pairs}
-use Rattle.mesh.proofs.rising.Statement.{statement}
-use Rattle.mesh.proofs.rising.Tie as tie
+use Rattle.theory.proofs.Scans.{Clear, clear-more, found-below, none-below, pairAt, pairAt-is, notGreater, ascending-pairs}
+use Rattle.mesh.proofs.ascends.Statement.{statement}
+use Rattle.mesh.proofs.ascends.Tie as tie
 
 abbrev Inv-loop : tie.InvT-loop
 Inv-loop entries i₀ i-end i = (1 ≤ i) × Clear (pairAt notGreater entries) i
@@ -38,8 +38,8 @@ returns-2 c =
     let l = k .before .args .entries .now in
     sym (not-false (ascending l) (ascending-pairs l ∙ none-below (pairAt notGreater l) (length l) (k .loop .i) (omega arith) (k .loop .inv .1)))
 
-pub rising-spec : {M : Type 1} → statement M
-rising-spec =
+pub ascends-spec : {M : Type 1} → statement M
+ascends-spec =
     tie.close
     (tie.spec
     Inv-loop
