@@ -9,21 +9,17 @@ use lib.Dec.{eqb}
 use lib.ListN.{length, getD, set}
 use lib.Seq.{getD-set-same, getD-set-other}
 use borrow.Author.Tests.{eqb-true, eqb-false, eq-eqb, ne-eqb}
-use Rattle.plan.specs.Lists.{keep, below, isIn, without}
+use Rattle.plan.specs.Lists.{below, isIn, without}
 use Rattle.theory.proofs.Bools.{tested, iff-eq}
 use Rattle.theory.proofs.Lists.{in-keep, of-keep, isIn-keep, keep-ext, keep-keep}
 use Rattle.theory.proofs.Ranges.{isIn-below, below-isIn, length-upFrom}
-use Rattle.theory.proofs.Ascending.{ascending-kept, ascending-ext}
+use Rattle.theory.proofs.Ascending.{ascending-few, ascending-kept, ascending-ext}
 use Rattle.theory.proofs.Counting.{unit, count-le, count-sum, count-once}
 use Rattle.dissection.specs.Numbers.{fresh, freshOf, Within, Renumbered}
 
 -- nodes that stand ascending below n are at most n
 pub within-few : (n : ℕ) (nodes : List ℕ) → Within n nodes → length nodes ≤ n
-within-few n nodes w =
-    let held : ℕ → Bool = λ v. isIn v nodes in
-    let same : keep held (below n) ≡ nodes = ascending-ext (keep held (below n)) nodes (ascending-kept held n) (w .ascends)
-    (λ v. iff-eq _ _ (λ h. of-keep held (below n) v h .1) (λ m. in-keep held (below n) v (below-isIn n v (w .inside v m)) m)) in
-    omega (arith, ap length same, count-le held (below n), length-upFrom n 0)
+within-few n nodes w = omega (arith, ascending-few nodes 0 n (w .ascends) (λ v h. (omega arith, w .inside v h)))
 
 -- a smaller number is not the fresh nodes' one
 pub not-fresh : (x : ℕ) → x < fresh → eqb x fresh ≡ false

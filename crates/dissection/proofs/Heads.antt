@@ -15,6 +15,7 @@ use Rattle.plan.specs.Mesh.{noParent, Mesh, adjacent}
 use Rattle.plan.specs.Choice.{georgeLiu}
 use Rattle.plan.specs.Dissection.{Forest, parts, sizes, parents}
 use Rattle.plan.specs.Steps.{byNumber}
+use Rattle.plan.specs.Planning.{dissectionOf}
 use Rattle.theory.specs.Checked.{Checked}
 use Rattle.theory.specs.PartTree.{PartTree}
 use Rattle.theory.proofs.Bools.{cond-true, cond-false, eq-or-ne, lt-or-le}
@@ -24,7 +25,7 @@ use Rattle.theory.proofs.Counting.{count-le}
 use Rattle.theory.proofs.Forest.{sizes-length}
 use Rattle.theory.proofs.Dissection.{parts-few, dissection-tree}
 use Rattle.theory.proofs.Choice.{georgeLiu-takes}
-use Rattle.dissection.specs.Blocks.{inner, headsOf, stateAfter, planned, Dissected, leading, blockSizes, blockParents, Heads}
+use Rattle.dissection.specs.Blocks.{inner, headsOf, stateAfter, Dissected, leading, blockSizes, blockParents, Heads}
 use Rattle.dissection.proofs.States.{state-balanced}
 
 -- ---- the first place of a list of heads
@@ -260,13 +261,11 @@ begins-heads (b ∷ blocks) (p ∷ ps) many some plain = plain p (isIn-head p ps
 -- ---- the parts of a dissection
 
 -- the sizes sum to n, each is positive, and there is a parent for each
-planned-tree : (m : Mesh) → PartTree (m .nodes) (sizes (planned m)) (parents (planned m))
-unfolding planned
+planned-tree : (m : Mesh) → PartTree (m .nodes) (sizes (dissectionOf m)) (parents (dissectionOf m))
 planned-tree m = dissection-tree (adjacent m) (georgeLiu m) (georgeLiu-takes m) (m .nodes)
 
 -- there are at most as many parts as nodes
-planned-few : (m : Mesh) → length (parts (planned m)) ≤ m .nodes
-unfolding planned
+planned-few : (m : Mesh) → length (parts (dissectionOf m)) ≤ m .nodes
 planned-few m = parts-few (adjacent m) (georgeLiu m) (georgeLiu-takes m) (m .nodes)
 
 -- the sizes are the lengths of the parts
@@ -281,10 +280,10 @@ module _ (m : Mesh) (good : Checked m) (orderHeld heads : List ℕ) (count : ℕ
 
   -- there are `count`
   as-many : length chosenParents ≡ count
-  as-many = sym (numbers-many count chosenParents) ∙ ap length (d .parents) ∙ planned-tree m .asMany ∙ sizes-length (planned m) ∙ sym (d .many)
+  as-many = sym (numbers-many count chosenParents) ∙ ap length (d .parents) ∙ planned-tree m .asMany ∙ sizes-length (dissectionOf m) ∙ sym (d .many)
 
   -- so there are as many as parts
-  parts-many : length chosenParents ≡ length (parts (planned m))
+  parts-many : length chosenParents ≡ length (parts (dissectionOf m))
   parts-many = as-many ∙ d .many
 
   -- none, or one of the parts
@@ -303,32 +302,32 @@ module _ (m : Mesh) (good : Checked m) (orderHeld heads : List ℕ) (count : ℕ
   parent-plain p h e = elim (parent-known p h) [ inl n ↦ omega arith | inr n ↦ omega (arith, d .many, planned-few m, good .few) ]
 
   -- each part has a node
-  parts-full : (q : ℕ) → q < length (map length (parts (planned m))) → 0 < getD (map length (parts (planned m))) q 0
-  parts-full = subst (λ (l : List ℕ). (q : ℕ) → q < length l → 0 < getD l q 0) (sizes-lengths (planned m)) (planned-tree m .positive)
+  parts-full : (q : ℕ) → q < length (map length (parts (dissectionOf m))) → 0 < getD (map length (parts (dissectionOf m))) q 0
+  parts-full = subst (λ (l : List ℕ). (q : ℕ) → q < length l → 0 < getD l q 0) (sizes-lengths (dissectionOf m)) (planned-tree m .positive)
 
   -- there is a part
-  parts-some : 0 < length (parts (planned m))
-  parts-some = omega (arith, total-some (sizes (planned m)) (omega (arith, planned-tree m .whole, good .some)), sizes-length (planned m))
+  parts-some : 0 < length (parts (dissectionOf m))
+  parts-some = omega (arith, total-some (sizes (dissectionOf m)) (omega (arith, planned-tree m .whole, good .some)), sizes-length (dissectionOf m))
 
   -- the sizes that are read are those of the parts
-  read-sizes : blockSizes (take (m .nodes) heads) ≡ sizes (planned m)
-  read-sizes = ap blockSizes (d .marks) ∙ sizes-heads (parts (planned m)) chosenParents parts-many parts-full parent-plain ∙ sym (sizes-lengths (planned m))
+  read-sizes : blockSizes (take (m .nodes) heads) ≡ sizes (dissectionOf m)
+  read-sizes = ap blockSizes (d .marks) ∙ sizes-heads (parts (dissectionOf m)) chosenParents parts-many parts-full parent-plain ∙ sym (sizes-lengths (dissectionOf m))
 
   -- and the parents
   read-parents : blockParents (take (m .nodes) heads) ≡ chosenParents
-  read-parents = ap blockParents (d .marks) ∙ parents-heads (parts (planned m)) chosenParents parts-many parent-plain
+  read-parents = ap blockParents (d .marks) ∙ parents-heads (parts (dissectionOf m)) chosenParents parts-many parent-plain
 
   -- so these are heads of `count` blocks
   read-heads : Heads (take (m .nodes) heads) count
   read-heads = record {
-    begins = rw (d .marks) (begins-heads (parts (planned m)) chosenParents parts-many parts-some parent-plain);
+    begins = rw (d .marks) (begins-heads (parts (dissectionOf m)) chosenParents parts-many parts-some parent-plain);
     many = ap length read-parents ∙ as-many;
     known = rw read-parents parent-known;
   }
 
 -- What is read from the heads of a dissection are its parts: their sizes, and their parents by number.
 pub dissected-parts : (m : Mesh) → Checked m → (order heads : List ℕ) (count : ℕ) → Dissected m order heads count
-    → Heads (take (m .nodes) heads) count × (blockSizes (take (m .nodes) heads) ≡ sizes (planned m)) × (byNumber count (blockParents (take (m .nodes) heads)) ≡ parents (planned m))
+    → Heads (take (m .nodes) heads) count × (blockSizes (take (m .nodes) heads) ≡ sizes (dissectionOf m)) × (byNumber count (blockParents (take (m .nodes) heads)) ≡ parents (dissectionOf m))
 dissected-parts m good order heads count d = (
   read-heads m good order heads count d,
   read-sizes m good order heads count d,

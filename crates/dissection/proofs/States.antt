@@ -18,6 +18,7 @@ use Rattle.plan.specs.Choice.{georgeLiu}
 use Rattle.plan.specs.Dissection.{parts, order}
 use Rattle.plan.specs.Enough.{StepsAgree}
 use Rattle.plan.specs.Steps.{Pending, State, pendingBelow, begin, stepWith, step, steps, byNumber}
+use Rattle.plan.specs.Planning.{dissectionOf}
 use Rattle.theory.specs.Regions.{All, Region}
 use Rattle.theory.specs.Checked.{Checked}
 use Rattle.theory.specs.Balanced.{regionsOf, parentsOf, ParentBefore, Balanced}
@@ -25,17 +26,17 @@ use Rattle.theory.proofs.Bools.{tested, cond-true, cond-false, eq-or-ne, lt-or-
 use Rattle.theory.proofs.Lists.{keep-all, keep-ext, isIn-head, isIn-getD, isIn-append-cases, of-keep, getD-reverse}
 use Rattle.theory.proofs.Ranges.{length-upFrom, length-map-upFrom}
 use Rattle.theory.proofs.Written.{front-written}
-use Rattle.theory.proofs.Flatten.{flatten-append, flatten-nil, flatten-cons}
+use Rattle.theory.proofs.Flatten.{flatten-one, flatten-append, flatten-nil, flatten-cons}
 use Rattle.theory.proofs.AllLists.{all-map, all-reverseAux, lists-few}
-use Rattle.theory.proofs.Counting.{count-all, count-append, count-exists, exists-count, same-length}
-use Rattle.theory.proofs.Components.{components-count, components-some}
+use Rattle.theory.proofs.Counting.{count-append, count-exists, exists-count}
+use Rattle.theory.proofs.Components.{components-some}
 use Rattle.theory.proofs.Choice.{georgeLiu-takes}
-use Rattle.theory.proofs.Dissection.{part-count}
+use Rattle.theory.proofs.Dissection.{regionsLeft, part-length, first-regions-length, part-count}
 use Rattle.theory.proofs.Steps.{state, steps-done, steps-add, steps-agree}
 use Rattle.theory.proofs.StepStates.{balanced-steps, balanced-few, balanced-inside}
 use Rattle.dissection.specs.Numbers.{fresh, outside, freshOf, Only, Renumbered, grouped, beginOf, Begins, Labelled}
 use Rattle.dissection.specs.Standing.{Divided}
-use Rattle.dissection.specs.Blocks.{inner, headsOf, stateAfter, planned, Holds, Dissected}
+use Rattle.dissection.specs.Blocks.{inner, headsOf, stateAfter, Holds, Dissected}
 use Rattle.dissection.proofs.Blocks.{stretch-of, stretch-other, headed-heads, marked-headed, heads-append, heads-long, heads-first, begin-end, begin-front, begin-before, Firsts, firsts, Block, heads-block, heads-divided}
 
 -- ---- the last one first, turned round
@@ -74,7 +75,7 @@ parents-back parent rs others = below-back (λ q. q .parent) parent rs others �
 nodes-cons : (r : List ℕ) (rs : List (List ℕ)) → flatten (reverse (r ∷ rs)) ≡ flatten (reverse rs) ++ r
 nodes-cons r rs =
     ap flatten (reverse-cons r rs) ∙ flatten-append (reverse rs) (r ∷ [])
-    ∙ ap (λ (l : List ℕ). flatten (reverse rs) ++ l) (flatten-cons r [] ∙ ap (λ (l : List ℕ). r ++ l) flatten-nil ∙ append-nil r)
+    ∙ ap (λ (l : List ℕ). flatten (reverse rs) ++ l) (flatten-one r)
 
 -- and its heads
 heads-cons : (r : List ℕ) (rs : List (List ℕ)) (p : ℕ) (ps : List ℕ) → length rs ≡ length ps
@@ -98,13 +99,9 @@ pub state-balanced : (m : Mesh) (k : ℕ) → Balanced (adjacent m) (m .nodes) (
 unfolding stateAfter
 state-balanced m k = balanced-steps (adjacent m) (m .nodes) (georgeLiu m) (georgeLiu-takes m) k
 
--- what a region leaves
-abbrev regionsLeft : Mesh → List ℕ → List (List ℕ)
-regionsLeft m r = components (adjacent m) (without (georgeLiu m r) r)
-
 -- the state with the first pending region cut
 abbrev cut : Mesh → Pending → List Pending → List (List ℕ) → List ℕ → State
-cut m next others chosen ps = state (pendingBelow (length chosen) (regionsLeft m (next .region)) ++ others) (georgeLiu m (next .region) ∷ chosen) (next .parent ∷ ps)
+cut m next others chosen ps = state (pendingBelow (length chosen) (regionsLeft (adjacent m) (georgeLiu m) (next .region)) ++ others) (georgeLiu m (next .region) ∷ chosen) (next .parent ∷ ps)
 
 -- a step cuts the first pending region
 step-cut : (m : Mesh) (s : State) (next : Pending) (others : List Pending) → s .pending ≡ next ∷ others → step (adjacent m) (georgeLiu m) s ≡ cut m next others (s .chosen) (s .parents)
@@ -256,7 +253,7 @@ module _ {m : Mesh} {orderHeld heads : List ℕ} {left : ℕ} (k : ℕ) (l : Las
 
   -- what it leaves
   abbrev pub rest : List (List ℕ)
-  rest = regionsLeft m (l .next .region)
+  rest = regionsLeft (adjacent m) (georgeLiu m) (l .next .region)
 
   -- where its part is to stand
   abbrev pub partPlace : ℕ
@@ -311,15 +308,7 @@ module _ {m : Mesh} {orderHeld heads : List ℕ} {left : ℕ} (k : ℕ) (l : Las
 
   -- with the regions that are left the part makes up the region
   part-rest : length (flatten rest) + length (georgeLiu m (l .next .region)) ≡ length (l .next .region)
-  part-rest =
-      let r : List ℕ = l .next .region in
-      omega (
-        arith,
-        part-count (adjacent m) (georgeLiu m) (georgeLiu-takes m) r (l .region) (λ v. true),
-        count-all (georgeLiu m r),
-        count-all (flatten rest),
-        count-all r,
-      )
+  part-rest = omega (arith, part-length (adjacent m) (georgeLiu m) (georgeLiu-takes m) (l .next .region) (l .region))
 
   -- each region that is left has a node
   rest-full : All (λ b. 0 < length b) rest
@@ -353,7 +342,7 @@ module _ {m : Mesh} {orderHeld heads : List ℕ} {left : ℕ} (k : ℕ) (l : Las
     groups-nodes =
         let part : List ℕ = georgeLiu m (l .next .region) in
         ap flatten (d .groups) ∙ flatten-append rest (part ∷ [])
-        ∙ ap (λ (l : List ℕ). flatten rest ++ l) (flatten-cons part [] ∙ ap (λ (l : List ℕ). part ++ l) flatten-nil ∙ append-nil part)
+        ∙ ap (λ (l : List ℕ). flatten rest ++ l) (flatten-one part)
 
     -- each node of the region is in a group
     pub region-number : (v : ℕ) → isIn v (l .next .region) ≡ true → getD numbers v 0 < count + 1
@@ -441,7 +430,7 @@ firstRegions m = components (adjacent m) (below (m .nodes))
 
 -- they hold every node once
 pub first-nodes : (m : Mesh) → length (flatten (firstRegions m)) ≡ m .nodes
-first-nodes m = same-length (flatten (firstRegions m)) (below (m .nodes)) (components-count (adjacent m) (below (m .nodes))) ∙ length-upFrom (m .nodes) 0
+first-nodes m = first-regions-length (adjacent m) (m .nodes)
 
 -- the components one after the other, each with no parent, are the state before the first step
 pub holds-begin : (m : Mesh) (orderHeld heads : List ℕ) → take (m .nodes) orderHeld ≡ flatten (firstRegions m)
@@ -552,8 +541,8 @@ none-pending m k orderHeld heads left checked h z = elim (pending-cases (stateAf
 ]
 
 -- it is then the state that the steps of the book end with
-steps-end : (m : Mesh) (k : ℕ) → Checked m → k ≤ m .nodes → stateAfter m k .pending ≡ [] → StepsAgree (planned m) (stateAfter m k)
-unfolding stateAfter planned
+steps-end : (m : Mesh) (k : ℕ) → Checked m → k ≤ m .nodes → stateAfter m k .pending ≡ [] → StepsAgree (dissectionOf m) (stateAfter m k)
+unfolding stateAfter
 steps-end m k checked few e =
     let b : State = begin (adjacent m) (m .nodes) in
     let s : State = stateAfter m k in
@@ -568,8 +557,8 @@ unfolding order
 dissected m k orderHeld heads left checked h z many =
     let s : State = stateAfter m k in
     let e : s .pending ≡ [] = none-pending m k orderHeld heads left checked h z in
-    let agree : StepsAgree (planned m) s = steps-end m k checked (omega (arith, balanced-few (adjacent m) (m .nodes) s (state-balanced m k))) e in
-    let count : length (parts (planned m)) ≡ k = ap length (sym (agree .chosen)) ∙ many in
+    let agree : StepsAgree (dissectionOf m) s = steps-end m k checked (omega (arith, balanced-few (adjacent m) (m .nodes) s (state-balanced m k))) e in
+    let count : length (parts (dissectionOf m)) ≡ k = ap length (sym (agree .chosen)) ∙ many in
     record {
       order = h .order ∙ ap (λ (l : List Pending). flatten (reverse (regionsOf l)) ++ flatten (s .chosen)) e ∙ ap (λ (l : List ℕ). l ++ flatten (s .chosen)) flatten-nil ∙ ap flatten (agree .chosen);
       marks = h .marks ∙ ap (λ (l : List Pending). headsOf (reverse (regionsOf l)) (reverse (parentsOf l)) ++ headsOf (s .chosen) (s .parents)) e ∙ ap (λ (bs : List (List ℕ)). headsOf bs (s .parents)) (agree .chosen);

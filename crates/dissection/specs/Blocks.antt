@@ -9,8 +9,9 @@ use lib.ListN.{length, take, replicate, getD}
 use Rattle.plan.specs.Lists.{keep, isIn}
 use Rattle.plan.specs.Mesh.{noParent, Mesh, adjacent}
 use Rattle.plan.specs.Choice.{georgeLiu}
-use Rattle.plan.specs.Dissection.{Forest, dissection, parts, parents, order}
+use Rattle.plan.specs.Dissection.{parts, parents, order}
 use Rattle.plan.specs.Steps.{State, begin, steps, byNumber}
+use Rattle.plan.specs.Planning.{dissectionOf}
 use Rattle.theory.specs.Checked.{Checked}
 use Rattle.theory.specs.Balanced.{regionsOf, parentsOf}
 use Rattle.dissection.specs.Numbers.{Only}
@@ -28,10 +29,6 @@ headsOf (block ∷ blocks) (parent ∷ parents) = (parent ∷ replicate (length 
 -- the state of the book after `parts` steps
 unfoldable pub stateAfter : Mesh → ℕ → State
 stateAfter m parts = steps parts (adjacent m) (georgeLiu m) (begin (adjacent m) (m .nodes))
-
--- the dissection of a mesh by George and Liu's choice
-unfoldable pub planned : Mesh → Forest
-planned m = dissection (adjacent m) (georgeLiu m) (m .nodes)
 
 -- The arrays hold a state of the book: the pending regions one after the other up to place `left`, the one to be cut next last, and then the chosen parts by number.
 pub record Holds (m : Mesh) (s : State) (orderHeld heads : List ℕ) (left : ℕ) : Type 0 where
@@ -51,10 +48,10 @@ pub record Working (m : Mesh) (numbers queue begins : List ℕ) : Type 0 where
 
 -- The arrays when nothing is pending: the order of the book, and the heads of its parts with the parents counted in the order of choosing.
 pub record Dissected (m : Mesh) (orderHeld heads : List ℕ) (count : ℕ) : Type 0 where
-  pub order : take (m .nodes) orderHeld ≡ order (planned m)
-  pub marks : take (m .nodes) heads ≡ headsOf (parts (planned m)) (stateAfter m count .parents)
-  pub parents : byNumber count (stateAfter m count .parents) ≡ parents (planned m)
-  pub many : count ≡ length (parts (planned m))
+  pub order : take (m .nodes) orderHeld ≡ order (dissectionOf m)
+  pub marks : take (m .nodes) heads ≡ headsOf (parts (dissectionOf m)) (stateAfter m count .parents)
+  pub parents : byNumber count (stateAfter m count .parents) ≡ parents (dissectionOf m)
+  pub many : count ≡ length (parts (dissectionOf m))
   pub orderLong : m .nodes ≤ length orderHeld
   pub headsLong : length heads ≡ 4096
 

@@ -2,7 +2,7 @@
 use mathlib.Core.Path.{_≡_, refl, sym, ap, _∙_}
 use mathlib.Core.Logic.{_≢_, inl, inr}
 use mathlib.Core.Bool.{Bool, true, false, cond, _&&_}
-use mathlib.Core.List.{List, [], _∷_, map, headD}
+use mathlib.Core.List.{List, [], _∷_, map}
 use Prim.Native.Nat.{ℕ, _+_, _≤_, _<_}
 use native.Mathlib.Numerals.{add-one}
 use native.Mathlib.Omega.{arith}
@@ -10,19 +10,19 @@ use lib.Dec.{ltb, eqb}
 use lib.ListN.{length, take, getD, set, length-map, List·getD-map}
 use lib.Seq.{length-take-le, getD-set-same, getD-set-other, getD-take, ext-getD}
 use borrow.Author.Tests.{ltb-true, lt-ltb, le-ltb, eqb-true, eqb-false, eq-eqb, ne-eqb}
-use Rattle.plan.specs.Lists.{below, upFrom, isIn, indexOf}
+use Rattle.plan.specs.Lists.{below, upFrom, indexOf}
 use Rattle.plan.specs.Mesh.{Mesh, neighboursOf, adjacent}
 use Rattle.plan.specs.Elimination.{column, columns}
 use Rattle.theory.specs.Counting.{count}
 use Rattle.theory.specs.Checked.{Symmetric}
 use Rattle.theory.specs.Rows.{edgeAt, isRow, firstRow}
 use Rattle.theory.proofs.Bools.{tested, eq-or-ne, lt-or-le, refuted, clash, and-left, and-right, and-both, cond-true, cond-false}
-use Rattle.theory.proofs.Lists.{isIn-head, isIn-getD, getD-indexOf, indexOf-lt}
+use Rattle.theory.proofs.Lists.{isIn-getD, getD-indexOf, indexOf-lt}
 use Rattle.theory.proofs.Ranges.{upFrom-snoc, length-upFrom, getD-map-below, length-map-upFrom}
 use Rattle.theory.proofs.Counting.{unit, count-append, count-cons, count-le}
 use Rattle.theory.proofs.Columns.{column-keep}
 use Rattle.mesh.proofs.Lists.{entry-node}
-use Rattle.theory.proofs.EliminationTree.{row-neighbour, row-range, row-of-first, row-closure, first-le, first-later}
+use Rattle.theory.proofs.EliminationTree.{first-is-row, row-neighbour, row-range, row-of-first, row-closure, first-le, first-later}
 use Rattle.layout.specs.Arrays.{none, Ordered, Unmarked, parentBelow, rowCountBelow, CountedBelow}
 use Rattle.layout.specs.Climbing.{countedUpTo, Climbing, Climbed}
 use Rattle.layout.proofs.Stores.{getD-set-cases}
@@ -38,15 +38,6 @@ pub record Way (m : Mesh) (order : List ℕ) (i start : ℕ) (found tree marks c
 
 module _ (m : Mesh) (order : List ℕ) where
   -- ---- rows below i, and below i + 1
-
-  -- a first row that is a position is a row
-  first-is-row : (k : ℕ) → firstRow m order k < m .nodes → isRow m order (firstRow m order k) k ≡ true
-  unfolding firstRow isRow headD
-  first-is-row k h = go (column m order k) refl h
-    where
-      go : (l : List ℕ) → column m order k ≡ l → headD l (m .nodes) < m .nodes → isIn (headD l (m .nodes)) (column m order k) ≡ true
-      go [] e lt = absurd (omega arith)
-      go (p ∷ rest) e lt = ap (isIn p) e ∙ isIn-head p rest
 
   -- row i is counted
   row-count-more : (i k : ℕ) → rowCountBelow m order (i + 1) k ≡ rowCountBelow m order i k + unit (isRow m order i k)
@@ -74,7 +65,7 @@ module _ (m : Mesh) (order : List ℕ) where
         let b : ltb (firstRow m order k) i ≡ true = lt-ltb (firstRow m order k) i l in
         rw (a, b)
     | inr l ↦ elim (eq-or-ne (firstRow m order k) i) [
-      | inl e ↦ clash (isRow m order i k) (rw e at (first-is-row k (omega arith))) h
+      | inl e ↦ clash (isRow m order i k) (rw e at (first-is-row m order k (omega arith))) h
       | inr e ↦
           let a : ltb (firstRow m order k) (i + 1) ≡ false = le-ltb (firstRow m order k) (i + 1) (omega (arith, e)) in
           let b : ltb (firstRow m order k) i ≡ false = le-ltb (firstRow m order k) i l in

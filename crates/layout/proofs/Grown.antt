@@ -1,17 +1,16 @@
 -- The rows of the first columns, and where each column starts in them.
 use mathlib.Core.Path.{_≡_, refl, sym, ap, subst, _∙_}
-use mathlib.Core.List.{List, [], _∷_, _++_, map, flatten, append-assoc, append-nil, map-append}
+use mathlib.Core.List.{List, [], _++_, map, flatten, append-assoc, append-nil}
 use Prim.Native.Nat.{ℕ, zero, suc, _+_, _-_, _≤_, _<_}
-use native.Mathlib.Nat.{zero-add, add-zero}
+use native.Mathlib.Nat.{add-zero}
 use native.Mathlib.Numerals.{add-one}
 use native.Mathlib.Omega.{arith}
 use lib.ListN.{length, take, drop, getD, length-append, length-take, List·getD-map}
 use lib.Seq.{take-at, drop-at, getD-take}
-use Rattle.plan.specs.Lists.{written, below, listAt, runningSums}
+use Rattle.plan.specs.Lists.{written, listAt, runningSums}
 use Rattle.plan.specs.Mesh.{Mesh}
 use Rattle.plan.specs.Elimination.{column, columns, startsOf}
-use Rattle.theory.proofs.Ranges.{upFrom-snoc}
-use Rattle.theory.proofs.Flatten.{flatten-append, flatten-nil, flatten-cons}
+use Rattle.theory.proofs.Flatten.{blocks, blocks-more, flatten-nil}
 use Rattle.theory.proofs.Compressed.{sums-first, sums-next, sums-length}
 use Rattle.theory.proofs.Slots.{column-counts-length, column-number}
 use Rattle.mesh.specs.Lists.{ListWithin}
@@ -26,12 +25,7 @@ module _ (m : Mesh) (order : List ℕ) where
   -- one column more
   pub rows-more : (j : ℕ) → rowsBefore m order (j + 1) ≡ rowsBefore m order j ++ column m order j
   unfolding rowsBefore
-  rows-more j =
-      ap (λ (k : ℕ). flatten (map (column m order) (below k))) (add-one j)
-      ∙ ap (λ (l : List ℕ). flatten (map (column m order) l)) (upFrom-snoc 0 j ∙ ap (λ (k : ℕ). below j ++ (k ∷ [])) (zero-add j))
-      ∙ ap flatten (map-append (column m order) (below j) (j ∷ []))
-      ∙ flatten-append (map (column m order) (below j)) (column m order j ∷ [])
-      ∙ ap (λ (l : List ℕ). rowsBefore m order j ++ l) (flatten-cons (column m order j) [] ∙ ap (λ (l : List ℕ). column m order j ++ l) flatten-nil ∙ append-nil (column m order j))
+  rows-more j = ap (blocks (column m order)) (add-one j) ∙ blocks-more (column m order) j
 
   -- all columns
   pub rows-all : rowsBefore m order (m .nodes) ≡ flatten (columns m order)

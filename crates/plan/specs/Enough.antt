@@ -9,10 +9,10 @@ use Rattle.plan.specs.Refusals.{firstFault}
 use Rattle.plan.specs.Mesh.{noParent, Mesh, adjacent, meshChecks}
 use Rattle.plan.specs.Levels.{Graph, nextLevel, levelsBack, components}
 use Rattle.plan.specs.Choice.{nextRoot, rootOf, georgeLiu}
-use Rattle.plan.specs.Dissection.{Forest, dissection, parts, parents}
+use Rattle.plan.specs.Dissection.{Forest, parts, parents}
 use Rattle.plan.specs.Steps.{State, begin, steps, byNumber}
 use Rattle.plan.specs.Parts.{parentOf, ancestors}
-use Rattle.plan.specs.Planning.{Contents, planOf}
+use Rattle.plan.specs.Planning.{Contents, dissectionOf, planOf}
 use Rattle.plan.specs.File.{badParts}
 use Rattle.plan.specs.Listing.{decimalUpTo, decimal}
 
@@ -48,7 +48,7 @@ pub record StepsAgree (f : Forest) (s : State) : Type 0 where
 abbrev pub StepsEnough : Type 0
 StepsEnough =
     (m : Mesh) → firstFault (meshChecks m) ≡ 0
-    → StepsAgree (dissection (adjacent m) (georgeLiu m) (m .nodes))
+    → StepsAgree (dissectionOf m)
     (steps (m .nodes) (adjacent m) (georgeLiu m) (begin (adjacent m) (m .nodes)))
 
 -- no digit is left out: room for more of them changes nothing

@@ -51,9 +51,12 @@ planBy m f =
       rows = flatten cols;
     }
 
--- the plan of a mesh, by George and Liu's choice
+-- the dissection of a mesh by George and Liu's choice, and the plan by it
+abbrev pub dissectionOf : Mesh → Forest
+dissectionOf m = dissection (adjacent m) (georgeLiu m) (m .nodes)
+
 unfoldable pub planOf : Mesh → Contents
-planOf m = planBy m (dissection (adjacent m) (georgeLiu m) (m .nodes))
+planOf m = planBy m (dissectionOf m)
 
 -- "Lent results: order (position to node), places (node to position), part sizes, fathers, 16 bits each ..; column starts, 32 bits ..; rows, 16 bits"
 pub record Buffers : Type 0 where

@@ -1,6 +1,6 @@
 -- Laws of planning: the checks of the lent buffers, and the plan from the order and the columns.
 use mathlib.Core.Path.{_≡_, refl, sym, ap, _∙_}
-use mathlib.Core.Bool.{true, false}
+use mathlib.Core.Bool.{false}
 use mathlib.Core.List.{List, [], _∷_, _++_, map, flatten, map-map}
 use Prim.Native.Nat.{ℕ, _+_, _-_, _≤_, _<_}
 use native.Mathlib.Omega.{arith}
@@ -21,8 +21,8 @@ use Rattle.plan.specs.Elimination.{column, columns, startsOf, multiplications}
 use Rattle.plan.specs.Planning.{Contents, Buffers, Capacity, Filled, Planned, rowCounts, planBy, planOf, buffersTooShort, rowsTooShort, planChecks, planning, handOut, capacity}
 use Rattle.theory.specs.Counting.{Order}
 use Rattle.theory.specs.Checked.{Checked}
-use Rattle.theory.proofs.Refusals.{no-fault, fault-here, no-fault-first, first-some, numbered, first-none}
-use Rattle.theory.proofs.Checked.{checked}
+use Rattle.theory.proofs.Refusals.{no-fault, fault-here, no-fault-first, first-some, first-none}
+use Rattle.theory.proofs.Checked.{mesh-passed, checked}
 use Rattle.theory.proofs.Handed.{lengthsOf, filled-refused}
 use Rattle.theory.proofs.Planned.{handed-demand3}
 use Rattle.theory.proofs.Ranges.{map-ext-upFrom, length-map-upFrom, getD-map-below}
@@ -33,20 +33,11 @@ use Rattle.theory.proofs.Slots.{column-counted, column-counts-length}
 use Rattle.theory.proofs.Choice.{georgeLiu-takes}
 use Rattle.theory.proofs.Dissection.{order-count, parts-few}
 use Rattle.layout.specs.Arrays.{Ordered}
-use Rattle.dissection.specs.Blocks.{planned, Dissected, blockSizes, blockParents}
+use Rattle.dissection.specs.Blocks.{Dissected, blockSizes, blockParents}
 use Rattle.planner.specs.Checked.{planningChecked, earlyChecks, FilledChecked}
 use Rattle.dissection.proofs.Heads.{dissected-parts}
 
 -- ---- checks
-
--- the checks of a mesh have numbers above 0
-mesh-numbered : (m : Mesh) → numbered (meshChecks m) ≡ true
-unfolding meshChecks
-mesh-numbered m = refl
-
--- behind a mesh that passes checks 1 to 7 the first fault is that of the checks to come
-pub mesh-passed : (m : Mesh) (cs : Checks) → firstFault (meshChecks m) ≡ 0 → firstFault (meshChecks m ++ cs) ≡ firstFault cs
-mesh-passed m cs h = first-none (meshChecks m) cs (mesh-numbered m) h
 
 -- what checks 1 to 8 tell where they find no fault
 pub early-passed : (m : Mesh) (room : Capacity) → firstFault (earlyChecks m room) ≡ 0 → Checked m × (buffersTooShort (m .nodes) room ≡ false)
@@ -94,12 +85,10 @@ starts-front m nodes found left e =
 
 -- the order at the front of its array holds each node once
 pub dissected-order : (m : Mesh) (held heads : List ℕ) (count : ℕ) → Dissected m held heads count → Order (m .nodes) (take (m .nodes) held)
-unfolding planned
 dissected-order m held heads count d = rw (d .order) (order-count (adjacent m) (georgeLiu m) (georgeLiu-takes m) (m .nodes))
 
 -- and there are no more parts than nodes
 pub parts-within : (m : Mesh) (held heads : List ℕ) (count : ℕ) → Dissected m held heads count → count ≤ m .nodes
-unfolding planned
 parts-within m held heads count d = omega (arith, d .many, parts-few (adjacent m) (georgeLiu m) (georgeLiu-takes m) (m .nodes))
 
 -- the plan that the arrays give
@@ -119,7 +108,7 @@ heldPlan m held heads count =
 
 -- it is the mesh's
 pub held-planned : (m : Mesh) → Checked m → (held heads : List ℕ) (count : ℕ) → Dissected m held heads count → heldPlan m held heads count ≡ planOf m
-unfolding heldPlan planOf planBy planned
+unfolding heldPlan planOf planBy
 held-planned m good held heads count d =
     let f = dissected-parts m good held heads count d in
     rw (d .order, f .1, f .2, d .many)

@@ -6,7 +6,7 @@ use Rattle.plan.specs.Refusals.{firstFault, Checks}
 use Rattle.plan.specs.Planning.{buffersTooShort, lengths}
 use Rattle.plan.specs.Mesh.{Mesh, lent, meshChecks}
 use Rattle.theory.proofs.Refusals.{fault-here, fault-later, first-some}
-use Rattle.planner.proofs.Planning.{mesh-passed}
+use Rattle.theory.proofs.Checked.{mesh-passed}
 use Rattle.planner.proofs.refusal.Statement.{statement}
 use Rattle.planner.proofs.refusal.Tie as tie
 
