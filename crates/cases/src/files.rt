@@ -1,8 +1,8 @@
-// Document 01's worked files, and files and lists that tell misreadings of the reader or the writer apart. Where nothing else is said the plan is that of mesh 4.
+// Document 01's worked files, and files and lists that tell misreadings of the reader or the writer apart. Where nothing else is said the plan is
+// that of mesh 4.
 use crate::show::print_answer;
+use crate::show::print_buffers;
 use crate::show::print_bytes;
-use crate::show::print_columns;
-use crate::show::print_nodes;
 use crate::show::print_title;
 use crate::show::print_written;
 use meshes::first8;
@@ -20,10 +20,10 @@ fn path_file() -> [u8; 60] {
 // The file with another number of two bytes there.
 fn changed(file: [u8; 60], at: u8, x: u16) -> [u8; 60] {
     let mut f = file;
-    let place = at as usize;
-    if place < 59 {
-        f[place] = (x % 256) as u8;
-        f[place + 1] = (x / 256 % 256) as u8;
+    let first = at as usize;
+    if first < 59 {
+        f[first] = (x % 256) as u8;
+        f[first + 1] = (x / 256 % 256) as u8;
     }
     f
 }
@@ -47,12 +47,14 @@ fn read_lent(title: u8, bytes: &[u8], lengths: [usize; 6]) {
         front16(&mut rows, lengths[5]),
     );
     print_answer(answer);
-    print_nodes(first16(&order, lengths[0]));
-    print_nodes(first16(&positions, lengths[1]));
-    print_nodes(first16(&sizes, lengths[2]));
-    print_nodes(first16(&parents, lengths[3]));
-    print_columns(first32(&columnStarts, lengths[4]));
-    print_nodes(first16(&rows, lengths[5]));
+    print_buffers(
+        first16(&order, lengths[0]),
+        first16(&positions, lengths[1]),
+        first16(&sizes, lengths[2]),
+        first16(&parents, lengths[3]),
+        first32(&columnStarts, lengths[4]),
+        first16(&rows, lengths[5]),
+    );
 }
 
 // The first bytes of a file, read into buffers that are long enough for mesh 4.
@@ -141,7 +143,7 @@ fn short() {
     read_lent(54, first8(&f, 59), [5, 5, 5, 5, 6, 4]);
 }
 
-// A wrong mark, version, number of nodes or length.
+// A wrong magic (document 01: mark), version, number of nodes or length.
 fn headed() {
     let f = path_file();
     read_first(55, changed(f, 1, 0), 16);

@@ -1,12 +1,14 @@
-// Document 01's worked meshes and files, and meshes, files and questions that tell misreadings apart: the answer to each and every lent buffer are written. A buffer has one entry more than
-// is needed, where it is not said to be short, and holds 60,000 before, bytes 77.
-mod asks;
+// Document 01's worked meshes and files, and meshes, files and questions that tell misreadings apart: the answer to each and every lent buffer
+// are written. A buffer holds 60,000 before, bytes 77. Each call tells its buffers' lengths: some are too short, some just enough, most longer, so
+// that what stands behind the entries used is seen too.
+// Cost: a fixed run; every function is linear in what it is lent, or plans or reads it once.
 mod files;
+mod questions;
 mod show;
 
 use crate::show::print_answer;
-use crate::show::print_columns;
-use crate::show::print_nodes;
+use crate::show::print_buffers;
+use crate::show::print_family;
 use crate::show::print_title;
 use meshes::first16;
 use meshes::first32;
@@ -14,7 +16,7 @@ use meshes::from_edges;
 use meshes::front16;
 use meshes::front32;
 
-// A mesh planned into four buffers of this length and others of theirs.
+// A mesh planned into four buffers of `length` entries, column starts of `columns` and rows of `slots`.
 fn plan_lent(
     n: usize,
     starts: &[u32],
@@ -41,12 +43,14 @@ fn plan_lent(
         front16(&mut rows, slots),
     );
     print_answer(answer);
-    print_nodes(first16(&order, length));
-    print_nodes(first16(&positions, length));
-    print_nodes(first16(&sizes, length));
-    print_nodes(first16(&parents, length));
-    print_columns(first32(&columnStarts, columns));
-    print_nodes(first16(&rows, slots));
+    print_buffers(
+        first16(&order, length),
+        first16(&positions, length),
+        first16(&sizes, length),
+        first16(&parents, length),
+        first32(&columnStarts, columns),
+        first16(&rows, slots),
+    );
 }
 
 // A mesh of n nodes by its edges, planned into buffers of n + 1 entries, n + 2 for the columns, and rows of this length.
@@ -96,12 +100,14 @@ fn plan_bare(title: u8, n: usize) {
         &mut rows,
     );
     print_answer(answer);
-    print_nodes(&order[4094..4097]);
-    print_nodes(&positions[4094..4097]);
-    print_nodes(&sizes[4094..4097]);
-    print_nodes(&parents[4094..4097]);
-    print_columns(&columnStarts[4095..4098]);
-    print_nodes(&rows);
+    print_buffers(
+        &order[4094..4097],
+        &positions[4094..4097],
+        &sizes[4094..4097],
+        &parents[4094..4097],
+        &columnStarts[4095..4098],
+        &rows,
+    );
 }
 
 // "Meshes worked through", 1 to 9 and 13.
@@ -133,30 +139,7 @@ fn telling() {
     plan_edges(
         29,
         7,
-        &[
-            0,
-            1,
-            0,
-            2,
-            0,
-            3,
-            1,
-            2,
-            1,
-            3,
-            2,
-            4,
-            2,
-            5,
-            3,
-            4,
-            3,
-            5,
-            4,
-            6,
-            5,
-            6,
-        ],
+        b"\x00\x01\x00\x02\x00\x03\x01\x02\x01\x03\x02\x04\x02\x05\x03\x04\x03\x05\x04\x06\x05\x06",
         24,
     );
     plan_edges(30, 7, &[0, 1, 1, 2, 2, 3, 3, 4, 4, 5, 5, 6], 12);
@@ -173,10 +156,25 @@ fn refused() {
     plan_lists(47, 2, &[0, 1, 2], &[1, 0], 2, 0);
 }
 
+// The families of refusals: numbers at both ends of each range, and just outside.
+fn families() {
+    print_title(91);
+    print_family(0);
+    print_family(1);
+    print_family(9);
+    print_family(10);
+    print_family(19);
+    print_family(20);
+    print_family(21);
+    print_family(22);
+    print_family(23);
+}
+
 fn main() {
     worked();
     telling();
     refused();
     files::all();
-    asks::all();
+    questions::all();
+    families();
 }

@@ -3,6 +3,7 @@ use libc::STDOUT_FILENO;
 use plan::PairAnswer;
 use plan::Plan;
 use plan::PlanAnswer;
+use plan::RefusalFamily;
 use plan::WriteAnswer;
 
 fn end_line() {
@@ -45,27 +46,45 @@ pub fn print_answer(answer: PlanAnswer) {
     }
 }
 
-fn print_node(x: u16) {
+fn print_short(x: u16) {
     print_spaced(x as u64);
 }
 
-fn print_start(x: u32) {
+fn print_long(x: u32) {
     print_spaced(x as u64);
 }
 
-// The entries of a buffer in a line.
-pub fn print_nodes(entries: &[u16]) {
+// The entries of a buffer in a line: numbers of 16 bits.
+pub fn print_numbers(entries: &[u16]) {
     for i in 0..entries.len() {
-        print_node(entries[i]);
+        print_short(entries[i]);
     }
     end_line();
 }
 
-pub fn print_columns(entries: &[u32]) {
+// Column starts in a line.
+fn print_starts(entries: &[u32]) {
     for i in 0..entries.len() {
-        print_start(entries[i]);
+        print_long(entries[i]);
     }
     end_line();
+}
+
+// The six buffers that planning and reading are lent, a line for each.
+pub fn print_buffers(
+    order: &[u16],
+    positions: &[u16],
+    sizes: &[u16],
+    parents: &[u16],
+    columnStarts: &[u32],
+    rows: &[u16],
+) {
+    print_numbers(order);
+    print_numbers(positions);
+    print_numbers(sizes);
+    print_numbers(parents);
+    print_starts(columnStarts);
+    print_numbers(rows);
 }
 
 fn print_byte(x: u8) {
@@ -76,12 +95,6 @@ pub fn print_bytes(bytes: &[u8]) {
     for i in 0..bytes.len() {
         print_byte(bytes[i]);
     }
-    end_line();
-}
-
-// A number in a line of its own.
-pub fn print_number(x: u32) {
-    io::print_decimal(STDOUT_FILENO, x as u64);
     end_line();
 }
 
@@ -105,20 +118,31 @@ fn print_slot(slot: u32) {
     end_line();
 }
 
-fn print_diagonal() {
-    io::write_all(STDOUT_FILENO, b"diagonal\n");
+// A word that ends a line.
+fn print_last(word: &[u8]) {
+    io::write_all(STDOUT_FILENO, word);
+    end_line();
 }
 
-fn print_no_slot() {
-    io::write_all(STDOUT_FILENO, b"no slot\n");
+// A refusal's number and its family.
+pub fn print_family(number: u32) {
+    io::print_decimal(STDOUT_FILENO, number as u64);
+    let family = plan::family(number);
+    match family {
+        RefusalFamily::Mesh => print_last(b" mesh"),
+        RefusalFamily::File => print_last(b" file"),
+        RefusalFamily::Program => print_last(b" program"),
+        RefusalFamily::Question => print_last(b" question"),
+        RefusalFamily::None => print_last(b" none"),
+    }
 }
 
 // The slot, "diagonal", "no slot", or the refusal's number.
 pub fn print_pair(answer: PairAnswer) {
     match answer {
         PairAnswer::Slot(slot) => print_slot(slot),
-        PairAnswer::Diagonal => print_diagonal(),
-        PairAnswer::NoSlot => print_no_slot(),
+        PairAnswer::Diagonal => print_last(b"diagonal"),
+        PairAnswer::NoSlot => print_last(b"no slot"),
         PairAnswer::Refused(number) => print_refusal(number),
     }
 }

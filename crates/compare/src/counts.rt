@@ -1,11 +1,14 @@
 // How many meshes were planned, how many refused by each number, and how many the planners differed on.
 use crate::trial::Outcome;
 use libc::STDOUT_FILENO;
+use meshes::more;
+use meshes::print_difference;
+use meshes::print_number;
 
 pub struct Counts {
-    pub planned: u64,
-    pub refused: [u64; 10],
-    pub different: u64,
+    pub planned: usize,
+    pub refused: [usize; 10],
+    pub different: usize,
 }
 
 pub fn none() -> Counts {
@@ -16,13 +19,13 @@ pub fn none() -> Counts {
     }
 }
 
-fn more(x: u64) -> u64 {
-    x % 4294967296 + 1
-}
-
-pub fn counted(c: Counts, o: Outcome) -> Counts {
+// One more mesh tried. `numbers` says what the two numbers behind it are; they tell the mesh where the planners differ, for the first twenty.
+pub fn counted(c: Counts, o: Outcome, numbers: &[u8], first: usize, second: usize) -> Counts {
     let mut d = c;
     if !o.same {
+        if c.different < 20 {
+            print_difference(numbers, first, second);
+        }
         d.different = more(d.different);
     }
     let number = o.refusal as usize;
@@ -32,11 +35,6 @@ pub fn counted(c: Counts, o: Outcome) -> Counts {
         d.refused[number] = more(d.refused[number]);
     }
     d
-}
-
-fn print_number(x: u64) {
-    io::print_decimal(STDOUT_FILENO, x);
-    io::write_all(STDOUT_FILENO, b"\n");
 }
 
 fn print_planned(c: Counts) {

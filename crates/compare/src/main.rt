@@ -1,5 +1,6 @@
 // Plans some thousand meshes with the planner and with `naive`, which is written apart from it, and counts the meshes on
 // which they differ in an answer or in any entry of a lent result.
+// Cost: a fixed run; every function is polynomial in 64 and in the lengths of what it is lent.
 mod counts;
 mod trial;
 
@@ -15,7 +16,8 @@ use meshes::first16;
 fn every(c: Counts, n: u8, count: u64) -> Counts {
     let mut d = c;
     for number in 0..count {
-        d = counted(d, try_case(meshes::numbered(n, number)));
+        let o = try_case(meshes::numbered(n, number));
+        d = counted(d, o, b"nodes and number", n as usize, number as usize);
     }
     d
 }
@@ -25,9 +27,10 @@ fn drawn(c: Counts, seed: u64) -> Counts {
     let sound = meshes::drawn(seed);
     let damaged = meshes::damaged(sound, seed);
     let twice = meshes::damaged(damaged, seed % 4294967296 + 1);
-    let d = counted(c, try_case(sound));
-    let e = counted(d, try_case(damaged));
-    counted(e, try_case(twice))
+    let s = seed as usize;
+    let d = counted(c, try_case(sound), b"seed and damages", s, 0);
+    let e = counted(d, try_case(damaged), b"seed and damages", s, 1);
+    counted(e, try_case(twice), b"seed and damages", s, 2)
 }
 
 fn all_drawn(c: Counts) -> Counts {
@@ -38,27 +41,26 @@ fn all_drawn(c: Counts) -> Counts {
     d
 }
 
-// A mesh of n nodes with so many entries, each of them 0.
-fn many(c: Counts, n: u8, starts: &[u32], count: usize) -> Counts {
-    let entries = [0u16; 65537];
-    counted(
-        c,
-        try_lent(
-            n as usize,
-            starts,
-            first16(&entries, count),
-            meshes::least(n),
-        ),
-    )
+// A mesh of n nodes with so many entries, all the same.
+fn many(c: Counts, n: u8, starts: &[u32], count: usize, entry: u16) -> Counts {
+    let entries = [entry; 65537];
+    let o = try_lent(
+        n as usize,
+        starts,
+        first16(&entries, count),
+        meshes::least(n),
+    );
+    counted(c, o, b"nodes and entries", n as usize, count)
 }
 
-// As many entries as are allowed, and one more.
+// As many entries as are allowed, and one more. The last mesh fails checks 3 and 4.
 fn all_many(c: Counts) -> Counts {
-    let d = many(c, 1, &[0, 65536], 65536);
-    let e = many(d, 2, &[0, 0, 65536], 65536);
-    let f = many(e, 1, &[0, 65537], 65537);
-    let g = many(f, 2, &[0, 0, 65537], 65537);
-    many(g, 1, &[0, 65536], 65537)
+    let d = many(c, 1, &[0, 65536], 65536, 0);
+    let e = many(d, 2, &[0, 0, 65536], 65536, 0);
+    let f = many(e, 1, &[0, 65537], 65537, 0);
+    let g = many(f, 2, &[0, 0, 65537], 65537, 0);
+    let h = many(g, 1, &[0, 65536], 65537, 0);
+    many(h, 1, &[0, 65537], 65537, 9)
 }
 
 fn main() {

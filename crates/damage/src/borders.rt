@@ -1,20 +1,11 @@
 // Numbers at which a check may change its mind.
+use meshes::less;
+use meshes::more;
 
 // How many borders there are for a number of two bytes, and for one of four.
 pub const SHORT: usize = 20;
 
 pub const LONG: usize = 26;
-
-fn less(x: usize) -> usize {
-    if x == 0 {
-        return 0;
-    }
-    x - 1
-}
-
-fn more(x: usize) -> usize {
-    x % 4294967296 + 1
-}
 
 // Border b of a number that was `value`, in a plan with n nodes, p parts and s slots.
 pub fn border(b: usize, value: usize, n: usize, p: usize, s: usize) -> usize {

@@ -38,7 +38,7 @@ pub fn toggled(cells: [u8; 4096], j: usize, i: usize) -> [u8; 4096] {
     t
 }
 
-// Writes row i where the cell has a slot, and gives the place of the next row.
+// Writes row i where the cell has a slot, and gives where the next row goes.
 fn put_row(rows: &mut [u16; 2100], at: usize, slot: u8, i: usize) -> usize {
     if slot == 1 {
         if at < 2100 {
@@ -49,7 +49,7 @@ fn put_row(rows: &mut [u16; 2100], at: usize, slot: u8, i: usize) -> usize {
     at
 }
 
-// Writes the rows of column j, and gives the place of the next column.
+// Writes the rows of column j, and gives where the next column's rows go.
 fn put_rows(rows: &mut [u16; 2100], at: usize, cells: &[u8; 4096], j: usize) -> usize {
     let mut end = at;
     for i in 0..64usize {
@@ -67,8 +67,8 @@ fn put_start(starts: &mut [u32; 80], j: usize, at: usize) {
 // The draft with these slots.
 pub fn with_cells(d: Draft, cells: &[u8; 4096]) -> Draft {
     let mut e = d;
-    let mut starts = [60005u32; 80];
-    let mut rows = [60006u16; 2100];
+    let mut starts = [meshes::STALE_COLUMN_STARTS; 80];
+    let mut rows = [meshes::STALE_ROWS; 2100];
     let mut at = 0usize;
     put_start(&mut starts, 0, 0);
     for j in 0..64usize {

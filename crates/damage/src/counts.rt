@@ -1,5 +1,8 @@
 // How often each operation was met with each answer, and how often the proved code and the naive code differed.
 use libc::STDOUT_FILENO;
+use meshes::more;
+use meshes::print_difference;
+use meshes::print_number;
 use naive::TOO_LARGE;
 
 // The operations.
@@ -11,12 +14,27 @@ pub const PAIR: usize = 2;
 
 pub const COLUMN: usize = 3;
 
-// Answers by operation and refusal, 23 to an operation; 0 is an answer that is no refusal.
+const ROUND_TRIP: usize = 4;
+
+// The subjects, by the number of their first: the meshes that `main` gives by their edges, in turn; meshes that a seed draws; lists to be
+// written, and layouts, that a seed draws.
+pub const GIVEN: usize = 0;
+
+pub const DRAWN_MESHES: usize = 1000;
+
+pub const DRAWN_DRAFTS: usize = 2000;
+
+pub const DRAWN_LAYOUTS: usize = 6000;
+
+// Answers by operation and refusal, 23 to an operation; 0 is an answer that is no refusal. `subject` is what is tried, and `turn` how many
+// comparisons of it were made: they tell where a difference is.
 pub struct Counts {
-    pub met: [u64; 92],
-    pub too_large: u64,
-    pub round_trips: u64,
-    pub different: u64,
+    pub met: [usize; 92],
+    pub too_large: usize,
+    pub round_trips: usize,
+    pub different: usize,
+    pub subject: usize,
+    pub turn: usize,
 }
 
 pub fn none() -> Counts {
@@ -25,16 +43,26 @@ pub fn none() -> Counts {
         too_large: 0,
         round_trips: 0,
         different: 0,
+        subject: 0,
+        turn: 0,
     }
 }
 
-fn more(x: u64) -> u64 {
-    x % 4294967296 + 1
+// The next subject, `number` behind `first`.
+pub fn begun(mut c: Counts, first: usize, number: u64) -> Counts {
+    c.subject = first % 65536 + number as usize % 65536;
+    c.turn = 0;
+    c
 }
 
-// One more thing compared.
-pub fn compared(mut c: Counts, same: bool) -> Counts {
+// One more comparison. The first twenty differences have a line each.
+fn compared(mut c: Counts, operation: usize, same: bool) -> Counts {
+    c.turn = more(c.turn);
     if !same {
+        if c.different < 20 {
+            print_name(operation);
+            print_difference(b"subject and turn", c.subject, c.turn);
+        }
         c.different = more(c.different);
     }
     c
@@ -43,7 +71,7 @@ pub fn compared(mut c: Counts, same: bool) -> Counts {
 // One more plan written, read and written again.
 pub fn returned(mut c: Counts, same: bool) -> Counts {
     c.round_trips = more(c.round_trips);
-    compared(c, same)
+    compared(c, ROUND_TRIP, same)
 }
 
 // One more answer of an operation. Where the naive code has none (too large), nothing is compared.
@@ -59,7 +87,7 @@ pub fn counted(mut c: Counts, operation: usize, refusal: u32, same: bool) -> Cou
             c.met[at] = more(c.met[at]);
         }
     }
-    compared(c, same)
+    compared(c, operation, same)
 }
 
 fn print_name(operation: usize) {
@@ -69,17 +97,14 @@ fn print_name(operation: usize) {
         io::write_all(STDOUT_FILENO, b"write ");
     } else if operation == PAIR {
         io::write_all(STDOUT_FILENO, b"pair ");
-    } else {
+    } else if operation == COLUMN {
         io::write_all(STDOUT_FILENO, b"column ");
+    } else {
+        io::write_all(STDOUT_FILENO, b"round trip ");
     }
 }
 
-fn print_number(x: u64) {
-    io::print_decimal(STDOUT_FILENO, x);
-    io::write_all(STDOUT_FILENO, b"\n");
-}
-
-fn met(c: Counts, operation: usize, refusal: usize) -> u64 {
+fn met(c: Counts, operation: usize, refusal: usize) -> usize {
     if operation < 4 {
         if refusal < 23 {
             let at = operation * 23 + refusal;

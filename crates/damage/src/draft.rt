@@ -3,7 +3,7 @@ use crate::counts::Counts;
 use crate::counts::WRITE;
 use crate::counts::counted;
 use crate::file::File;
-use crate::held::Held;
+use meshes::Held;
 use meshes::first16;
 use meshes::first32;
 use meshes::front8;

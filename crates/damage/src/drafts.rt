@@ -1,10 +1,13 @@
-// Drafts damaged in many ways, each written by the writer and by the naive one, and (where n and p are at most 64 and s at most 2,016, and not for lengths and rooms) its file read by both readers.
+// Drafts damaged in many ways, each written by the writer and by the naive one, and (where n and p are at most 64 and s at most 2,016, and not for
+// lengths and rooms) its file read by both readers.
 use crate::borders::LONG;
 use crate::borders::border;
 use crate::cells::cells_of;
 use crate::cells::toggled;
 use crate::cells::with_cells;
 use crate::counts::Counts;
+use crate::counts::DRAWN_DRAFTS;
+use crate::counts::begun;
 use crate::draft::Draft;
 use crate::draft::encoded;
 use crate::draft::entries;
@@ -15,6 +18,7 @@ use crate::draft::with_length;
 use crate::drawn::drawn_draft;
 use crate::files::try_file;
 use meshes::draw;
+use meshes::less;
 
 // A draft written, with room and without, and, where it is small enough, its file read.
 fn try_both(c: Counts, d: Draft) -> Counts {
@@ -52,13 +56,6 @@ pub fn every_entry(c: Counts, d: Draft) -> Counts {
         e = every_entry_of(e, d, which);
     }
     e
-}
-
-fn less(x: usize) -> usize {
-    if x == 0 {
-        return 0;
-    }
-    x - 1
 }
 
 // The least length of list `which`, and of the room for the bytes.
@@ -119,7 +116,8 @@ pub fn all_drawn(c: Counts) -> Counts {
     for seed in 0..3000u64 {
         let d = drawn_draft(seed);
         let which = draw(seed, 0, 15, 40);
-        e = try_both(e, with_length(d, which, less(enough(d, which))));
+        let short = with_length(d, which, less(enough(d, which)));
+        e = try_both(begun(e, DRAWN_DRAFTS, seed), short);
     }
     e
 }

@@ -136,16 +136,17 @@ fn with_order(d: Draft, seed: u64) -> Draft {
     e
 }
 
+// A draft of n nodes without parts and slots.
 fn empty(n: usize) -> Draft {
     Draft {
         n: n,
         p: 0,
         s: 0,
-        order: [60001; 80],
-        sizes: [60003; 80],
-        parents: [60004; 80],
-        column_starts: [60005; 80],
-        rows: [60006; 2100],
+        order: [meshes::STALE_ORDER; 80],
+        sizes: [meshes::STALE_SIZES; 80],
+        parents: [meshes::STALE_PARENTS; 80],
+        column_starts: [meshes::STALE_COLUMN_STARTS; 80],
+        rows: [meshes::STALE_ROWS; 2100],
         lengths: [80, 80, 80, 80, 2100, 4561],
     }
 }

@@ -14,8 +14,8 @@ use crate::file::swapped;
 use crate::file::with_byte;
 use crate::file::with_field;
 use crate::file::with_length;
-use crate::held::agrees;
 use crate::held::read;
+use meshes::agrees;
 use meshes::draw;
 use meshes::first8;
 
@@ -125,7 +125,8 @@ pub fn every_swap(c: Counts, f: File) -> Counts {
     d
 }
 
-// Field k with more and each field with as much less: by one, so that their sum stays, and by one more than there is, so that it stays when cut to two bytes.
+// Field k with more and each field with as much less: by one, so that their sum stays, and by one more than there is, so that it stays when cut to
+// two bytes.
 fn every_move_to(c: Counts, f: File, k: usize) -> Counts {
     let mut d = c;
     for m in 0..fields(f) {

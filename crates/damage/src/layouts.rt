@@ -3,7 +3,9 @@ use crate::borders::LONG;
 use crate::borders::border;
 use crate::counts::COLUMN;
 use crate::counts::Counts;
+use crate::counts::DRAWN_LAYOUTS;
 use crate::counts::PAIR;
+use crate::counts::begun;
 use crate::counts::counted;
 use crate::draft::Draft;
 use crate::draft::entries;
@@ -105,7 +107,7 @@ fn ask_draft(c: Counts, d: Draft, n: usize) -> Counts {
     )
 }
 
-// A draft lent as a layout, its column starts as long as they are.
+// A draft lent as a layout: with n + 1 column starts.
 fn as_layout(d: Draft) -> Draft {
     with_length(d, 3, d.n % 65536 + 1)
 }
@@ -148,7 +150,7 @@ pub fn all_drawn(c: Counts) -> Counts {
     let mut e = c;
     for seed in 0..500u64 {
         let d = drawn_draft(seed);
-        e = ask_draft(e, as_layout(d), d.n);
+        e = ask_draft(begun(e, DRAWN_LAYOUTS, seed), as_layout(d), d.n);
     }
     e
 }

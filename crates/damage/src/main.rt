@@ -1,5 +1,6 @@
-// Plans written, read, damaged and asked about: counts the answers, and where the proved code and `naive`, which is written apart from it, differ in an answer or in any entry of a lent
-// buffer.
+// Plans written, read, damaged and asked about: counts the answers, and where the proved code and `naive`, which is written apart from it, differ in
+// an answer or in any entry of a lent buffer.
+// Cost: a fixed run; every function is polynomial in 64 and in the lengths of what it is lent.
 mod borders;
 mod cells;
 mod counts;
@@ -12,6 +13,9 @@ mod held;
 mod layouts;
 
 use crate::counts::Counts;
+use crate::counts::DRAWN_MESHES;
+use crate::counts::GIVEN;
+use crate::counts::begun;
 use crate::counts::none;
 use crate::counts::print;
 use crate::counts::returned;
@@ -25,11 +29,11 @@ use crate::draft::try_writing;
 use crate::draft::write;
 use crate::file::File;
 use crate::files::try_file;
-use crate::held::Held;
 use crate::held::planned;
 use crate::held::read;
 use crate::held::same;
 use meshes::Case;
+use meshes::Held;
 use meshes::first8;
 use meshes::from_edges;
 
@@ -67,49 +71,54 @@ fn every_damage(c: Counts, h: Held) -> Counts {
     every_draft(every_file(round_trip(c, h), encoded(d)), d)
 }
 
-// A mesh whose file has every value of every byte too.
-fn small(c: Counts, m: Case) -> Counts {
+// A mesh whose file is tried with every value of every byte too.
+fn small(c: Counts, number: u64, m: Case) -> Counts {
     let h = planned(m);
     let f = encoded(draft_of(h));
-    let d = files::every_byte(every_damage(c, h), f, f.length);
+    let d = files::every_byte(every_damage(begun(c, GIVEN, number), h), f, f.length);
     files::drawn_pairs(d, f, 0, 500)
 }
 
-// A mesh whose file has every value of every byte before the order.
-fn middling(c: Counts, m: Case) -> Counts {
+// A mesh whose file is tried with every value of every byte before the order.
+fn middling(c: Counts, number: u64, m: Case) -> Counts {
     let h = planned(m);
     let f = encoded(draft_of(h));
-    let d = files::every_byte(every_damage(c, h), f, 17);
+    let d = files::every_byte(every_damage(begun(c, GIVEN, number), h), f, 17);
     files::drawn_pairs(d, f, 1000, 1000)
 }
 
 fn all_small(c: Counts) -> Counts {
-    let one = small(c, from_edges(1, &[]));
-    let two = small(one, from_edges(2, &[]));
-    let edge = small(two, from_edges(2, &[0, 1]));
-    let path = small(edge, from_edges(3, &[0, 1, 1, 2]));
-    let triangle = small(path, from_edges(3, &[0, 1, 0, 2, 1, 2]));
-    let ring = small(triangle, from_edges(4, &[0, 1, 1, 2, 2, 3, 0, 3]));
-    let star = small(ring, from_edges(4, &[0, 1, 0, 2, 0, 3]));
-    small(star, from_edges(5, &[0, 1, 1, 2, 2, 3, 3, 4]))
+    let one = small(c, 1, from_edges(1, &[]));
+    let two = small(one, 2, from_edges(2, &[]));
+    let edge = small(two, 3, from_edges(2, &[0, 1]));
+    let path = small(edge, 4, from_edges(3, &[0, 1, 1, 2]));
+    let triangle = small(path, 5, from_edges(3, &[0, 1, 0, 2, 1, 2]));
+    let ring = small(triangle, 6, from_edges(4, &[0, 1, 1, 2, 2, 3, 0, 3]));
+    let star = small(ring, 7, from_edges(4, &[0, 1, 0, 2, 0, 3]));
+    small(star, 8, from_edges(5, &[0, 1, 1, 2, 2, 3, 3, 4]))
 }
 
 // A path, a mesh of four regions, and a grid of three by four nodes.
 fn all_middling(c: Counts) -> Counts {
-    let path = middling(c, from_edges(7, &[0, 1, 1, 2, 2, 3, 3, 4, 4, 5, 5, 6]));
-    let regions = middling(path, from_edges(9, &[0, 4, 4, 8, 1, 3, 3, 5, 1, 5, 2, 6]));
+    let path = middling(c, 9, from_edges(7, &[0, 1, 1, 2, 2, 3, 3, 4, 4, 5, 5, 6]));
+    let regions = middling(
+        path,
+        10,
+        from_edges(9, &[0, 4, 4, 8, 1, 3, 3, 5, 1, 5, 2, 6]),
+    );
     let grid = from_edges(
         12,
         b"\x00\x01\x01\x02\x03\x04\x04\x05\x06\x07\x07\x08\x09\x0a\x0a\x0b\x00\x03\x03\x06\x06\x09\x01\x04\x04\x07\x07\x0a\x02\x05\x05\x08\x08\x0b",
     );
-    middling(regions, grid)
+    middling(regions, 11, grid)
 }
 
 // A mesh of at most 64 nodes that the seed draws.
 fn drawn_mesh(c: Counts, seed: u64) -> Counts {
     let h = planned(meshes::drawn(seed));
     let f = encoded(draft_of(h));
-    files::drawn_pairs(round_trip(c, h), f, seed % 65536 * 16, 16)
+    let d = round_trip(begun(c, DRAWN_MESHES, seed), h);
+    files::drawn_pairs(d, f, seed % 65536 * 16, 16)
 }
 
 fn all_drawn(c: Counts) -> Counts {

@@ -5,20 +5,9 @@ use crate::lent::entry;
 use crate::lent::start;
 use crate::lent::with_entry;
 use crate::lent::with_start;
+use crate::numbers::less;
+use crate::numbers::more;
 use crate::random::draw;
-
-// One less than x, where x is not 0.
-fn less(x: usize) -> usize {
-    if x < 1 {
-        return 0;
-    }
-    x - 1
-}
-
-// One more than x, which is small.
-fn more(x: usize) -> usize {
-    x % 65536 + 1
-}
 
 // A wrong number of nodes, of starts or of entries, or a wrong start.
 fn damage_starts(c: Case, what: usize, seed: u64) -> Case {

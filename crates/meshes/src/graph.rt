@@ -27,7 +27,7 @@ fn joined(cells: &[u8; 4096], v: u8, w: u8) -> bool {
     false
 }
 
-// Writes a neighbour and gives the place of the next one.
+// Writes a neighbour and gives where the next one goes.
 fn put_entry(neighbours: &mut [u16; 4096], at: usize, w: u8) -> usize {
     if at < 4096 {
         neighbours[at] = w as u16;
@@ -42,7 +42,7 @@ fn put_start(starts: &mut [u32; 72], v: u8, at: usize) {
     }
 }
 
-// Writes v's list and gives the place of the next one.
+// Writes v's list and gives where the next one goes.
 fn put_list(neighbours: &mut [u16; 4096], at: usize, cells: &[u8; 4096], v: u8) -> usize {
     let mut end = at;
     for w in 0..64u8 {

@@ -5,7 +5,7 @@ use crate::lent::Case;
 use crate::lent::Lengths;
 use crate::random::draw;
 
-// A kind of mesh of n nodes. `width` is that of a grid, a band or a block, and for dense random meshes the chance of an edge in tenths.
+// A kind of mesh of n nodes. `width` is that of a grid, a band or a block, and for dense random meshes one less than the chance of an edge in tenths.
 struct Shape {
     seed: u64,
     kind: usize,

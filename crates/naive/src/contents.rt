@@ -28,7 +28,7 @@ fn order_fails(n: usize, order: &[u16]) -> bool {
     false
 }
 
-// Whether k's father is neither 65,535 nor a later part below p.
+// Whether k's parent (document 01: father) is neither 65,535 nor a later part below p.
 fn parent_fails(p: usize, parents: &[u16], k: usize) -> bool {
     let f = entry(parents, k);
     if f == 65535 {
@@ -69,7 +69,7 @@ fn part_of(p: usize, sizes: &[u16], j: usize) -> usize {
     p
 }
 
-// The father of part q, or 65,535 for none.
+// The parent of part q, or 65,535 for none.
 fn parent(parents: &[u16], q: usize) -> usize {
     if q < parents.len() {
         return entry(parents, q);
@@ -77,7 +77,7 @@ fn parent(parents: &[u16], q: usize) -> usize {
     65535
 }
 
-// A part and its forefathers.
+// A part and its ancestors (document 01: forefathers).
 fn with_ancestors(parents: &[u16], part: usize) -> u64 {
     let mut s = 0u64;
     let mut q = part;
@@ -95,7 +95,7 @@ fn row_outside(p: usize, sizes: &[u16], parents: &[u16], j: usize, i: usize) -> 
 }
 
 // Whether i is a row of column j.
-pub fn in_column(column_starts: &[u32], rows: &[u16], j: usize, i: usize) -> bool {
+fn in_column(column_starts: &[u32], rows: &[u16], j: usize, i: usize) -> bool {
     for e in start(column_starts, j)..end(column_starts, j) {
         if entry(rows, e) == i {
             return true;

@@ -1,5 +1,5 @@
-// The plan file, version 1, read and written as document 01 lists its bytes. Refusals 10 to 14 of reading and 13 of writing are right for every file; the others, a
-// plan and a file for at most 64 nodes, and `TOO_LARGE` stands for them beyond.
+// The plan file, version 1, read and written as document 01 lists its bytes. Refusals 10 to 14 of reading and 13 of writing are right for every
+// file; the others, a plan and a file for at most 64 nodes, and `TOO_LARGE` stands for them beyond.
 use crate::NaivePlan;
 use crate::TOO_LARGE;
 use crate::contents::contents;
@@ -34,7 +34,7 @@ fn number32(bytes: &[u8], at: u8) -> usize {
     number16(bytes, at as usize) as usize + number16(bytes, at as usize + 2) as usize * 65536
 }
 
-// n(n - 1)/2 for n of at most 4,096.
+// n(n − 1)/2 for n of at most 4,096.
 pub fn most_slots(n: usize) -> usize {
     if n == 0 || 4096 < n {
         return 0;
@@ -42,7 +42,7 @@ pub fn most_slots(n: usize) -> usize {
     n * (n - 1) / 2
 }
 
-// 13: "n not 1 to 4,096, p not 1 to n, or s above n(n - 1)/2".
+// 13: "n not 1 to 4,096, p not 1 to n, or s above n(n − 1)/2".
 fn head_fails(n: usize, p: usize, s: usize) -> bool {
     n < 1 || 4096 < n || p < 1 || n < p || most_slots(n) < s
 }
@@ -128,7 +128,7 @@ fn starts_of(counts: &[u16; 64], n: usize) -> [u32; 65] {
 }
 
 // The position of node v.
-fn place(order: &[u16; 64], v: usize) -> u16 {
+fn position_of(order: &[u16; 64], v: usize) -> u16 {
     for i in 0..64u16 {
         if wide16(order[i as usize]) == v {
             return i;
@@ -137,11 +137,12 @@ fn place(order: &[u16; 64], v: usize) -> u16 {
     0
 }
 
-fn places(order: &[u16; 64], n: usize) -> [u16; 64] {
+// The position of each of n nodes.
+fn positions_of(order: &[u16; 64], n: usize) -> [u16; 64] {
     let mut positions = [0u16; 64];
     for v in 0..64usize {
         if v < n {
-            positions[v] = place(order, v);
+            positions[v] = position_of(order, v);
         }
     }
     positions
@@ -173,7 +174,7 @@ fn contents_refusal(bytes: &[u8], n: usize, p: usize, s: usize) -> u32 {
 // The plan that stands in the bytes.
 fn plan_in(bytes: &[u8], n: usize, p: usize, s: usize) -> NaivePlan {
     let order = numbers(bytes, 17, 2, n);
-    let positions = places(&order, n);
+    let positions = positions_of(&order, n);
     let counts = numbers(bytes, counts_at(n, p), 2, n);
     NaivePlan {
         refusal: 0,
@@ -223,7 +224,8 @@ pub fn read(
     plan_in(bytes, n, p, s)
 }
 
-// What writing a file hands out: its length and, at the front of `bytes`, its bytes. `refusal` is 0 where it is written; otherwise everything else is 0.
+// What writing a file hands out: its length and, at the front of `bytes`, its bytes. `refusal` is 0 where it is written; otherwise everything
+// else is 0.
 pub struct NaiveFile {
     pub refusal: u32,
     pub length: usize,
@@ -238,7 +240,7 @@ fn unwritten(number: u32) -> NaiveFile {
     }
 }
 
-// Puts a byte and gives the place of the next one.
+// Puts a byte and gives where the next one goes.
 fn put8(bytes: &mut [u8; 4561], at: usize, x: usize) -> usize {
     if at < 4561 {
         bytes[at] = (x % 256) as u8;
@@ -257,7 +259,7 @@ fn put32(bytes: &mut [u8; 4561], at: usize, x: usize) -> usize {
     put16(bytes, next, x / 65536)
 }
 
-// The mark, the version and the three numbers.
+// The magic (document 01: mark), the version and the three numbers.
 fn put_head(bytes: &mut [u8; 4561], n: usize, p: usize, s: usize) -> usize {
     let d = put8(bytes, 0, 78);
     let e = put8(bytes, d, 68);

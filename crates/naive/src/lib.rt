@@ -1,5 +1,7 @@
-// A second planner, and a second reader and writer of plan files and answers to questions, written from document 01 and READINGS, without the book or the proved code: dense, literal
-// and small, for meshes of at most 64 nodes. Test programs compare the proved code with it. Proved safe; what it answers is tested, and not proved.
+// A second planner, and a second reader and writer of plan files and answers to questions, written from document 01 and the readings in
+// docs/DECISIONS.md, without the book or the proved code: dense, literal and small, for meshes of at most 64 nodes. Test programs compare the
+// proved code with it. Proved safe; what it answers is tested, and not proved.
+// Cost: every function is polynomial in 64 and in the lengths of what it is lent.
 mod check;
 mod contents;
 mod elimination;

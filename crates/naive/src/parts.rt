@@ -81,7 +81,8 @@ fn farther(m: &[u64; 64], region: u64, ends: u64, last: usize) -> usize {
     64
 }
 
-fn starting_root(m: &[u64; 64], region: u64) -> usize {
+// The pseudo-peripheral root of a region (document 01: starting root).
+fn root(m: &[u64; 64], region: u64) -> usize {
     let mut r = smallest(region);
     for turn in 0..64usize {
         let l = levels_from(m, region, r);
@@ -97,7 +98,7 @@ fn starting_root(m: &[u64; 64], region: u64) -> usize {
 
 // The part of a region: all of it, or the nodes of level j that have a neighbour in level j + 1.
 fn part_of(m: &[u64; 64], region: u64) -> u64 {
-    let l = levels_from(m, region, starting_root(m, region));
+    let l = levels_from(m, region, root(m, region));
     let last = l.last;
     if last < 2 {
         return region;
@@ -138,13 +139,13 @@ fn place_all(p: Parts, s: u64) -> Parts {
     q
 }
 
-// The next part is the father of those from `first` on that have none yet.
+// The next part is the parent (document 01: father) of those from `first` on that have none yet.
 fn adopt(p: Parts, first: usize) -> Parts {
     let mut q = p;
-    let father = (q.parts % 64) as u16;
+    let parent = (q.parts % 64) as u16;
     for k in 0..64usize {
         if first <= k && k < q.parts && q.parents[k] == 65535 {
-            q.parents[k] = father;
+            q.parents[k] = parent;
         }
     }
     q
@@ -179,7 +180,7 @@ fn number(m: &[u64; 64], s: u64, turns: usize, p: Parts) -> Parts {
     number(m, without(s, region), turns - 1, r)
 }
 
-// The nodes 0 to n - 1.
+// The nodes 0 to n − 1.
 fn nodes(n: usize) -> u64 {
     let mut s = 0u64;
     for v in 0..64usize {

@@ -5,10 +5,10 @@ use Rattle.compare.proofs.every.Statement.{statement}
 use Rattle.compare.proofs.every.Tie as tie
 
 abbrev Inv-loop : tie.InvT-loop
-Inv-loop n count d₀ number₀ d number = Unit {0}
+Inv-loop n count d₀ number₀ t7 d number = Unit {0}
 
 abbrev μ-loop : tie.MeasureT-loop
-μ-loop n count d₀ number₀ d number = count - number
+μ-loop n count d₀ number₀ t7 d number = count - number
 
 pub every-spec : {M : Type 1} → statement M
 every-spec =
@@ -19,6 +19,7 @@ every-spec =
     (λ c. search needs)
     (λ c κs. search needs)
     (λ c κs. search needs)
+    (λ c. search needs)
     (λ c κs. search needs)
     (λ c. search needs)
     (λ c. search needs)

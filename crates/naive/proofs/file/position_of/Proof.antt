@@ -1,17 +1,17 @@
--- `cases::show::print_columns` is safe and ends.
+-- `naive::file::position_of` is safe and ends.
 use Prim.Native.Nat.{_-_}
 use borrow.Author.Needs.{needs}
-use Rattle.cases.proofs.show.print_columns.Statement.{statement}
-use Rattle.cases.proofs.show.print_columns.Tie as tie
+use Rattle.naive.proofs.file.position_of.Statement.{statement}
+use Rattle.naive.proofs.file.position_of.Tie as tie
 
 abbrev Inv-loop : tie.InvT-loop
-Inv-loop entries i₀ i-end i = Unit {0}
+Inv-loop order v i₀ i = Unit {0}
 
 abbrev μ-loop : tie.MeasureT-loop
-μ-loop entries i₀ i-end i = i-end - i
+μ-loop order v i₀ i = 64 - i
 
-pub print-columns-spec : {M : Type 1} → statement M
-print-columns-spec =
+pub position-of-spec : {M : Type 1} → statement M
+position-of-spec =
     tie.close
     (tie.spec
     Inv-loop
@@ -19,9 +19,10 @@ print-columns-spec =
     (λ c. search needs)
     (λ c. search needs)
     (λ c. search needs)
-    (λ c κs. search needs)
-    (λ c. search needs)
-    (λ c. search needs)
     (λ c. search needs)
     (λ c κs. search needs)
+    (λ c. search needs)
+    (λ c. search needs)
+    (λ c. search needs)
+    (λ c. search needs)
     (λ c. search needs))

@@ -1,8 +1,8 @@
 // Questions that tell misreadings apart. Where nothing else is said the layout is that of mesh 4.
-use crate::show::print_nodes;
-use crate::show::print_number;
+use crate::show::print_numbers;
 use crate::show::print_pair;
 use crate::show::print_title;
+use meshes::print_number;
 
 // The question about a pair of positions.
 fn ask_pair(title: u8, n: usize, columnStarts: &[u32], rows: &[u16], a: usize, b: usize) {
@@ -13,8 +13,8 @@ fn ask_pair(title: u8, n: usize, columnStarts: &[u32], rows: &[u16], a: usize, b
 // The question about a column: its companion's number, and the rows.
 fn ask_column(title: u8, n: usize, columnStarts: &[u32], rows: &[u16], j: usize) {
     print_title(title);
-    print_number(layout::column_refusal(n, columnStarts, rows, j));
-    print_nodes(layout::column_rows(n, columnStarts, rows, j));
+    print_number(layout::column_refusal(n, columnStarts, rows, j) as usize);
+    print_numbers(layout::column_rows(n, columnStarts, rows, j));
 }
 
 // The layout of mesh 4: every kind of answer.

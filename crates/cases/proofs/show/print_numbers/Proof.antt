@@ -1,8 +1,8 @@
--- `cases::show::print_nodes` is safe and ends.
+-- `cases::show::print_numbers` is safe and ends.
 use Prim.Native.Nat.{_-_}
 use borrow.Author.Needs.{needs}
-use Rattle.cases.proofs.show.print_nodes.Statement.{statement}
-use Rattle.cases.proofs.show.print_nodes.Tie as tie
+use Rattle.cases.proofs.show.print_numbers.Statement.{statement}
+use Rattle.cases.proofs.show.print_numbers.Tie as tie
 
 abbrev Inv-loop : tie.InvT-loop
 Inv-loop entries i₀ i-end i = Unit {0}
@@ -10,8 +10,8 @@ Inv-loop entries i₀ i-end i = Unit {0}
 abbrev μ-loop : tie.MeasureT-loop
 μ-loop entries i₀ i-end i = i-end - i
 
-pub print-nodes-spec : {M : Type 1} → statement M
-print-nodes-spec =
+pub print-numbers-spec : {M : Type 1} → statement M
+print-numbers-spec =
     tie.close
     (tie.spec
     Inv-loop

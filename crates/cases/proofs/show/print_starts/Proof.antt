@@ -1,17 +1,17 @@
--- `naive::file::place` is safe and ends.
+-- `cases::show::print_starts` is safe and ends.
 use Prim.Native.Nat.{_-_}
 use borrow.Author.Needs.{needs}
-use Rattle.naive.proofs.file.place.Statement.{statement}
-use Rattle.naive.proofs.file.place.Tie as tie
+use Rattle.cases.proofs.show.print_starts.Statement.{statement}
+use Rattle.cases.proofs.show.print_starts.Tie as tie
 
 abbrev Inv-loop : tie.InvT-loop
-Inv-loop order v i₀ i = Unit {0}
+Inv-loop entries i₀ i-end i = Unit {0}
 
 abbrev μ-loop : tie.MeasureT-loop
-μ-loop order v i₀ i = 64 - i
+μ-loop entries i₀ i-end i = i-end - i
 
-pub place-spec : {M : Type 1} → statement M
-place-spec =
+pub print-starts-spec : {M : Type 1} → statement M
+print-starts-spec =
     tie.close
     (tie.spec
     Inv-loop
@@ -19,10 +19,9 @@ place-spec =
     (λ c. search needs)
     (λ c. search needs)
     (λ c. search needs)
-    (λ c. search needs)
     (λ c κs. search needs)
     (λ c. search needs)
     (λ c. search needs)
     (λ c. search needs)
-    (λ c. search needs)
+    (λ c κs. search needs)
     (λ c. search needs))

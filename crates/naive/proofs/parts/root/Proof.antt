@@ -1,8 +1,8 @@
--- `naive::parts::starting_root` is safe and ends.
+-- `naive::parts::root` is safe and ends.
 use Prim.Native.Nat.{_-_}
 use borrow.Author.Needs.{needs}
-use Rattle.naive.proofs.parts.starting_root.Statement.{statement}
-use Rattle.naive.proofs.parts.starting_root.Tie as tie
+use Rattle.naive.proofs.parts.root.Statement.{statement}
+use Rattle.naive.proofs.parts.root.Tie as tie
 
 abbrev Inv-loop : tie.InvT-loop
 Inv-loop m region r₀ turn₀ r turn = Unit {0}
@@ -10,8 +10,8 @@ Inv-loop m region r₀ turn₀ r turn = Unit {0}
 abbrev μ-loop : tie.MeasureT-loop
 μ-loop m region r₀ turn₀ r turn = 64 - turn
 
-pub starting-root-spec : {M : Type 1} → statement M
-starting-root-spec =
+pub root-spec : {M : Type 1} → statement M
+root-spec =
     tie.close
     (tie.spec
     Inv-loop

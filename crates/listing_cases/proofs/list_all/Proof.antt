@@ -1,9 +1,9 @@
--- `listings::list_all` is safe and ends: each case ends behind its beginning.
+-- `listing_cases::list_all` is safe and ends: each case ends behind its beginning.
 use Prim.Native.Nat.{_-_, _≤_}
 use lib.ListN.{length}
 use borrow.Author.Needs.{needs}
-use Rattle.listings.proofs.list_all.Statement.{statement}
-use Rattle.listings.proofs.list_all.Tie as tie
+use Rattle.listing_cases.proofs.list_all.Statement.{statement}
+use Rattle.listing_cases.proofs.list_all.Tie as tie
 
 abbrev Inv-loop : tie.InvT-loop
 Inv-loop input at₀ at = at ≤ length input

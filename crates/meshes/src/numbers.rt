@@ -1,0 +1,31 @@
+// Numbers one less and one more, and numbers in lines.
+use libc::STDOUT_FILENO;
+
+// One less than x, where x is not 0.
+pub fn less(x: usize) -> usize {
+    if x == 0 {
+        return 0;
+    }
+    x - 1
+}
+
+// One more than x, which is below 2^32.
+pub fn more(x: usize) -> usize {
+    x % 4294967296 + 1
+}
+
+// A number that ends a line.
+pub fn print_number(x: usize) {
+    io::print_decimal(STDOUT_FILENO, x as u64);
+    io::write_all(STDOUT_FILENO, b"\n");
+}
+
+// The line that tells where the proved code and the naive code differ: a word and two numbers.
+pub fn print_difference(what: &[u8], first: usize, second: usize) {
+    io::write_all(STDOUT_FILENO, b"different: ");
+    io::write_all(STDOUT_FILENO, what);
+    io::write_all(STDOUT_FILENO, b" ");
+    io::print_decimal(STDOUT_FILENO, first as u64);
+    io::write_all(STDOUT_FILENO, b" ");
+    print_number(second);
+}
