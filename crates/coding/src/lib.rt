@@ -35,7 +35,8 @@ pub fn read32(bytes: &[u8], at: usize) -> u32
     wide(read16(bytes, at)) + 65536 * wide(read16(bytes, at + 2))
 }
 
-// Some numbers of 16 bits to the front of a buffer: the first stands at byte `at`, each `apart` bytes after the one before, and the last one's two bytes end within the bytes. O(count).
+// Some numbers of 16 bits to the front of a buffer: the first stands at byte `at`, each `apart` bytes after the one before, and the last one's two
+// bytes end within the bytes. O(count).
 pub fn read16s(bytes: &[u8], at: usize, apart: usize, count: usize, numbers: &mut [u16])
     requires { ⌜ (2 ≤ apart) × (at + apart * count ≤ length (now bytes) + (apart - 2)) × (count ≤ length (now numbers)) ⌝ }
     ensures { λ _. ⌜ now (numbers .exit) ≡ written (decode16s (now (bytes .entry)) at apart count) (now (numbers .entry)) ⌝ }

@@ -232,7 +232,8 @@ heads-first (x ∷ xs) (p ∷ ps) zs some h = refl
 
 -- ---- the heads of a block that is divided
 
--- A block with the parent p stands behind the heads hs, and blocks and a part make up its nodes. The places where the blocks begin are marked with the parent k, and the place behind them with p.
+-- A block with the parent p stands behind the heads hs, and blocks and a part make up its nodes. The places where the blocks begin are marked with
+-- the parent k, and the place behind them with p.
 module _ (n k p : ℕ) (heads marked hs zs r part : List ℕ) (blocks : List (List ℕ)) (places : List ℕ)
     (held : take n heads ≡ hs ++ ((p ∷ replicate (length r - 1) inner) ++ zs)) (long : n ≤ length heads) (same : length marked ≡ length heads)
     (size : length (flatten blocks) + length part ≡ length r) (some : 0 < length part) (full : All (λ b. 0 < length b) blocks)

@@ -30,7 +30,8 @@ headsOf (block ∷ blocks) (parent ∷ parents) = (parent ∷ replicate (length 
 unfoldable pub stateAfter : Mesh → ℕ → State
 stateAfter m parts = steps parts (adjacent m) (georgeLiu m) (begin (adjacent m) (m .nodes))
 
--- The arrays hold a state of the book: the pending regions one after the other up to place `left`, the one to be cut next last, and then the chosen parts by number.
+-- The arrays hold a state of the book: the pending regions one after the other up to place `left`, the one to be cut next last, and then the chosen
+-- parts by number.
 pub record Holds (m : Mesh) (s : State) (orderHeld heads : List ℕ) (left : ℕ) : Type 0 where
   pub order : take (m .nodes) orderHeld ≡ flatten (reverse (regionsOf (s .pending))) ++ flatten (s .chosen)
   pub marks : take (m .nodes) heads ≡ headsOf (reverse (regionsOf (s .pending))) (reverse (parentsOf (s .pending))) ++ headsOf (s .chosen) (s .parents)

@@ -49,7 +49,8 @@ pub record Parted (m : Mesh) (nodes numbers : List ℕ) : Type 0 where
   pub rest : freshOf (m .nodes) numbers ≡ without (georgeLiu m nodes) nodes
   pub only : Only (m .nodes) nodes numbers
 
--- A region divided: its nodes by their numbers are the regions left by George and Liu's choice, and then the part; and the regions begin where they are to stand.
+-- A region divided: its nodes by their numbers are the regions left by George and Liu's choice, and then the part; and the regions begin where they
+-- are to stand.
 pub record Divided (m : Mesh) (nodes : List ℕ) (at : ℕ) (numbers begins : List ℕ) (count : ℕ) : Type 0 where
   pub groups : grouped (count + 1) numbers nodes ≡ components (adjacent m) (without (georgeLiu m nodes) nodes) ++ (georgeLiu m nodes ∷ [])
   pub begin : Begins at (components (adjacent m) (without (georgeLiu m nodes) nodes)) begins

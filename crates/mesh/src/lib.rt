@@ -1,4 +1,4 @@
-// Checks 1 to 7 of a lent mesh: n nodes, the starts of their lists, and the entries of all lists (neighbours).
+// Checks 1 to 7 of a lent mesh: n nodes, the starts of their lists, and the entries of all lists (neighbours); and what other crates use of such lists.
 use plan::Plan;
 ghost use mathlib.Core.Path.{_≡_};
 ghost use mathlib.Core.Bool.{true, false};
@@ -146,7 +146,8 @@ fn not_ascending(n: usize, starts: &[u32], neighbours: &[u16]) -> bool
     false
 }
 
-// The first place of an ascending list whose entry is not less than x, the list's length where every entry is less: by bisection, each entry before `low` is less than x, and none from `high` on is. O(log length).
+// The first place of an ascending list whose entry is not less than x, the list's length where every entry is less: by bisection, each entry before
+// `low` is less than x, and none from `high` on is. O(log length).
 pub fn lower_bound(entries: &[u16], x: usize) -> usize
     requires { ⌜ ascending (now entries) ≡ true ⌝ }
     ensures { λ r. ⌜ LowerBound (now (entries .entry)) x r ⌝ }

@@ -16,7 +16,8 @@ use Rattle.ndplan.specs.declared.replies.NdpWritten.{NdpWritten}
 use Rattle.ndplan.specs.declared.replies.NdpSlot.{NdpSlot}
 use Rattle.ndplan.specs.declared.replies.NdpRows.{NdpRows}
 
--- The number of the refusal, then the values in their order. A refusal has no values, so that every other field is 0, as is the slot of "diagonal" and "no slot".
+-- The number of the refusal, then the values in their order. A refusal has no values, so that every other field is 0, as is the slot of "diagonal"
+-- and "no slot".
 abbrev pub ndpPlan : Reply → NdpPlan
 ndpPlan r = record {
   refusal = r .number;

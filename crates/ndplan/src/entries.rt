@@ -23,7 +23,7 @@ ghost use Rattle.plan.specs.Writing.{Wrote};
 ghost use Rattle.plan.specs.Questions.{pairQuestion, columnRefusal, columnSpan};
 ghost use Rattle.ndplan.specs.Replies.{planAnswerOf, writeAnswerOf, ndpPlan, ndpWritten, ndpSlot, ndpRows, familyNumber};
 
-// Planning, as planner::plan does it.
+// Planning, as planner::plan does it, at its cost.
 #[no_mangle]
 pub extern "C" fn ndp_plan(
     n: usize,
@@ -54,7 +54,7 @@ pub extern "C" fn ndp_plan(
     ))
 }
 
-// Reading, as planfile::read does it.
+// Reading, as planfile::read does it, at its cost.
 #[no_mangle]
 pub extern "C" fn ndp_read(
     file: &[u8],
@@ -73,7 +73,7 @@ pub extern "C" fn ndp_read(
     plan_reply(read(file, order, positions, sizes, parents, columnStarts, rows))
 }
 
-// Writing, as planfile::write does it.
+// Writing, as planfile::write does it, at its cost.
 #[no_mangle]
 pub extern "C" fn ndp_write(
     n: usize,
@@ -92,7 +92,7 @@ pub extern "C" fn ndp_write(
     write_reply(write(n, p, s, order, sizes, parents, columnStarts, rows, file))
 }
 
-// The first question, as layout::pair answers it.
+// The first question, as layout::pair answers it. O(n + slots).
 #[no_mangle]
 pub extern "C" fn ndp_slot(
     n: usize,
@@ -127,7 +127,7 @@ pub extern "C" fn ndp_rows(n: usize, columnStarts: &[u32], rows: &[u16], j: usiz
     }
 }
 
-// The family of a refusal's number, as plan::family tells it.
+// The family of a refusal's number, as plan::family tells it. O(1).
 #[no_mangle]
 pub extern "C" fn ndp_family(number: u32) -> u32
     ensures { λ r. ⌜ r ≡ familyNumber (familyOf number) ⌝ }

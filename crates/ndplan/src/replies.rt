@@ -1,4 +1,5 @@
-// The replies of the C interface: plain structs, told from the answers of the entry points. Where a call is refused, every field but the refusal is 0.
+// The replies of the C interface: plain structs, told from the answers of the entry points. Where a call is refused, every field but the refusal is
+// 0.
 use plan::PairAnswer;
 use plan::PlanAnswer;
 use plan::RefusalFamily;
@@ -24,7 +25,8 @@ pub struct NdpWritten {
     pub length: u64,
 }
 
-// What the pair question answers: the refusal's number, 0 for none; the kind, 1 for a slot, 2 for the diagonal, 3 for no slot; and the slot, 0 where there is none.
+// What the pair question answers: the refusal's number, 0 for none; the kind, 1 for a slot, 2 for the diagonal, 3 for no slot; and the slot, 0 where
+// there is none.
 #[repr(C)]
 pub struct NdpSlot {
     pub refusal: u32,

@@ -29,7 +29,8 @@ abbrev pub writeReply : WriteAnswer → Reply
 writeReply (write.Written bytes) = accepted (bytes ∷ [])
 writeReply (write.Refused k) = refused k
 
--- The pair question gives "its slot, "diagonal" or "no slot"": which of the three, by a number of the book's own, and behind the first the slot's number.
+-- The pair question gives "its slot, "diagonal" or "no slot"": which of the three, by a number of the book's own, and behind the first the slot's
+-- number.
 abbrev pub slotCase : ℕ
 slotCase = 1
 

@@ -46,7 +46,8 @@ rootFrom (suc most) m region r =
     let found : ℕ = rootFrom most m region next in
     cond (eqb next r) r found
 
--- Pseudo-peripheral root: document 01's starting root, searched from "the region's smallest node". ℓ grows each time and there are no more levels than nodes, so as many turns as nodes
+-- Pseudo-peripheral root: document 01's starting root, searched from "the region's smallest node". ℓ grows each time and there are no more levels
+-- than nodes, so as many turns as nodes
 -- are enough; the square leaves room for a rule under which ℓ need not grow.
 unfoldable pub rootOf : Mesh → List ℕ → ℕ
 rootOf m region = rootFrom (length region * length region) m region (headD region 0)
@@ -67,7 +68,8 @@ separator edge ls j = keep (λ v. exists (edge v) (getD ls (j + 1) [])) (getD ls
 unfoldable pub numbering : List ℕ → List ℕ
 numbering nodes = nodes
 
--- What another rule of cutting may change, named apart: which regions stay whole (by the region and its ℓ), which level is cut, how a separator is numbered.
+-- What another rule of cutting may change, named apart: which regions stay whole (by the region and its ℓ), which level is cut, how a separator is
+-- numbered.
 pub record Settings : Type 0 where
   pub whole : List ℕ → ℕ → Bool
   pub level : ℕ → ℕ

@@ -1,4 +1,5 @@
--- Paths (document 01, "From mesh to parts"), and the three statements of the user's demand 3 (docs/GUIDE.md) over the buffers that planning hands out (document 01, "The layout").
+-- Paths (document 01, "From mesh to parts"), and the three statements of the user's demand 3 (docs/GUIDE.md) over the buffers that planning hands out
+-- (document 01, "The layout").
 use mathlib.Core.Bool.{Bool, true, _&&_}
 use mathlib.Core.Path.{_≡_}
 use mathlib.Core.Logic.{_↔_}
@@ -20,7 +21,8 @@ isPath m (v ∷ (w ∷ ws)) = adjacent m v w && isPath m (w ∷ ws)
 unfoldable pub allEarlier : List ℕ → ℕ → List ℕ → Bool
 allEarlier order j nodes = every (λ v. ltb (indexOf v order) j) nodes
 
--- A path from node v to node w with every node between them earlier than j: "The nodes between are all but the first and the last; two neighbours make a path with none between."
+-- A path from node v to node w with every node between them earlier than j: "The nodes between are all but the first and the last; two neighbours
+-- make a path with none between."
 pub record EarlierPath (m : Mesh) (order : List ℕ) (j v w : ℕ) : Type 0 where
   pub between : List ℕ
   pub path : isPath m (v ∷ (between ++ (w ∷ []))) ≡ true
@@ -32,7 +34,8 @@ hasSlot columnStarts rows i j = isIn i (listAt columnStarts rows j)
 
 -- Demand 3, for the used entries of order, sizes and parents, and the column starts and rows as they are handed out.
 pub record Demand3 (m : Mesh) (order sizes parents columnStarts rows : List ℕ) : Type 0 where
-  -- "row i of column j has a slot exactly when i is later than j and a path in the mesh joins their nodes with every node between them earlier than j"
+  -- "row i of column j has a slot exactly when i is later than j and a path in the mesh joins their nodes with every node between them earlier than
+  -- j"
   pub paths :
       (i j : ℕ) → i < m .nodes → j < m .nodes →
       (hasSlot columnStarts rows i j ≡ true) ↔ ((j < i) × EarlierPath m order j (getD order j 0) (getD order i 0))

@@ -54,7 +54,8 @@ fileLength c = lengthAt nodesAt (c .nodes) (c .parts) (c .slots)
 unfoldable pub encodeParts : Contents → List ℕ
 encodeParts c = flatten (map (λ q. encode16 (getD (c .sizes) q 0) ++ encode16 (getD (c .parents) q 0)) (below (c .parts)))
 
--- "5 to 8: n. 9 to 12: parts p. 13 to 16: slots s. Then the order, n × 2 bytes; p times size and father, 2 bytes each; n row counts of 2 bytes; s rows of 2 bytes."
+-- "5 to 8: n. 9 to 12: parts p. 13 to 16: slots s. Then the order, n × 2 bytes; p times size and father, 2 bytes each; n row counts of 2 bytes; s
+-- rows of 2 bytes."
 unfoldable pub encodeContents : Contents → List ℕ
 encodeContents c = flatten (
     encode32 (c .nodes)
@@ -124,7 +125,8 @@ badColumn n j r = not (ascending r && every (λ i. ltb j i && ltb i n) r)
 unfoldable pub badColumns : ℕ → List ℕ → List ℕ → Bool
 badColumns n columnStarts rows = exists (λ j. badColumn n j (listAt columnStarts rows j)) (below n)
 
--- 17: counts do not sum to s, or a column's rows are not strictly ascending, above the column and below n; "17 also for column starts that do not begin at 0, fall, or do not end at s".
+-- 17: counts do not sum to s, or a column's rows are not strictly ascending, above the column and below n; "17 also for column starts that do not
+-- begin at 0, fall, or do not end at s".
 -- The column starts of a file are the running sums of its counts: they begin at 0, do not fall, and end at the counts' sum.
 unfoldable pub badRows : Contents → Bool
 badRows c =

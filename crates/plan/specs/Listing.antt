@@ -35,7 +35,8 @@ inputMesh bytes =
       neighbours = decode16s bytes (neighboursAt bytes) 2 (entryCount bytes);
     }
 
--- 20: "Over 256 nodes, over 2,048 entries, an end before the last start or an incomplete number". The end comes before the last start where the bytes do not hold n + 1 starts;
+-- 20: "Over 256 nodes, over 2,048 entries, an end before the last start or an incomplete number". The end comes before the last start where the bytes
+-- do not hold n + 1 starts;
 -- neighbours fewer or more than the last start says are check 2. Entries are the numbers that the input holds.
 unfoldable pub badInput : List ℕ → Bool
 badInput bytes =

@@ -17,7 +17,8 @@ maxEntries = 65536
 abbrev pub noParent : ℕ
 noParent = 65535
 
--- "A mesh has n nodes, 0 to n − 1. The starts are n + 1 numbers of 32 bits and the neighbours are numbers of 16 bits". n is lent by itself; the widths are those of the slices.
+-- "A mesh has n nodes, 0 to n − 1. The starts are n + 1 numbers of 32 bits and the neighbours are numbers of 16 bits". n is lent by itself; the
+-- widths are those of the slices.
 pub record Mesh : Type 0 where
   pub nodes : ℕ
   pub starts : List ℕ

@@ -23,7 +23,8 @@ ancestorsUpTo (suc most) parents q =
     let more : List ℕ = parentOf parents q ∷ ancestorsUpTo most parents (parentOf parents q) in
     cond (eqb (parentOf parents q) noParent) [] more
 
--- Ancestors, nearest first: document 01's forefathers, "its father and its father's forefathers". A parent is a later part, so there are no more than parts.
+-- Ancestors, nearest first: document 01's forefathers, "its father and its father's forefathers". A parent is a later part, so there are no more than
+-- parts.
 unfoldable pub ancestors : List ℕ → ℕ → List ℕ
 ancestors parents q = ancestorsUpTo (length parents) parents q
 

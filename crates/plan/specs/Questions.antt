@@ -11,7 +11,8 @@ use Rattle.plan.specs.Answers.{Reply, accepted, refused, slotCase, diago
 use Rattle.plan.specs.Mesh.{badNodeCount, badStarts}
 use Rattle.plan.specs.File.{badColumns}
 
--- 22: "starts not n + 1 long, first not 0, falling, last above the rows' length, or rows failing 17's rule". Rows behind the last start are not looked at.
+-- 22: "starts not n + 1 long, first not 0, falling, last above the rows' length, or rows failing 17's rule". Rows behind the last start are not
+-- looked at.
 unfoldable pub badLayout : ℕ → List ℕ → List ℕ → Bool
 badLayout n columnStarts rows =
     badStarts n columnStarts || ltb (length rows) (getD columnStarts n 0) || badColumns n columnStarts rows
@@ -51,7 +52,8 @@ pairQuestion n columnStarts rows a b =
 unfoldable pub columnRefusal : ℕ → List ℕ → List ℕ → ℕ → ℕ
 columnRefusal n columnStarts rows j = firstFault (questionChecks n columnStarts rows (j ∷ []))
 
--- by the number of the first fault: "a column's rows are shown as a stretch of the rows buffer itself. Where the second question is refused, the stretch is empty"
+-- by the number of the first fault: "a column's rows are shown as a stretch of the rows buffer itself. Where the second question is refused, the
+-- stretch is empty"
 unfoldable pub spanFound : ℕ → List ℕ → ℕ → Span
 spanFound zero columnStarts j = record { start = getD columnStarts j 0; count = getD columnStarts (j + 1) 0 - getD columnStarts j 0 }
 -- document 01 leaves open where an empty stretch lies; the span then starts at 0

@@ -1,4 +1,6 @@
--- The user's demand 2 (docs/GUIDE.md), the round trips, as statements: "A written plan, once read, is the same plan; a plan that was read is written back byte for byte." And what a workshop may rely on: of demand 1, "a plan of an unknown version is refused as such", and the checks that every plan that is read has passed.
+-- The user's demand 2 (docs/GUIDE.md), the round trips, as statements: "A written plan, once read, is the same plan; a plan that was read is written
+-- back byte for byte." And what a workshop may rely on: of demand 1, "a plan of an unknown version is refused as such", and the checks that every
+-- plan that is read has passed.
 use mathlib.Core.Bool.{true, false}
 use mathlib.Core.Path.{_≡_}
 use mathlib.Core.Logic.{_≢_}
@@ -50,7 +52,8 @@ WrittenThenRead =
     → writing c output .reply .number ≡ 0 → buffersTooShort (c .nodes) room ≡ false → rowsTooShort c room ≡ false
     → reading (writing c output .bytes) room ≡ handOut 0 (used c)
 
--- Read, then written: of bytes that were read, slices whose used entries are the plan that was handed out are written back as those bytes, given room. (Bytes are numbers below 256.)
+-- Read, then written: of bytes that were read, slices whose used entries are the plan that was handed out are written back as those bytes, given
+-- room. (Bytes are numbers below 256.)
 abbrev pub ReadThenWritten : Type 0
 ReadThenWritten =
     (bytes : List ℕ) (room : Capacity) (c : Contents) (output : ℕ)

@@ -1,5 +1,7 @@
--- Document 01, "One stretch of the dissection takes the state and gives back the next": the dissection one part at a time. A step is document 01's stretch.
--- The last region is cut first, so the parts chosen so far are always the last ones of the order. Nothing that is handed out depends on this file; `Enough.StepsEnough` ties it to the dissection.
+-- Document 01, "One stretch of the dissection takes the state and gives back the next": the dissection one part at a time. A step is document 01's
+-- stretch.
+-- The last region is cut first, so the parts chosen so far are always the last ones of the order. Nothing that is handed out depends on this file;
+-- `Enough.StepsEnough` ties it to the dissection.
 use mathlib.Core.Bool.{cond}
 use mathlib.Core.List.{List, [], _∷_, _++_, map, reverse}
 use Prim.Native.Nat.{ℕ, zero, suc, _-_}
@@ -14,7 +16,8 @@ pub record Pending : Type 0 where
   pub region : List ℕ
   pub parent : ℕ
 
--- the regions not yet dissected, the last one first; the parts chosen so far in the order of their numbers; to each its parent, counted in the order of choosing
+-- the regions not yet dissected, the last one first; the parts chosen so far in the order of their numbers; to each its parent, counted in the order
+-- of choosing
 pub record State : Type 0 where
   pub pending : List Pending
   pub chosen : List (List ℕ)

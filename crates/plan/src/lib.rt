@@ -19,6 +19,7 @@ impl Plan {
     // the parent (document 01: father) of a part that has none
     pub const NO_PARENT: u16 = 65535;
 
+    // A plan of these counts. O(1).
     pub fn new(nodes: u32, parts: u32, slots: u32, multiplications: u64) -> Self
         ensures { λ r. ⌜ r ≡ record { nodes = nodes; parts = parts; slots = slots; multiplications = multiplications } ⌝ }
     {
@@ -30,7 +31,7 @@ impl Plan {
         }
     }
 
-    // The three limits are those of the book.
+    // The three limits are those of the book. O(1).
     pub fn max_nodes() -> usize
         ensures { λ r. ⌜ r ≡ maxNodes ⌝ }
     {
@@ -85,7 +86,7 @@ pub enum RefusalFamily {
     None,
 }
 
-// "A number's family is told by its range"
+// "A number's family is told by its range" O(1).
 pub fn family(number: u32) -> RefusalFamily
     ensures { λ r. ⌜ r ≡ familyOf number ⌝ }
 {

@@ -1,4 +1,5 @@
--- What the functions' contracts cite of the bytes of a file: its first bytes, a file that passed checks 10 to 14, and the row counts and the rows in one.
+-- What the functions' contracts cite of the bytes of a file: its first bytes, a file that passed checks 10 to 14, and the row counts and the rows in
+-- one.
 use mathlib.Core.Path.{_≡_}
 use mathlib.Core.List.{List, [], _∷_, flatten}
 use Prim.Native.Nat.{ℕ, _+_, _*_, _/_}

@@ -1,4 +1,5 @@
--- What the functions' contracts cite of a plan, besides the book: plans of some of their lists, checks 15 and 16 by themselves, and what is known of a plan once they are passed.
+-- What the functions' contracts cite of a plan, besides the book: plans of some of their lists, checks 15 and 16 by themselves, and what is known of
+-- a plan once they are passed.
 use mathlib.Core.Path.{_≡_}
 use mathlib.Core.Bool.{Bool, true, false, not}
 use mathlib.Core.List.{List, [], _∷_, _++_}

@@ -1,4 +1,5 @@
-// Checks 17 to 19 of the rows in a file: `bytes` are its last ones, two for each row, and a column's rows are read into working memory when they are looked at.
+// Checks 17 to 19 of the rows in a file: `bytes` are its last ones, two for each row, and a column's rows are read into working memory when they are
+// looked at.
 use crate::arrays::zeros;
 use crate::rules::contains_all;
 use crate::rules::number_parts;

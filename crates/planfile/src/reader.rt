@@ -26,7 +26,8 @@ ghost use Rattle.plan.specs.File.{parse, contentsChecks};
 ghost use Rattle.plan.specs.Reading.{headerChecks, reading};
 ghost use Rattle.planfile.specs.Filed.{Headed, rowCountsIn};
 
-// The first refusal of checks 15 to 19, 0 for none; order, sizes, parents and column starts are those of the file. O(4,096 + slots + the ancestors of each column's part + the first rows' columns).
+// The first refusal of checks 15 to 19, 0 for none; order, sizes, parents and column starts are those of the file. O(4,096 + slots + the ancestors of
+// each column's part + the first rows' columns).
 fn decoded_refusal(
     bytes: &[u8],
     n: usize,
@@ -88,7 +89,8 @@ fn read_row_counts(bytes: &[u8], n: usize, p: usize, s: usize, counts: &mut [u16
     read16s(bytes, HEADER + 2 * n + 4 * p, 2, n, counts);
 }
 
-// Checks 15 to 19 of a file: its fields but the rows are read into working memory. O(4,096 + slots + the ancestors of each column's part + the first rows' columns).
+// Checks 15 to 19 of a file: its fields but the rows are read into working memory. O(4,096 + slots + the ancestors of each column's part + the first
+// rows' columns).
 fn contents_refusal(bytes: &[u8], n: usize, p: usize, s: usize, counts: &[u16]) -> u32
     requires { ⌜ Headed (now bytes) n p s × (n ≤ length (now counts)) × (take n (now counts) ≡ rowCountsIn (now bytes)) ⌝ }
     ensures { λ r. ⌜ r ≡ firstFault (contentsChecks (parse (now (bytes .entry)))) ⌝ }
@@ -156,7 +158,8 @@ fn read_checked(
     PlanAnswer::Accepted(Plan::new(n as u32, p as u32, s as u32, totals.multiplications))
 }
 
-// Reading where checks 10 to 14 found no fault: 15 to 19, then what is left. O(4,096 + slots + the ancestors of each column's part + the first rows' columns).
+// Reading where checks 10 to 14 found no fault: 15 to 19, then what is left. O(4,096 + slots + the ancestors of each column's part + the first rows'
+// columns).
 fn read_headed(
     bytes: &[u8],
     order: &mut [u16],
@@ -196,7 +199,8 @@ fn read_headed(
     )
 }
 
-// Reading: checks 10 to 19, 8 and 9 in this order, then the plan in the lent buffers; the multiplications are counted anew. O(4,096 + slots + the ancestors of each column's part + the first rows' columns).
+// Reading: checks 10 to 19, 8 and 9 in this order, then the plan in the lent buffers; the multiplications are counted anew. O(4,096 + slots + the
+// ancestors of each column's part + the first rows' columns).
 pub fn read(
     bytes: &[u8],
     order: &mut [u16],

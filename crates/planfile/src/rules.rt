@@ -45,7 +45,8 @@ fn reaches(parents: &[u16], part: u16, to: u16) -> bool
     r == to
 }
 
-// Whether rows of column j break 18's rule: one lies outside the column's part and its ancestors (document 01: forefathers). The rows and the chain of ancestors are walked together. n is for the contract alone. O(rows + ancestors).
+// Whether rows of column j break 18's rule: one lies outside the column's part and its ancestors (document 01: forefathers). The rows and the chain
+// of ancestors are walked together. n is for the contract alone. O(rows + ancestors).
 pub(crate) fn outside(n: usize, numbers: &[u16], parents: &[u16], j: usize, column: &[u16]) -> bool
     requires { ⌜ SoundParents (now parents) × PartNumbers n (now parents) (now numbers) × (j < n) × (badColumn n j (now column) ≡ false) ⌝ }
     ensures { λ r. ⌜ r ≡ outsideOf (now (numbers .entry)) (now (parents .entry)) j (now (column .entry)) ⌝ }
@@ -61,7 +62,8 @@ pub(crate) fn outside(n: usize, numbers: &[u16], parents: &[u16], j: usize, colu
     false
 }
 
-// The first place whose entry is not less than x, the list's length where every entry is less; the entries before k are known to be less. O(places passed).
+// The first place whose entry is not less than x, the list's length where every entry is less; the entries before k are known to be less. O(places
+// passed).
 fn advance(entries: &[u16], k: usize, x: usize) -> usize
     requires { ⌜ (k ≤ length (now entries)) × ((i : ℕ) → i < k → getD (now entries) i 0 < x) ⌝ }
     ensures { λ r. ⌜ LowerBound (now (entries .entry)) x r ⌝ }

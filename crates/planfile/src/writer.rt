@@ -117,7 +117,8 @@ fn write_plan(
     write16s(rows, &mut bytes[rowsAt..]);
 }
 
-// Writing from slices as long as their counts say: checks 15 to 19, then 8. O(4,096 + slots + the ancestors of each column's part + the first rows' columns).
+// Writing from slices as long as their counts say: checks 15 to 19, then 8. O(4,096 + slots + the ancestors of each column's part + the first rows'
+// columns).
 fn write_exact(
     n: usize,
     order: &[u16],
@@ -142,7 +143,8 @@ fn write_exact(
     WriteAnswer::Written(length)
 }
 
-// Writing: checks 13, 15 to 19 and 8 in this order, then the bytes, and the file's length is returned; slices may be longer than their counts say. O(4,096 + slots + the ancestors of each column's part + the first rows' columns).
+// Writing: checks 13, 15 to 19 and 8 in this order, then the bytes, and the file's length is returned; slices may be longer than their counts say.
+// O(4,096 + slots + the ancestors of each column's part + the first rows' columns).
 pub fn write(
     n: usize,
     p: usize,

@@ -52,13 +52,14 @@ fn refusal(
 }
 
 // 4,096 zeros. O(4,096).
-fn no_positions() -> [u16; 4096]
+fn zeros() -> [u16; 4096]
     ensures { λ r. ⌜ length r ≡ 4096 ⌝ }
 {
     [0; 4096]
 }
 
-// The elimination tree and the column counts of the order at the front of an array. `inverse` has the positions, since the lent buffers are not written yet. O(4,096 + slots + entries).
+// The elimination tree and the column counts of the order at the front of an array. `inverse` has the positions, since the lent buffers are not
+// written yet. O(4,096 + slots + entries).
 fn count_columns(
     n: usize,
     starts: &[u32],
@@ -71,8 +72,8 @@ fn count_columns(
     requires { ⌜ (n ≤ length (now tree)) × (n ≤ length (now counts)) ⌝ }
     ensures { λ _. ⌜ (take n (now (counts .exit)) ≡ map length (columns (lent n (now (starts .entry)) (now (neighbours .entry))) (take n (now (held .entry))))) × Tree (lent n (now (starts .entry)) (now (neighbours .entry))) (take n (now (held .entry))) (now (tree .exit)) ⌝ }
 {
-    let mut inverse = no_positions();
-    let mut marks = no_positions();
+    let mut inverse = zeros();
+    let mut marks = zeros();
     let nodes = &held[..n];
     invert(nodes, &mut inverse);
     count_rows(
@@ -121,7 +122,8 @@ fn lay_out(
     );
 }
 
-// The plan of a mesh that has passed checks 1 to 8, or refusal 9 once the slots are counted. Nothing is written before. O(dissection + slots + entries + the ways up the elimination tree).
+// The plan of a mesh that has passed checks 1 to 8, or refusal 9 once the slots are counted. Nothing is written before. O(dissection + slots +
+// entries + the ways up the elimination tree).
 fn plan_checked(
     n: usize,
     starts: &[u32],
@@ -139,10 +141,10 @@ fn plan_checked(
         (buffers (now (order .entry)) (now (positions .entry)) (now (sizes .entry)) (now (parents .entry)) (now (columnStarts .entry)) (now (rows .entry)))
         (buffers (now (order .exit)) (now (positions .exit)) (now (sizes .exit)) (now (parents .exit)) (now (columnStarts .exit)) (now (rows .exit))) ⌝ }
 {
-    let mut held = no_positions();
+    let mut held = zeros();
     let d = dissect(n, starts, neighbours, &mut held);
-    let mut tree = no_positions();
-    let mut counts = no_positions();
+    let mut tree = zeros();
+    let mut counts = zeros();
     count_columns(n, starts, neighbours, &held, &mut tree, &mut counts);
     let totals = sum(n, &counts);
     let slots = totals.slots;
@@ -166,7 +168,8 @@ fn plan_checked(
     PlanAnswer::Accepted(Plan::new(n as u32, count as u32, slots, totals.multiplications))
 }
 
-// Planning: checks 1 to 9 in their order, then the plan in the lent buffers. O(entries · log degree + dissection + slots + the ways up the elimination tree).
+// Planning: checks 1 to 9 in their order, then the plan in the lent buffers. O(entries · log degree + dissection + slots + the ways up the
+// elimination tree).
 pub fn plan(
     n: usize,
     starts: &[u32],

@@ -1,4 +1,5 @@
--- A loop that puts the texts of a list's elements, one behind the other. One relation serves every such loop: the texts of the first i elements were put.
+-- A loop that puts the texts of a list's elements, one behind the other. One relation serves every such loop: the texts of the first i elements were
+-- put.
 use mathlib.Core.Path.{_≡_, refl, sym, ap, _∙_}
 use mathlib.Core.List.{List, [], _∷_, _++_, map, flatten, map-append}
 use Prim.Native.Nat.{ℕ, _+_, _≤_, _<_}

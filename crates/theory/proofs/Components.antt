@@ -1,4 +1,5 @@
--- The components of a set: they partition it, each is connected, no two share a node, no edge joins two where edges are mirrored, and they come by smallest node.
+-- The components of a set: they partition it, each is connected, no two share a node, no edge joins two where edges are mirrored, and they come by
+-- smallest node.
 use mathlib.Core.Path.{_≡_, refl, sym, ap, subst, _∙_}
 use mathlib.Core.Logic.{inl, inr, _≢_}
 use mathlib.Core.Bool.{Bool, true, false, not, cond, false≢true}

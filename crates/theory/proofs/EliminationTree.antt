@@ -1,4 +1,5 @@
--- The elimination tree of a mesh's columns, the parent of a column being its first row: what counting row by row and writing column by column rest on.
+-- The elimination tree of a mesh's columns, the parent of a column being its first row: what counting row by row and writing column by column rest
+-- on.
 use mathlib.Core.Path.{_≡_, refl, sym, ap, subst, _∙_}
 use mathlib.Core.Logic.{_⊎_, inl, inr, _≢_, _↔_}
 use mathlib.Core.Bool.{Bool, true, false, false≢true}
@@ -72,7 +73,8 @@ module _ (m : Mesh) (order : List ℕ) where
       back (neighbour {k = k} lt e) = row-neighbour s i k lt li e
       back (onward {k = k} c lt) = row-of-first i k (back c) lt
 
-  -- for an algorithm that marks the columns of row i: a set of such columns that has i's earlier neighbours, and with a column its parent while below i, is all of them
+  -- for an algorithm that marks the columns of row i: a set of such columns that has i's earlier neighbours, and with a column its parent while below
+  -- i, is all of them
   pub row-closure : Symmetric m → (i : ℕ) → i < m .nodes → (marked : ℕ → Bool)
       → ((k : ℕ) → k < i → edgeAt m order i k ≡ true → marked k ≡ true)
       → ((k : ℕ) → marked k ≡ true → firstRow m order k < i → marked (firstRow m order k) ≡ true)

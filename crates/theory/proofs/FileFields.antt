@@ -28,7 +28,8 @@ encode-fields c = simp append-nil
 abbrev pub Narrow : List ℕ → Type 0
 Narrow l = (x : ℕ) → isIn x l ≡ true → x < 65536
 
--- What has a place in a file: a whole plan, its lists of numbers of 16 bits, with counts of 32, and column starts that are the running sums of the row counts.
+-- What has a place in a file: a whole plan, its lists of numbers of 16 bits, with counts of 32, and column starts that are the running sums of the
+-- row counts.
 pub record Fits (c : Contents) : Type 0 where
   pub whole : Whole c
   pub nodes : c .nodes < 4294967296

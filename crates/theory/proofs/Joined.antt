@@ -1,4 +1,5 @@
--- Elimination as a relation. `joinedAfter e k a b`: positions a and b are joined when the first k have been eliminated, where e says which are joined at the start.
+-- Elimination as a relation. `joinedAfter e k a b`: positions a and b are joined when the first k have been eliminated, where e says which are joined
+-- at the start.
 use mathlib.Core.Path.{_≡_, ap}
 use mathlib.Core.Logic.{_⊎_, inl, inr, _≢_}
 use mathlib.Core.Bool.{Bool, true, not, _&&_, _||_}

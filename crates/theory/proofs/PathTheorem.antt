@@ -1,4 +1,5 @@
--- Fill path: "row i of column j has a slot exactly when i is later than j and a path in the mesh joins their nodes with every node between them earlier than j".
+-- Fill path: "row i of column j has a slot exactly when i is later than j and a path in the mesh joins their nodes with every node between them
+-- earlier than j".
 use mathlib.Core.Path.{_≡_, refl, sym, subst}
 use mathlib.Core.Logic.{_↔_}
 use mathlib.Core.Bool.{true}

@@ -1,4 +1,5 @@
--- The round trips: a written plan that is read, a plan that was read and is written back, a planned plan; and what every plan that is read has passed.
+-- The round trips: a written plan that is read, a plan that was read and is written back, a planned plan; and what every plan that is read has
+-- passed.
 use mathlib.Core.Path.{_≡_, refl, sym, ap, subst, _∙_}
 use mathlib.Core.Bool.{Bool, false, not, _||_}
 use mathlib.Core.List.{List, [], _∷_, _++_}

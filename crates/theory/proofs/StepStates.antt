@@ -1,4 +1,5 @@
--- The dissection's state is balanced after any number of steps: the pending and the chosen nodes are all nodes, each once, and parents are chosen before their children.
+-- The dissection's state is balanced after any number of steps: the pending and the chosen nodes are all nodes, each once, and parents are chosen
+-- before their children.
 use mathlib.Core.Path.{_≡_, refl, ap, subst, _∙_}
 use mathlib.Core.Logic.{_⊎_, inl, inr}
 use mathlib.Core.Bool.{Bool, true, false≢true}

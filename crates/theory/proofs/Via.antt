@@ -1,4 +1,5 @@
--- The path theorem for the relation `joinedAfter`: a and b, both k or later, are joined when the first k have been eliminated exactly when a path leads from a to b over positions before k.
+-- The path theorem for the relation `joinedAfter`: a and b, both k or later, are joined when the first k have been eliminated exactly when a path
+-- leads from a to b over positions before k.
 use mathlib.Core.Path.{_≡_, subst}
 use mathlib.Core.Logic.{_⊎_, inl, inr, _≢_}
 use mathlib.Core.Bool.{Bool, true}

@@ -1,4 +1,5 @@
--- `mesh::one_sided` meets its contract: the outer loop tries each node, the inner one each entry of its list, and the first entry that passes ends both.
+-- `mesh::one_sided` meets its contract: the outer loop tries each node, the inner one each entry of its list, and the first entry that passes ends
+-- both.
 use mathlib.Core.Path.{_≡_, refl, sym, ap, _∙_}
 use mathlib.Core.Bool.{Bool, true, false, not}
 use mathlib.Core.List.{List}

@@ -33,7 +33,7 @@ invert-requires : tie.Need-invert-requires
 invert-requires c κs =
     let s = entry (c .before) in
     let few = s .pre .0 .0 .few in
-    (order-own (s .args .n) (nodes s) (s .pre .0 .2), omega (arith, long s, few), omega (arith, long s, few, c .before .before .before .no-positions .ensures))
+    (order-own (s .args .n) (nodes s) (s .pre .0 .2), omega (arith, long s, few), omega (arith, long s, few, c .before .before .before .zeros .ensures))
 
 count-rows-requires : tie.Need-count-rows-requires
 count-rows-requires c κs =
@@ -41,9 +41,9 @@ count-rows-requires c κs =
     let p = i .before .before .before in
     let s = entry (i .before .before) in
     let good = s .pre .0 .0 in (
-      inverted (mesh s) (nodes s) (p .before .no-positions .result) _ good (s .pre .0 .2) (i .invert .ensures),
+      inverted (mesh s) (nodes s) (p .before .zeros .result) _ good (s .pre .0 .2) (i .invert .ensures),
       s .pre .1 .0,
-      omega (arith, good .few, p .no-positions2 .ensures),
+      omega (arith, good .few, p .zeros2 .ensures),
       s .pre .1 .1,
     )
 

@@ -55,7 +55,7 @@ room d = enough-room (mesh d .nodes) (lengthsOf (found d)) (start d .pre .1)
 -- ---- the columns are counted
 
 dissect-requires : tie.Need-dissect-requires
-dissect-requires c κs = let p = c .before in let s = p .before .before .before .before .before .before .before .before .before in (s .pre .0, omega (arith, s .pre .0 .few, p .no-positions .ensures))
+dissect-requires c κs = let p = c .before in let s = p .before .before .before .before .before .before .before .before .before in (s .pre .0, omega (arith, s .pre .0 .few, p .zeros .ensures))
 
 count-columns-requires : tie.Need-count-columns-requires
 count-columns-requires c κs =
@@ -63,7 +63,7 @@ count-columns-requires c κs =
     let d = p .before .before .before in
     let few = good d .few in (
       (good d, dissected d .orderLong, dissected-order (mesh d) (held d) (heads d) (count d) (dissected d)),
-      (omega (arith, few, p .before .no-positions2 .ensures), omega (arith, few, p .no-positions3 .ensures)),
+      (omega (arith, few, p .before .zeros2 .ensures), omega (arith, few, p .zeros3 .ensures)),
     )
 
 -- ---- what is known once the slots are summed
@@ -84,10 +84,10 @@ counts t = counted t .count-columns .ensures .0
 
 -- the tree's array and the counts' are long enough
 tree-long : (t : tie.After-sum) → mesh (divided t) .nodes ≤ length (counted t .count-columns .last .1 .1 .1 .1 .0)
-tree-long t = let k = counted t in omega (arith, good (divided t) .few, k .count-columns .kept .1 .1 .1 .1 .0, k .before .before .before .before .before .no-positions2 .ensures)
+tree-long t = let k = counted t in omega (arith, good (divided t) .few, k .count-columns .kept .1 .1 .1 .1 .0, k .before .before .before .before .before .zeros2 .ensures)
 
 counts-long : (t : tie.After-sum) → mesh (divided t) .nodes ≤ length (counted t .count-columns .last .1 .1 .1 .1 .1 .0)
-counts-long t = let k = counted t in omega (arith, good (divided t) .few, k .count-columns .kept .1 .1 .1 .1 .1 .0, k .before .before .before .before .no-positions3 .ensures)
+counts-long t = let k = counted t in omega (arith, good (divided t) .few, k .count-columns .kept .1 .1 .1 .1 .1 .0, k .before .before .before .before .zeros3 .ensures)
 
 index-requires : tie.Need-index-requires
 index-requires c κs = search needs

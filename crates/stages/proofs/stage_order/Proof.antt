@@ -1,17 +1,37 @@
--- `stages::stage_order` is safe: the mesh has passed its checks when it is dissected.
-use mathlib.Core.Path.{sym, _∙_}
+-- `stages::stage_order` meets its contract: the mesh has passed its checks when it is dissected.
+use mathlib.Core.Path.{_≡_, sym, _∙_}
 use native.Mathlib.Omega.{arith}
+use lib.Dec.{eqb}
 use borrow.Author.Needs.{needs}
+use borrow.Author.Tests.{eq-eqb, ne-eqb}
+use Rattle.plan.specs.Refusals.{firstFault}
+use Rattle.plan.specs.Mesh.{Mesh, lent, meshChecks}
+use Rattle.theory.proofs.Bools.{cond-true, cond-false}
 use Rattle.theory.proofs.Checked.{checked}
 use Rattle.stages.proofs.stage_order.Statement.{statement}
 use Rattle.stages.proofs.stage_order.Tie as tie
 
+-- the mesh that is lent
+abbrev mesh : tie.After-check → Mesh
+mesh c = let s = c .before .before .before .args in lent (s .n) (s .starts .now) (s .neighbours .now)
+
+-- where the checks find no fault
+passed : (c : tie.Else1) → firstFault (meshChecks (mesh (c .before))) ≡ 0
+passed c = sym (c .before .check .ensures) ∙ c .if1 .left
+
+returns : tie.Need-returns
+returns c =
+    sym (cond-false (eqb (firstFault (meshChecks (mesh (c .before)))) 0) _ _ (ne-eqb _ 0 (λ e. c .if1 .taken (c .before .check .ensures ∙ e))))
+
 dissect-requires : tie.Need-dissect-requires
 dissect-requires c κs =
-    let p = c .before in
-    let e = p .before in
-    let good = checked _ (sym (e .before .check .ensures) ∙ e .if1 .left) in
-    (good, omega (arith, good .few, p .no-order .ensures))
+    let good = checked (mesh (c .before .before .before)) (passed (c .before .before)) in
+    (good, omega (arith, good .few, c .before .zeros .ensures))
+
+returns-2 : tie.Need-returns-2
+returns-2 c =
+    let e = c .before .before .before .before in
+    c .before .dissect .ensures .many ∙ sym (cond-true (eqb (firstFault (meshChecks (mesh (e .before)))) 0) _ _ (eq-eqb _ 0 (passed e)))
 
 pub stage-order-spec : {M : Type 1} → statement M
-stage-order-spec = tie.close (tie.spec (λ c κs. search needs) (λ c. search needs) (λ c κs. search needs) (λ c. search needs) dissect-requires (λ c. search needs))
+stage-order-spec = tie.close (tie.spec (λ c κs. search needs) returns (λ c κs. search needs) (λ c. search needs) dissect-requires returns-2)

@@ -1,4 +1,4 @@
--- `cut::divide` meets its contract.
+-- `dissection::cut::divide` meets its contract.
 use Prim.Native.Nat.{_≤_}
 use native.Mathlib.Omega.{arith}
 use borrow.Author.Needs.{needs}

@@ -1,4 +1,4 @@
--- `cut::next_to` meets its contract: the loop tries each entry of the node's list.
+-- `dissection::cut::next_to` meets its contract: the loop tries each entry of the node's list.
 use mathlib.Core.Path.{_≡_, refl, sym, ap, _∙_}
 use mathlib.Core.List.{List}
 use Prim.Native.Nat.{ℕ, _-_, _<_}

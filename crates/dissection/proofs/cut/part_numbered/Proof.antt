@@ -1,4 +1,4 @@
--- `cut::part_numbered` meets its contract.
+-- `dissection::cut::part_numbered` meets its contract.
 use mathlib.Core.Path.{sym}
 use borrow.Author.Tests.{eq-eqb, ne-eqb}
 use Rattle.theory.proofs.Bools.{cond-true, cond-false}

@@ -1,4 +1,4 @@
--- `cut::refresh_rest` meets its contract: the loop renumbers one node after the other.
+-- `dissection::cut::refresh_rest` meets its contract: the loop renumbers one node after the other.
 use mathlib.Core.Path.{_≡_, refl}
 use Prim.Native.Nat.{_-_}
 use native.Mathlib.Omega.{arith}

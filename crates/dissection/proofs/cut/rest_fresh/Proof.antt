@@ -1,4 +1,4 @@
--- `cut::rest_fresh` meets its contract.
+-- `dissection::cut::rest_fresh` meets its contract.
 use mathlib.Core.Path.{sym}
 use borrow.Author.Tests.{eq-eqb, ne-eqb}
 use Rattle.theory.proofs.Bools.{cond-true, cond-false}

@@ -1,4 +1,4 @@
--- `cut::separate` meets its contract: of the nodes passed, those of the separator are left out.
+-- `dissection::cut::separate` meets its contract: of the nodes passed, those of the separator are left out.
 use mathlib.Core.Path.{_≡_, refl, ap, _∙_}
 use Prim.Native.Nat.{_-_, _<_}
 use native.Mathlib.Omega.{arith}

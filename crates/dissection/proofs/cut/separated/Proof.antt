@@ -1,4 +1,4 @@
--- `cut::separated` meets its contract.
+-- `dissection::cut::separated` meets its contract.
 use mathlib.Core.Path.{sym, _∙_}
 use borrow.Author.Needs.{needs}
 use Rattle.theory.proofs.Bools.{cond-true, cond-false}

@@ -1,4 +1,4 @@
--- `cut::separates` meets its contract.
+-- `dissection::cut::separates` meets its contract.
 use lib.ListN.{getD}
 use borrow.Author.Tests.{eq-eqb, ne-eqb}
 use borrow.Author.Needs.{needs}

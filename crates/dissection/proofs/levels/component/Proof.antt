@@ -1,4 +1,4 @@
--- `levels::component` meets its contract: a walk from the node reaches its component.
+-- `dissection::levels::component` meets its contract: a walk from the node reaches its component.
 use mathlib.Core.Path.{_≡_, refl, sym, ap, _∙_}
 use mathlib.Core.Logic.{inl, inr}
 use Prim.Native.Nat.{ℕ, _+_, _-_, _≤_, _<_}

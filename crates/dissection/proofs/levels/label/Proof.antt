@@ -1,4 +1,4 @@
--- `levels::label` meets its contract: the loop finds one component after the other.
+-- `dissection::levels::label` meets its contract: the loop finds one component after the other.
 use mathlib.Core.Path.{_≡_, refl, _∙_}
 use Prim.Native.Nat.{_-_, _<_}
 use native.Mathlib.Omega.{arith}

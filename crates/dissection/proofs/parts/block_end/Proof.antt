@@ -1,4 +1,4 @@
--- `block_end` meets its contract: the loop stops at the next head, or at the end of the list.
+-- `dissection::parts::block_end` meets its contract: the loop stops at the next head, or at the end of the list.
 use mathlib.Core.Path.{_≡_, refl, sym, _∙_}
 use Prim.Native.Nat.{_+_, _-_, _≤_}
 use native.Mathlib.Omega.{arith}

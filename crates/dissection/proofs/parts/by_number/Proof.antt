@@ -1,4 +1,4 @@
--- `by_number` meets its contract.
+-- `dissection::parts::by_number` meets its contract.
 use mathlib.Core.Path.{sym}
 use Prim.Native.Nat.{_-_, _<_}
 use native.Mathlib.Omega.{arith}

@@ -1,4 +1,4 @@
--- `write_order` meets its contract: it copies the front of the order.
+-- `dissection::parts::write_order` meets its contract: it copies the front of the order.
 use mathlib.Core.Path.{_≡_, ap, _∙_}
 use Prim.Native.Nat.{ℕ, _-_}
 use native.Mathlib.Omega.{arith}

@@ -1,4 +1,4 @@
--- `write_parts` meets its contract: the loop passes one block in each turn, and writes its size and its parent.
+-- `dissection::parts::write_parts` meets its contract: the loop passes one block in each turn, and writes its size and its parent.
 use mathlib.Core.Path.{_≡_, refl, sym, ap, _∙_}
 use mathlib.Core.Bool.{cond}
 use mathlib.Core.List.{List}

@@ -1,4 +1,4 @@
--- `root::better_of` meets its contract: the degrees are compared.
+-- `dissection::root::better_of` meets its contract: the degrees are compared.
 use mathlib.Core.Path.{_≡_, sym, _∙_}
 use mathlib.Core.Bool.{cond}
 use mathlib.Core.List.{List}

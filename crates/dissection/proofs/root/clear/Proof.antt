@@ -1,4 +1,4 @@
--- `root::clear` meets its contract: the groups passed have no best node.
+-- `dissection::root::clear` meets its contract: the groups passed have no best node.
 use mathlib.Core.Path.{_≡_}
 use mathlib.Core.Logic.{inl, inr}
 use Prim.Native.Nat.{ℕ, _-_, _≤_, _<_}

@@ -1,4 +1,4 @@
--- `root::compare` meets its contract: the best of one group is stored anew.
+-- `dissection::root::compare` meets its contract: the best of one group is stored anew.
 use mathlib.Core.Path.{_≡_, ap, _∙_}
 use Prim.Native.Nat.{ℕ}
 use native.Mathlib.Omega.{arith}

@@ -1,4 +1,4 @@
--- `root::degree` meets its contract: a list's length is the difference of its starts.
+-- `dissection::root::degree` meets its contract: a list's length is the difference of its starts.
 use borrow.Author.Needs.{needs}
 use Rattle.plan.specs.Mesh.{Mesh, lent}
 use Rattle.mesh.proofs.Lists.{checked-within}

@@ -1,4 +1,4 @@
--- `root::first_better` meets its contract: no candidate passed improves.
+-- `dissection::root::first_better` meets its contract: no candidate passed improves.
 use mathlib.Core.Path.{_≡_, refl, sym, ap, _∙_}
 use mathlib.Core.Bool.{Bool}
 use mathlib.Core.List.{List}

@@ -1,4 +1,4 @@
--- `root::improve` meets its contract: the first of the candidates that improves is the next root.
+-- `dissection::root::improve` meets its contract: the first of the candidates that improves is the next root.
 use mathlib.Core.Path.{sym, ap, _∙_}
 use mathlib.Core.List.{List, headD}
 use Prim.Native.Nat.{ℕ}

@@ -1,4 +1,4 @@
--- `root::least` meets its contract: after i nodes each group's best node is that of its nodes among them.
+-- `dissection::root::least` meets its contract: after i nodes each group's best node is that of its nodes among them.
 use mathlib.Core.Path.{_≡_}
 use Prim.Native.Nat.{ℕ, _-_, _≤_}
 use native.Mathlib.Omega.{arith}

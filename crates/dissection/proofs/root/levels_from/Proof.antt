@@ -1,4 +1,4 @@
--- `root::levels_from` meets its contract: the fresh nodes are the region, so the walk is over it.
+-- `dissection::root::levels_from` meets its contract: the fresh nodes are the region, so the walk is over it.
 use mathlib.Core.Path.{refl, _∙_}
 use native.Mathlib.Omega.{arith}
 use lib.ListN.{getD}

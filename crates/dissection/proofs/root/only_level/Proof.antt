@@ -1,4 +1,4 @@
--- `root::only_level` meets its contract.
+-- `dissection::root::only_level` meets its contract.
 use mathlib.Core.Path.{sym}
 use borrow.Author.Tests.{eq-eqb, ne-eqb}
 use Rattle.theory.proofs.Bools.{cond-true, cond-false}

@@ -1,4 +1,4 @@
--- `root::search` meets its contract: what is found from the root at hand is the region's root, and the search ends at it.
+-- `dissection::root::search` meets its contract: what is found from the root at hand is the region's root, and the search ends at it.
 use mathlib.Core.Path.{_≡_, refl, ap, _∙_}
 use mathlib.Core.List.{List}
 use Prim.Native.Nat.{ℕ, _-_}

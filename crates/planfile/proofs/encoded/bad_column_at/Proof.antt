@@ -1,4 +1,5 @@
--- `planfile::encoded::bad_column_at` meets its contract: a column that keeps the rule has fewer than n rows, so it fits the buffer, where it is tried.
+-- `planfile::encoded::bad_column_at` meets its contract: a column that keeps the rule has fewer than n rows, so it fits the buffer, where it is
+-- tried.
 use mathlib.Core.Path.{_≡_, sym, ap, _∙_}
 use native.Mathlib.Omega.{arith}
 use lib.ListN.{length}

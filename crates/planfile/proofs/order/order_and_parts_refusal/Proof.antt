@@ -1,4 +1,5 @@
--- `planfile::order::order_and_parts_refusal` meets its contract: its tests are the two checks, in their order, and check 16 does not look at the order.
+-- `planfile::order::order_and_parts_refusal` meets its contract: its tests are the two checks, in their order, and check 16 does not look at the
+-- order.
 use mathlib.Core.Path.{sym, _∙_}
 use borrow.Author.Needs.{needs}
 use Rattle.plan.specs.Refusals.{firstFault}

@@ -1,4 +1,5 @@
--- `planfile::reader::read_checked` meets its contract: checks 8 and 9, then each field is read to the front of its buffer, the positions are the order's and the column starts the counts'.
+-- `planfile::reader::read_checked` meets its contract: checks 8 and 9, then each field is read to the front of its buffer, the positions are the
+-- order's and the column starts the counts'.
 use mathlib.Core.Path.{_≡_, sym, ap, _∙_}
 use mathlib.Core.Bool.{false}
 use native.Mathlib.Omega.{arith}

@@ -1,4 +1,5 @@
--- `planfile::reader::read_order_and_parts` meets its contract: the order stands behind the header and the parts behind it, each size two bytes before its parent.
+-- `planfile::reader::read_order_and_parts` meets its contract: the order stands behind the header and the parts behind it, each size two bytes before
+-- its parent.
 use native.Mathlib.Omega.{arith}
 use borrow.Author.Needs.{needs}
 use Rattle.planfile.proofs.Headed.{Sizes, headed-sizes, order-field, sizes-field, parents-field}

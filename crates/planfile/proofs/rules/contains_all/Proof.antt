@@ -1,4 +1,5 @@
--- `planfile::rules::contains_all` meets its contract: the numbers before number k are in the list, and the entries before `at` are less than number k.
+-- `planfile::rules::contains_all` meets its contract: the numbers before number k are in the list, and the entries before `at` are less than number
+-- k.
 use mathlib.Core.Path.{_≡_, refl, sym, ap, _∙_}
 use mathlib.Core.Bool.{Bool, not}
 use mathlib.Core.List.{List}

@@ -1,4 +1,5 @@
--- `planfile::slices::column_covered` meets its contract: the rows behind the first are looked for in the first row's column, which lies in the layout.
+-- `planfile::slices::column_covered` meets its contract: the rows behind the first are looked for in the first row's column, which lies in the
+-- layout.
 use mathlib.Core.Path.{_≡_, sym, ap, _∙_}
 use mathlib.Core.List.{List}
 use Prim.Native.Nat.{ℕ, _-_, _<_}

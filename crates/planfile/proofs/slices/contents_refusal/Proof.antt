@@ -1,4 +1,5 @@
--- `planfile::slices::contents_refusal` meets its contract: its tests are checks 15 to 19, in their order, and those passed tell what the next one requires.
+-- `planfile::slices::contents_refusal` meets its contract: its tests are checks 15 to 19, in their order, and those passed tell what the next one
+-- requires.
 use mathlib.Core.Path.{_≡_, sym, _∙_}
 use mathlib.Core.Bool.{false}
 use lib.ListN.{length}
