@@ -41,7 +41,7 @@ typedef struct {
 /* Plans a mesh of n nodes. `starts` has n + 1 entries; the neighbours of node v are those from starts[v] up to, not including, starts[v + 1].
  * The plan goes to the front of the other slices: `order` (position to node), `positions` (node to position), `sizes` and `parents` (one entry for each
  * part) have room for n entries each, `column_starts` for n + 1, and `rows` for as many as there are slots.
- * Refuses with 1 to 9; a rows slice that is too short is 9. It needs less than 160 KB of stack. */
+ * Refuses with 1 to 9; a rows slice that is too short is 9. It needs less than 100 KB of stack. */
 NdpPlan ndp_plan(size_t n, const uint32_t *starts, size_t starts_length, const uint16_t *neighbours, size_t neighbours_length,
                  uint16_t *order, size_t order_length, uint16_t *positions, size_t positions_length, uint16_t *sizes, size_t sizes_length,
                  uint16_t *parents, size_t parents_length, uint32_t *column_starts, size_t column_starts_length, uint16_t *rows, size_t rows_length);
