@@ -3,7 +3,7 @@
 use crate::ffi;
 use std::fmt;
 
-/// A refusal, by its number in document 01's table. Every refusal leaves the lent memory as found.
+/// A refusal, by its number; `include/ndplan.h` says what each means. Every refusal leaves the lent memory as found.
 #[derive(Clone, Copy, Debug, PartialEq, Eq, Hash)]
 pub struct Refusal(pub u32);
 

@@ -1,4 +1,4 @@
-// The C interface: every entry point under a C name. A slice is a pointer and a length.
+// The C interface: plan, read, write, the two questions and the family of a number under C names. A slice is a pointer and a length.
 mod entries;
 mod replies;
 
