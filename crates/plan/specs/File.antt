@@ -31,7 +31,7 @@ decode32 bytes at = decode16 bytes at + 65536 * decode16 bytes (at + 2)
 unfoldable pub decode16s : List ℕ → ℕ → ℕ → ℕ → List ℕ
 decode16s bytes at apart count = map (λ k. decode16 bytes (at + apart * k)) (below count)
 
--- "the letters NDP"
+-- the mark: "the letters NDP"
 abbrev pub magic : List ℕ
 magic = 78 ∷ 68 ∷ 80 ∷ []
 
