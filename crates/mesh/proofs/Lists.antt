@@ -1,18 +1,18 @@
--- Lists by their starts, and those of a mesh whose starts passed check 2.
+-- Lists by their starts, and those of a mesh whose starts passed check 2; arrays that begin with one number everywhere.
 use mathlib.Core.Path.{_≡_}
 use mathlib.Core.Bool.{false}
 use mathlib.Core.List.{List}
 use Prim.Native.Nat.{ℕ, _+_, _-_, _≤_, _<_}
 use native.Mathlib.Omega.{arith}
-use lib.ListN.{length, drop, getD, length-drop}
+use lib.ListN.{length, drop, getD, length-drop, length-replicate, getD-replicate}
 use lib.Seq.{length-take-le}
 use Rattle.plan.specs.Lists.{listAt}
-use Rattle.plan.specs.Mesh.{Mesh, neighboursOf, adjacent, badStarts, badMeshStarts}
+use Rattle.plan.specs.Mesh.{maxNodes, Mesh, neighboursOf, adjacent, badStarts, badMeshStarts}
 use Rattle.theory.specs.Checked.{Starts, Checked}
 use Rattle.theory.proofs.Ascending.{falls-getD}
 use Rattle.theory.proofs.Checked.{good-starts, mesh-starts}
 use Rattle.theory.proofs.Lists.{isIn-getD}
-use Rattle.mesh.specs.Lists.{ListWithin}
+use Rattle.mesh.specs.Lists.{filledWith, ListWithin}
 
 -- each of n lists lies within the entries, by their starts
 pub starts-within : (n : ℕ) (starts entries : List ℕ) → Starts n starts → getD starts n 0 ≤ length entries → (v : ℕ) → v < n → ListWithin starts entries v
@@ -48,3 +48,12 @@ checked-within m h v lt = starts-within (m .nodes) (m .starts) (m .neighbours) (
 pub entry-node : (m : Mesh) → Checked m → (v k : ℕ) → k < length (neighboursOf m v) → getD (neighboursOf m v) k 0 < m .nodes
 unfolding adjacent
 entry-node m h v k lt = h .inside v (getD (neighboursOf m v) k 0) (isIn-getD (neighboursOf m v) k 0 lt) .1
+
+-- an array of one number is as long as the most nodes, and has the number at each place
+pub filled-length : (x : ℕ) → length (filledWith x) ≡ maxNodes
+unfolding filledWith
+filled-length x = length-replicate maxNodes x
+
+pub filled-at : (x i : ℕ) → i < maxNodes → getD (filledWith x) i 0 ≡ x
+unfolding filledWith
+filled-at x i h = getD-replicate maxNodes i x 0 h

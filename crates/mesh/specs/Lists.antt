@@ -1,7 +1,17 @@
--- Lists that stand one after the other, by their starts: one that lies within the entries, and the place of a number in an ascending one.
+-- Lists that stand one after the other, by their starts: one that lies within the entries, and the place of a number in an ascending one; and
+-- what working arrays begin with.
 use mathlib.Core.List.{List}
 use Prim.Native.Nat.{ℕ, _+_, _≤_, _<_}
-use lib.ListN.{length, getD}
+use lib.ListN.{length, getD, replicate}
+use Rattle.plan.specs.Mesh.{maxNodes}
+
+-- the number that is no node, position or part
+abbrev pub none : ℕ
+none = 65535
+
+-- an array with a place for each of the most nodes that a mesh may have, the same number at each
+unfoldable pub filledWith : ℕ → List ℕ
+filledWith x = replicate maxNodes x
 
 -- list v has a start and an end, in this order, and ends within the entries
 pub record ListWithin (starts entries : List ℕ) (v : ℕ) : Type 0 where

@@ -4,10 +4,21 @@ ghost use mathlib.Core.Path.{_≡_};
 ghost use mathlib.Core.Bool.{true, false};
 ghost use mathlib.Core.List.{List};
 ghost use Prim.Native.Nat.{ℕ};
+ghost use lib.ListN.{length};
 ghost use Rattle.plan.specs.Lists.{isIn, listAt, ascending, falls};
 ghost use Rattle.plan.specs.Refusals.{firstFault};
-ghost use Rattle.plan.specs.Mesh.{lent, badNodeCount, badStarts, badMeshStarts, tooManyEntries, neighbourOutside, listsItself, notAscending, oneSided, meshChecks};
-ghost use Rattle.mesh.specs.Lists.{ListWithin, LowerBound};
+ghost use Rattle.plan.specs.Mesh.{maxNodes, lent, badNodeCount, badStarts, badMeshStarts, tooManyEntries, neighbourOutside, listsItself, notAscending, oneSided, meshChecks};
+ghost use Rattle.mesh.specs.Lists.{filledWith, ListWithin, LowerBound};
+
+// no node, position or part
+pub const NONE: u16 = 65535;
+
+// An array with a place for each of the most nodes that a mesh may have, the same number at each. O(4,096).
+pub fn filled(x: u16) -> [u16; Plan::NODES]
+    ensures { λ r. ⌜ (r ≡ filledWith x) × (length r ≡ maxNodes) ⌝ }
+{
+    [x; Plan::NODES]
+}
 
 // A number of 32 bits, a start or a count, as an index. O(1).
 pub fn index(x: u32) -> usize
