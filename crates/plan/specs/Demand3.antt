@@ -43,5 +43,5 @@ pub record Demand3 (m : Mesh) (order sizes parents columnStarts rows : List ℕ)
   pub nested :
       (i j : ℕ) → i < m .nodes → j < m .nodes →
       hasSlot columnStarts rows i j ≡ true → atOrAbove parents (partOf sizes j) (partOf sizes i) ≡ true
-  -- "all slots together number at most the sum over the parts of .."; "all slots together number column start n"
+  -- "the plan's slots, all columns together, number at most the sum, over all its parts, of .."; "all slots together number column start n"
   pub bounded : getD columnStarts (m .nodes) 0 ≤ bound m order sizes parents

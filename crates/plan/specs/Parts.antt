@@ -51,7 +51,7 @@ boundarySize m order sizes parents q = length (boundary m (regionOfPart order si
 unfoldable pub partBound : ℕ → ℕ → ℕ
 partBound size bordering = size * bordering + size * (size - 1) / 2
 
--- demand 3: "the sum over the parts of" that
+-- demand 3: "the sum, over all its parts, of" that
 unfoldable pub bound : Mesh → List ℕ → List ℕ → List ℕ → ℕ
 bound m order sizes parents =
     total (map (λ q. partBound (getD sizes q 0) (boundarySize m order sizes parents q)) (below (length sizes)))

@@ -1,6 +1,6 @@
 -- The user's demand 2 (docs/GUIDE.md), the round trips, as statements: "A written plan, once read, is the same plan; a plan that was read is written
--- back byte for byte." And what a workshop may rely on: of demand 1, "a plan of an unknown version is refused as such", and the checks that every
--- plan that is read has passed.
+-- back byte for byte." And what a workshop may rely on: of demand 1, "A plan of a version it does not know is refused as such", and the checks that
+-- every plan that is read has passed.
 use mathlib.Core.Bool.{true, false}
 use mathlib.Core.Path.{_≡_}
 use mathlib.Core.Logic.{_≢_}

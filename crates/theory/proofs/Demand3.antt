@@ -45,7 +45,8 @@ module _ (m : Mesh) (order sizes parents : List ℕ) (symmetric : Symmetric m) (
       in-boundary m order sizes parents once (partOf sizes j) i (r .0)
       (row-borders (m .nodes) (edgeAt m order) sizes parents tree (edge-mirror m order symmetric) nested j i (r .1 .later) (r .0) (row-via i j h) other)
 
-  -- "all slots together number at most the sum over the parts of size × (nodes bordering the part's region) + size × (size − 1) / 2"
+  -- "the plan's slots, all columns together, number at most the sum, over all its parts, of size × (nodes bordering the part's region) + size × (size
+  -- − 1) / 2"
   pub slots-bounded : length (flatten (columns m order)) ≤ bound m order sizes parents
   unfolding bound
   slots-bounded =
