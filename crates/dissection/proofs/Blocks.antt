@@ -17,33 +17,33 @@ use Rattle.theory.proofs.Compressed.{total-lengths}
 use Rattle.dissection.specs.Numbers.{Renumbered, beginOf, Begins}
 use Rattle.dissection.specs.Blocks.{inner, headsOf}
 
--- ---- stretches of a list
+-- ---- segments of a list
 
 module _ {A : Type 0} where
   -- a list that begins with three lists has the second one behind the first
-  pub stretch-of : (n : ℕ) (l xs ys zs : List A) → take n l ≡ xs ++ (ys ++ zs) → take (length ys) (drop (length xs) l) ≡ ys
-  stretch-of n l xs ys zs e =
+  pub segment-of : (n : ℕ) (l xs ys zs : List A) → take n l ≡ xs ++ (ys ++ zs) → take (length ys) (drop (length xs) l) ≡ ys
+  segment-of n l xs ys zs e =
       let whole : l ≡ xs ++ (ys ++ (zs ++ drop n l)) = sym (take-append-drop n l) ∙ ap (λ (front : List A). front ++ drop n l) e ∙ simp append-assoc in
       ap (λ (l : List A). take (length ys) (drop (length xs) l)) whole
       ∙ ap (take (length ys)) (drop-at xs (ys ++ (zs ++ drop n l)) (length xs) refl)
       ∙ take-at ys (zs ++ drop n l) (length ys) refl
 
-  -- one stretch in two
-  pub stretch-two : (at a b : ℕ) (l : List A) → take (a + b) (drop at l) ≡ take a (drop at l) ++ take b (drop (at + a) l)
-  stretch-two at a b l = take-add a b (drop at l) ∙ ap (λ (r : List A). take a (drop at l) ++ take b r) (drop-drop a at l)
+  -- one segment in two
+  pub segment-two : (at a b : ℕ) (l : List A) → take (a + b) (drop at l) ≡ take a (drop at l) ++ take b (drop (at + a) l)
+  segment-two at a b l = take-add a b (drop at l) ∙ ap (λ (r : List A). take a (drop at l) ++ take b r) (drop-drop a at l)
 
-  -- a stretch within a list is as long as it says
-  pub stretch-long : (at k : ℕ) (l : List A) → at + k ≤ length l → length (take k (drop at l)) ≡ k
-  stretch-long at k l h = length-take-le k (drop at l) (omega (arith, length-drop at l))
+  -- a segment within a list is as long as it says
+  pub segment-long : (at k : ℕ) (l : List A) → at + k ≤ length l → length (take k (drop at l)) ≡ k
+  segment-long at k l h = length-take-le k (drop at l) (omega (arith, length-drop at l))
 
-  -- a stretch, element by element
-  pub stretch-getD : (at k : ℕ) (l : List A) (d : A) (i : ℕ) → i < k → getD (take k (drop at l)) i d ≡ getD l (at + i) d
-  stretch-getD at k l d i h = getD-take k (drop at l) i d h ∙ getD-drop at l i d
+  -- a segment, element by element
+  pub segment-getD : (at k : ℕ) (l : List A) (d : A) (i : ℕ) → i < k → getD (take k (drop at l)) i d ≡ getD l (at + i) d
+  segment-getD at k l d i h = getD-take k (drop at l) i d h ∙ getD-drop at l i d
 
   -- a list that begins with three lists, with another one of its length in the place of the second
-  pub stretch-other : (n : ℕ) (l new xs ys zs other : List A) → take n l ≡ xs ++ (ys ++ zs) → n ≤ length l → length other ≡ length ys
+  pub segment-other : (n : ℕ) (l new xs ys zs other : List A) → take n l ≡ xs ++ (ys ++ zs) → n ≤ length l → length other ≡ length ys
       → new ≡ take (length xs) l ++ (other ++ drop (length xs + length ys) l) → take n new ≡ xs ++ (other ++ zs)
-  stretch-other n l new xs ys zs other e long same now =
+  segment-other n l new xs ys zs other e long same now =
       let rest : List A = drop n l in
       let whole : l ≡ xs ++ (ys ++ (zs ++ rest)) = sym (take-append-drop n l) ∙ ap (λ (front : List A). front ++ rest) e ∙ simp append-assoc in
       let front : take (length xs) l ≡ xs = ap (take (length xs)) whole ∙ take-at xs (ys ++ (zs ++ rest)) (length xs) refl in
@@ -53,13 +53,13 @@ module _ {A : Type 0} where
       ap (take n) (now ∙ ap₂ (λ (f b : List A). f ++ (other ++ b)) front behind ∙ simp append-assoc)
       ∙ take-at (xs ++ (other ++ zs)) rest n size
 
--- two lists with the same elements there have the same stretch
-pub stretch-same : (at k : ℕ) (l r : List ℕ) → at + k ≤ length l → at + k ≤ length r → ((i : ℕ) → at ≤ i → i < at + k → getD l i 0 ≡ getD r i 0)
+-- two lists with the same elements there have the same segment
+pub segment-same : (at k : ℕ) (l r : List ℕ) → at + k ≤ length l → at + k ≤ length r → ((i : ℕ) → at ≤ i → i < at + k → getD l i 0 ≡ getD r i 0)
     → take k (drop at l) ≡ take k (drop at r)
-stretch-same at k l r hl hr same =
-    ext-getD 0 (take k (drop at l)) (take k (drop at r)) (stretch-long at k l hl ∙ sym (stretch-long at k r hr))
-    (λ i h. let lt : i < k = omega (arith, stretch-long at k l hl) in
-    stretch-getD at k l 0 i lt ∙ same (at + i) (omega arith) (omega arith) ∙ sym (stretch-getD at k r 0 i lt))
+segment-same at k l r hl hr same =
+    ext-getD 0 (take k (drop at l)) (take k (drop at r)) (segment-long at k l hl ∙ sym (segment-long at k r hr))
+    (λ i h. let lt : i < k = omega (arith, segment-long at k l hl) in
+    segment-getD at k l 0 i lt ∙ same (at + i) (omega arith) (omega arith) ∙ sym (segment-getD at k r 0 i lt))
 
 -- ---- where blocks begin
 
@@ -116,14 +116,14 @@ pub record Block (at size parent : ℕ) (heads : List ℕ) : Type 0 where
 pub block-heads : (at size parent : ℕ) (heads : List ℕ) → 0 < size → at + size ≤ length heads → Block at size parent heads
     → take size (drop at heads) ≡ parent ∷ replicate (size - 1) inner
 block-heads at size parent heads some fits b =
-    let long : length (take size (drop at heads)) ≡ size = stretch-long at size heads fits in
+    let long : length (take size (drop at heads)) ≡ size = segment-long at size heads fits in
     ext-getD 0 (take size (drop at heads)) (parent ∷ replicate (size - 1) inner) (omega (arith, long, length-replicate {A = ℕ} (size - 1) inner)) go
   where
     go : (i : ℕ) → i < length (take size (drop at heads)) → getD (take size (drop at heads)) i 0 ≡ getD (parent ∷ replicate (size - 1) inner) i 0
-    go zero h = stretch-getD at size heads 0 0 some ∙ ap (λ (k : ℕ). getD heads k 0) (add-zero at) ∙ b .first
+    go zero h = segment-getD at size heads 0 0 some ∙ ap (λ (k : ℕ). getD heads k 0) (add-zero at) ∙ b .first
     go (suc i) h =
-        let lt : suc i < size = omega (arith, stretch-long at size heads fits) in
-        stretch-getD at size heads 0 (suc i) lt ∙ b .rest (at + suc i) (omega arith) (omega arith) ∙ sym (getD-replicate (size - 1) i inner 0 (omega arith))
+        let lt : suc i < size = omega (arith, segment-long at size heads fits) in
+        segment-getD at size heads 0 (suc i) lt ∙ b .rest (at + suc i) (omega arith) (omega arith) ∙ sym (getD-replicate (size - 1) i inner 0 (omega arith))
 
 -- and a block whose heads these are stands there
 pub heads-block : (size parent : ℕ) (heads xs zs : List ℕ) (n : ℕ) → 0 < size → take n heads ≡ xs ++ ((parent ∷ replicate (size - 1) inner) ++ zs)
@@ -131,13 +131,13 @@ pub heads-block : (size parent : ℕ) (heads xs zs : List ℕ) (n : ℕ) → 0 <
 heads-block size parent heads xs zs n some e =
     let ys : List ℕ = parent ∷ replicate (size - 1) inner in
     let many : length ys ≡ size = omega (arith, length-replicate {A = ℕ} (size - 1) inner) in
-    let there : take size (drop (length xs) heads) ≡ ys = ap (λ (k : ℕ). take k (drop (length xs) heads)) (sym many) ∙ stretch-of n heads xs ys zs e in
+    let there : take size (drop (length xs) heads) ≡ ys = ap (λ (k : ℕ). take k (drop (length xs) heads)) (sym many) ∙ segment-of n heads xs ys zs e in
     record {
-      first = ap (λ (k : ℕ). getD heads k 0) (sym (add-zero (length xs))) ∙ sym (stretch-getD (length xs) size heads 0 0 some) ∙ ap (λ (l : List ℕ). getD l 0 0) there;
+      first = ap (λ (k : ℕ). getD heads k 0) (sym (add-zero (length xs))) ∙ sym (segment-getD (length xs) size heads 0 0 some) ∙ ap (λ (l : List ℕ). getD l 0 0) there;
       rest = λ i lt fits.
           let k : ℕ = i - length xs - 1 in
           let at : i ≡ length xs + suc k = omega arith in
-          ap (λ (k : ℕ). getD heads k 0) at ∙ sym (stretch-getD (length xs) size heads 0 (suc k) (omega arith)) ∙ ap (λ (l : List ℕ). getD l (suc k) 0) there
+          ap (λ (k : ℕ). getD heads k 0) at ∙ sym (segment-getD (length xs) size heads 0 (suc k) (omega arith)) ∙ ap (λ (l : List ℕ). getD l (suc k) 0) there
           ∙ getD-replicate (size - 1) k inner 0 (omega arith);
     }
 
@@ -175,7 +175,7 @@ headed-heads [] at parent heads full fits h = ap (λ (k : ℕ). take k (drop at 
 headed-heads (b ∷ blocks) at parent heads full fits h =
     let size : length (flatten (b ∷ blocks)) ≡ length b + length (flatten blocks) = ap length (flatten-cons b blocks) ∙ length-append b (flatten blocks) in
     ap (λ (k : ℕ). take k (drop at heads)) size
-    ∙ stretch-two at (length b) (length (flatten blocks)) heads
+    ∙ segment-two at (length b) (length (flatten blocks)) heads
     ∙ ap₂ (λ (xs ys : List ℕ). xs ++ ys)
     (block-heads at (length b) parent heads (full .0) (omega arith) (headed-first at b blocks parent heads h))
     (headed-heads blocks (at + length b) parent heads (full .1) (omega arith) (headed-later at b blocks parent heads (full .0) h))
@@ -250,7 +250,7 @@ module _ (n k p : ℕ) (heads marked hs zs r part : List ℕ) (blocks : List (Li
   new-long : length new ≡ length heads
   new-long = length-set marked partAt p ∙ same
 
-  -- the nodes in four stretches
+  -- the nodes in four segments
   all-long : n ≡ length hs + (length (flatten blocks) + (length part + length zs))
   all-long =
       omega (
@@ -279,9 +279,9 @@ module _ (n k p : ℕ) (heads marked hs zs r part : List ℕ) (blocks : List (Li
   -- before the block
   front-stays : take (length hs) new ≡ hs
   front-stays =
-      stretch-same 0 (length hs) new heads (omega (arith, new-long, all-long)) (omega (arith, all-long))
+      segment-same 0 (length hs) new heads (omega (arith, new-long, all-long)) (omega (arith, all-long))
       (λ i low high. new-kept i (λ e. omega arith) (λ c lt e. omega arith))
-      ∙ stretch-of n heads [] hs ((p ∷ replicate (length r - 1) inner) ++ zs) held
+      ∙ segment-of n heads [] hs ((p ∷ replicate (length r - 1) inner) ++ zs) held
 
   -- the blocks
   blocks-new : take (length (flatten blocks)) (drop (length hs) new) ≡ headsOf blocks (replicate (length blocks) k)
@@ -308,10 +308,10 @@ module _ (n k p : ℕ) (heads marked hs zs r part : List ℕ) (blocks : List (Li
   rest-stays =
       let ys : List ℕ = p ∷ replicate (length r - 1) inner in
       let at : partAt + length part ≡ length (hs ++ ys) = omega (arith, length-append hs ys, length-replicate {A = ℕ} (length r - 1) inner) in
-      stretch-same (partAt + length part) (length zs) new heads (omega (arith, new-long, all-long)) (omega (arith, all-long))
+      segment-same (partAt + length part) (length zs) new heads (omega (arith, new-long, all-long)) (omega (arith, all-long))
       (λ i low high. new-kept i (λ e. omega arith) (λ c lt e. omega (arith, begin-before (length hs) blocks full c lt)))
       ∙ ap (λ (k : ℕ). take (length zs) (drop k heads)) at
-      ∙ stretch-of n heads (hs ++ ys) zs [] (held ∙ simp (append-assoc, append-nil))
+      ∙ segment-of n heads (hs ++ ys) zs [] (held ∙ simp (append-assoc, append-nil))
 
   -- so these are the heads
   pub heads-divided : take n (set marked (length hs + length (flatten blocks)) p) ≡ hs ++ (headsOf blocks (replicate (length blocks) k) ++ ((p ∷ replicate (length part - 1) inner) ++ zs))
@@ -319,7 +319,7 @@ module _ (n k p : ℕ) (heads marked hs zs r part : List ℕ) (blocks : List (Li
       ap (λ (n : ℕ). take n new) all-long
       ∙ take-add (length hs) (length (flatten blocks) + (length part + length zs)) new
       ∙ ap₂ (λ (xs ys : List ℕ). xs ++ ys) front-stays
-      (stretch-two (length hs) (length (flatten blocks)) (length part + length zs) new
+      (segment-two (length hs) (length (flatten blocks)) (length part + length zs) new
       ∙ ap₂ (λ (xs ys : List ℕ). xs ++ ys) blocks-new
-      (stretch-two partAt (length part) (length zs) new
+      (segment-two partAt (length part) (length zs) new
       ∙ ap₂ (λ (xs ys : List ℕ). xs ++ ys) part-new rest-stays))

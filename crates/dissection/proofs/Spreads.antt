@@ -1,4 +1,4 @@
--- One stretch of a walk: nothing touched, one node touched, one stretch after another, and the same nodes touched by another test.
+-- One spread of a walk: nothing touched, one node touched, one spread after another, and the same nodes touched by another test.
 use mathlib.Core.Path.{_≡_, refl, sym, ap, _∙_}
 use mathlib.Core.Logic.{inl, inr}
 use mathlib.Core.Bool.{Bool, true, false, _&&_, _||_, and-false}
@@ -99,10 +99,10 @@ module _ {n x hi w : ℕ} {ns q : List ℕ} (room : Room n ns q hi) (wf : w < n)
         many = omega arith;
       }
 
--- one stretch after another
+-- one spread after another
 module _ {n x hi : ℕ} {n₀ q₀ : List ℕ} {s : ℕ → Bool} {n₁ q₁ : List ℕ} {mid : ℕ} {t : ℕ → Bool} {n₂ q₂ : List ℕ} {tail : ℕ}
     (xf : x < fresh) (p : Spread n x hi n₀ q₀ s n₁ q₁ mid) (p′ : Spread n x mid n₁ q₁ t n₂ q₂ tail) where
-  -- a node that the first stretch reached is not fresh for the second
+  -- a node that the first spread reached is not fresh for the second
   newly-after : (v : ℕ) → newly n₀ s v ≡ true → newly n₁ t v ≡ false
   newly-after v e = rw (p .numbers v, e, not-fresh x xf)
 

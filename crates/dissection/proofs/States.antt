@@ -37,7 +37,7 @@ use Rattle.theory.proofs.StepStates.{balanced-steps, balanced-few, balanced-ins
 use Rattle.dissection.specs.Numbers.{fresh, outside, freshOf, Only, Renumbered, grouped, beginOf, Begins, Labelled}
 use Rattle.dissection.specs.Standing.{Divided}
 use Rattle.dissection.specs.Blocks.{inner, headsOf, stateAfter, Holds, Dissected}
-use Rattle.dissection.proofs.Blocks.{stretch-of, stretch-other, headed-heads, marked-headed, heads-append, heads-long, heads-first, begin-end, begin-front, begin-before, Firsts, firsts, Block, heads-block, heads-divided}
+use Rattle.dissection.proofs.Blocks.{segment-of, segment-other, headed-heads, marked-headed, heads-append, heads-long, heads-first, begin-end, begin-front, begin-before, Firsts, firsts, Block, heads-block, heads-divided}
 
 -- ---- the last one first, turned round
 
@@ -296,7 +296,7 @@ module _ {m : Mesh} {orderHeld heads : List ℕ} {left : ℕ} (k : ℕ) (l : Las
   last-nodes a e =
       let size : left - a ≡ length (l .next .region) = omega (arith, l .place) in
       ap₂ (λ (k a : ℕ). take k (drop a orderHeld)) size e
-      ∙ stretch-of (m .nodes) orderHeld (flatten (reverse (regionsOf (l .others)))) (l .next .region) (flatten (stateAfter m k .chosen)) (l .order)
+      ∙ segment-of (m .nodes) orderHeld (flatten (reverse (regionsOf (l .others)))) (l .next .region) (flatten (stateAfter m k .chosen)) (l .order)
 
   -- so are those of a list that holds them
   pub last-queued : {nodes : List ℕ} (a : ℕ) → a ≡ start → nodes ≡ segment orderHeld a left → nodes ≡ l .next .region
@@ -382,13 +382,13 @@ module _ {m : Mesh} {orderHeld heads : List ℕ} {left : ℕ} (k : ℕ) (l : Las
         let same : length rs ≡ length qs =
         length-reverse (regionsOf (l .others)) ∙ length-map (l .others) (λ q. q .region) ∙ sym (length-map (l .others) (λ q. q .parent)) ∙ sym (length-reverse (parentsOf (l .others))) in
         let other : List ℕ = flatten (grouped (count + 1) numbers r) in
-        let stretch : a + (left - a) ≡ start + length r = omega (arith, l .place) in
+        let endAt : a + (left - a) ≡ start + length r = omega (arith, l .place) in
         rw (add-one k, endSame, pSame, state-cut m k (l .next) (l .others) (l .whole))
         record {
           order =
-              stretch-other n orderHeld now (flatten rs) r (flatten chosen) other (l .order) (l .orderLong)
+              segment-other n orderHeld now (flatten rs) r (flatten chosen) other (l .order) (l .orderLong)
               (omega (arith, ap length groups-nodes, length-append (flatten rest) part, part-rest))
-              (regrouped ∙ ap₂ (λ (a e : ℕ). take a orderHeld ++ (flatten (grouped (count + 1) numbers nodes) ++ drop e orderHeld)) aSame stretch
+              (regrouped ∙ ap₂ (λ (a e : ℕ). take a orderHeld ++ (flatten (grouped (count + 1) numbers nodes) ++ drop e orderHeld)) aSame endAt
               ∙ ap (λ (nodes : List ℕ). take start orderHeld ++ (flatten (grouped (count + 1) numbers nodes) ++ drop (start + length r) orderHeld)) nodesSame)
               ∙ ap (λ (g : List ℕ). flatten rs ++ (g ++ flatten chosen)) groups-nodes
               ∙ sym (ap₂ (λ (xs ys : List ℕ). xs ++ ys) left-nodes (flatten-cons part chosen) ∙ simp append-assoc);
