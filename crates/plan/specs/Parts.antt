@@ -49,7 +49,7 @@ boundarySize m order sizes parents q = length (boundary m (regionOfPart order si
 
 -- demand 3: "size × (nodes bordering the part's region) + size × (size − 1) / 2"
 unfoldable pub partBound : ℕ → ℕ → ℕ
-partBound size bordering = size * bordering + size * (size - 1) / 2
+partBound size border = size * border + size * (size - 1) / 2
 
 -- demand 3: "the sum, over all its parts, of" that
 unfoldable pub bound : Mesh → List ℕ → List ℕ → List ℕ → ℕ

@@ -59,7 +59,7 @@ spanFound zero columnStarts j = record { start = getD columnStarts j 0; count = 
 -- document 01 leaves open where an empty stretch lies; the span then starts at 0
 spanFound (suc k) columnStarts j = record { start = 0; count = 0 }
 
--- the second question: which stretch it is, and what stands in it
+-- the second question: which span (document 01: stretch) it is, and what stands in it
 unfoldable pub columnSpan : ℕ → List ℕ → List ℕ → ℕ → Span
 columnSpan n columnStarts rows j = spanFound (columnRefusal n columnStarts rows j) columnStarts j
 

@@ -71,7 +71,7 @@ pub enum PairAnswer {
     Refused(u32),
 }
 
-// A stretch of the rows buffer, the answer to the question about a column: where it starts, and how many rows it has.
+// A span of the rows buffer (document 01: stretch), the answer to the question about a column: where it starts, and how many rows it has.
 pub struct Span {
     pub start: usize,
     pub count: usize,

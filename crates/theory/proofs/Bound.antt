@@ -13,7 +13,7 @@ use Rattle.plan.specs.Lists.{upFrom, below, total}
 use Rattle.plan.specs.Levels.{Graph}
 use Rattle.plan.specs.Parts.{partOf, partBound}
 use Rattle.theory.specs.Counting.{count}
-use Rattle.theory.specs.PartTree.{PartTree, Nested, borders, bordering}
+use Rattle.theory.specs.PartTree.{PartTree, Nested, borders, boundaryCount}
 use Rattle.theory.proofs.Bools.{eq-or-ne}
 use Rattle.theory.proofs.Ranges.{isIn-upFrom, upFrom-add}
 use Rattle.theory.proofs.Sums.{total-append, block, half}
@@ -63,8 +63,8 @@ module _ (n : ℕ) (edge : Graph) (sizes parents : List ℕ) (parts : PartTree n
     (mirror : (a b : ℕ) → edge a b ≡ true → edge b a ≡ true) (nested : Nested n edge sizes parents)
     (row : ℕ → ℕ → Bool) (sound : (i j : ℕ) → j < i → i < n → row i j ≡ true → Via edge j j i) where
   -- a column's rows border the region of its part, or lie in the part
-  column-rows : (j : ℕ) → j < n → count (λ i. row i j) (upFrom (suc j) (n - suc j)) ≤ bordering n edge sizes parents (partOf sizes j) + (endOf sizes j - suc j)
-  unfolding bordering
+  column-rows : (j : ℕ) → j < n → count (λ i. row i j) (upFrom (suc j) (n - suc j)) ≤ boundaryCount n edge sizes parents (partOf sizes j) + (endOf sizes j - suc j)
+  unfolding boundaryCount
   column-rows j l =
       let q : ℕ = partOf sizes j in
       let e : ℕ = endOf sizes j in
@@ -79,9 +79,9 @@ module _ (n : ℕ) (edge : Graph) (sizes parents : List ℕ) (parts : PartTree n
 
   -- all rows together, by position
   pub rows-bounded : total (map (λ j. count (λ i. row i j) (upFrom (suc j) (n - suc j))) (below n))
-      ≤ total (map (λ q. partBound (getD sizes q 0) (bordering n edge sizes parents q)) (below (length sizes)))
+      ≤ total (map (λ q. partBound (getD sizes q 0) (boundaryCount n edge sizes parents q)) (below (length sizes)))
   rows-bounded =
-      let b : ℕ → ℕ = bordering n edge sizes parents in
+      let b : ℕ → ℕ = boundaryCount n edge sizes parents in
       let f : ℕ → ℕ = λ j. count (λ i. row i j) (upFrom (suc j) (n - suc j)) in
       let all : total (map f (below (total sizes))) ≤ bounds b 0 sizes =
       columns b f sizes 0 0 (λ t l. simp zero-add (column-rows t (omega (arith, parts .whole)))) in

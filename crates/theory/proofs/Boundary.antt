@@ -11,7 +11,7 @@ use Rattle.plan.specs.Mesh.{Mesh, adjacent}
 use Rattle.plan.specs.Parts.{partOf, atOrAbove, nodesWhere, regionOfPart, boundary, boundarySize}
 use Rattle.theory.specs.Counting.{count, Order}
 use Rattle.theory.specs.Rows.{edgeAt}
-use Rattle.theory.specs.PartTree.{borders, bordering}
+use Rattle.theory.specs.PartTree.{borders, boundaryCount}
 use Rattle.theory.proofs.Bools.{and-left, and-right, and-both, iff-eq, eqb-same}
 use Rattle.theory.proofs.Lists.{exists-isIn, isIn-exists, exists-map, exists-keep, in-keep}
 use Rattle.theory.proofs.Ranges.{isIn-below, below-isIn, map-getD}
@@ -62,8 +62,8 @@ module _ (m : Mesh) (order sizes parents : List ℕ) (once : Order (m .nodes) or
   in-boundary i l h = in-keep bordersRegion (below (m .nodes)) (getD order i 0) (below-isIn (m .nodes) (getD order i 0) (order-inside (m .nodes) order once i l)) (borders-at i l ∙ h)
 
   -- "Nodes bordering it", as many by nodes as by positions
-  pub boundary-size : boundarySize m order sizes parents q ≡ bordering (m .nodes) (edgeAt m order) sizes parents q
-  unfolding boundarySize boundary bordering bordersRegion
+  pub boundary-size : boundarySize m order sizes parents q ≡ boundaryCount (m .nodes) (edgeAt m order) sizes parents q
+  unfolding boundarySize boundary boundaryCount bordersRegion
   boundary-size =
       let n : ℕ = m .nodes in
       sym (once bordersRegion)

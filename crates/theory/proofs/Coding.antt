@@ -51,7 +51,7 @@ module _ (bytes : List ℕ) (at apart : ℕ) where
       let f : ℕ → ℕ = λ k. decode16 bytes (at + apart * k) in
       ap (map f) (upFrom-snoc 0 count) ∙ map-append f (below count) ((0 + count) ∷ []) ∙ ap (λ (k : ℕ). map f (below count) ++ (f k ∷ [])) (zero-add count)
 
--- a stretch of them stands at a place of its own
+-- a segment of them stands at a place of its own
 pub decode16s-segment : (bytes : List ℕ) (at apart count a e : ℕ) → a ≤ e → e ≤ count
     → segment (decode16s bytes at apart count) a e ≡ decode16s bytes (at + apart * a) apart (e - a)
 decode16s-segment bytes at apart count a e le le′ =
@@ -208,7 +208,7 @@ module _ (bytes : List ℕ) (small : every (λ b. ltb b 256) bytes ≡ true) whe
       let high : (u + 65536 * v) / 65536 ≡ v = omega arith in
       rw (low, high) (decoded-pair at h)
 
--- blocks of w bytes that are stretches of a list, one after the other, are one stretch of it
+-- blocks of w bytes that are segments of a list, one after the other, are one segment of it
 pub segment-blocks : (f : ℕ → List ℕ) (w : ℕ) (bytes : List ℕ) (at count : ℕ) → ((k : ℕ) → k < count → f k ≡ segment bytes (at + w * k) (at + w * k + w))
     → blocks f count ≡ segment bytes at (at + w * count)
 segment-blocks f w bytes at zero each =

@@ -14,7 +14,7 @@ use Rattle.plan.specs.Demand3.{Demand3}
 use Rattle.theory.specs.Counting.{Order}
 use Rattle.theory.specs.Checked.{Symmetric}
 use Rattle.theory.specs.Rows.{edgeAt, isRow}
-use Rattle.theory.specs.PartTree.{PartTree, Nested, bordering}
+use Rattle.theory.specs.PartTree.{PartTree, Nested, boundaryCount}
 use Rattle.theory.proofs.Ranges.{map-ext-upFrom}
 use Rattle.theory.proofs.Orders.{order-length}
 use Rattle.theory.proofs.Via.{Via, joined-via}
@@ -38,9 +38,9 @@ module _ (m : Mesh) (order sizes parents : List ℕ) (symmetric : Symmetric m) (
       row-above (m .nodes) (edgeAt m order) sizes parents tree (edge-mirror m order symmetric) nested j i (r .1 .later) (r .0) (row-via i j h)
 
   -- a row outside the column's part is a node bordering the part's region
-  pub row-bordering : (i j : ℕ) → isRow m order i j ≡ true → partOf sizes i ≢ partOf sizes j
+  pub row-in-boundary : (i j : ℕ) → isRow m order i j ≡ true → partOf sizes i ≢ partOf sizes j
       → isIn (getD order i 0) (boundary m (regionOfPart order sizes parents (partOf sizes j))) ≡ true
-  row-bordering i j h other =
+  row-in-boundary i j h other =
       let r = row-fact m order i j h in
       in-boundary m order sizes parents once (partOf sizes j) i (r .0)
       (row-borders (m .nodes) (edgeAt m order) sizes parents tree (edge-mirror m order symmetric) nested j i (r .1 .later) (r .0) (row-via i j h) other)
@@ -51,7 +51,7 @@ module _ (m : Mesh) (order sizes parents : List ℕ) (symmetric : Symmetric m) (
   unfolding bound
   slots-bounded =
       let byNodes : ℕ → ℕ = λ q. partBound (getD sizes q 0) (boundarySize m order sizes parents q) in
-      let byPositions : ℕ → ℕ = λ q. partBound (getD sizes q 0) (bordering (m .nodes) (edgeAt m order) sizes parents q) in
+      let byPositions : ℕ → ℕ = λ q. partBound (getD sizes q 0) (boundaryCount (m .nodes) (edgeAt m order) sizes parents q) in
       omega (
         arith,
         slots-counted m order,

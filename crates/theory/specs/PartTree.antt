@@ -35,5 +35,5 @@ borders n edge sizes parents q i =
     not (atOrAbove parents (partOf sizes i) q) && exists (λ x. atOrAbove parents (partOf sizes x) q && edge i x) (below n)
 
 -- how many positions border it
-unfoldable pub bordering : ℕ → Graph → List ℕ → List ℕ → ℕ → ℕ
-bordering n edge sizes parents q = count (borders n edge sizes parents q) (below n)
+unfoldable pub boundaryCount : ℕ → Graph → List ℕ → List ℕ → ℕ → ℕ
+boundaryCount n edge sizes parents q = count (borders n edge sizes parents q) (below n)
