@@ -1,5 +1,5 @@
--- The division of a region as it stands in the numbers: the separator is left out in place, what stays becomes fresh,
--- and in the end the part's nodes get the last number.
+-- The division of a region as it stands in the numbers: the separator is left out in place, what stays becomes fresh, and in the end the part's nodes
+-- get the last number.
 use mathlib.Core.Path.{_≡_, refl, sym, ap, ap₂, _∙_}
 use mathlib.Core.Logic.{inl, inr, _≢_}
 use mathlib.Core.Bool.{Bool, true, false, not, cond, _&&_}

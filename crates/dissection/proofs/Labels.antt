@@ -34,8 +34,7 @@ module _ {n : ℕ} {edge : Graph} {root : ℕ} {old mid queue : List ℕ} {last 
   pub walked-inside : (v : ℕ) → isIn v (take reached queue) ≡ true → v < n
   walked-inside v m = of-fresh n old v (of-component edge (freshOf n old) root v (sym (w .members v) ∙ m) .0) .0
 
-  -- where those that a walk has reached get number x, the root's component has got it, and every other node has the number that it had
-  -- before the walk
+  -- where those that a walk has reached get number x, the root's component has got it, and every other node the number that it had before the walk
   pub walked-taken : (x : ℕ) (new : List ℕ) → root < n → getD old root 0 ≡ fresh → Renumbered (λ _. x) (take reached queue) mid new → Renumbered (λ _. x) (component edge (freshOf n old) root) old new
   walked-taken x new lt e f v = f v ∙ ap (λ (b : Bool). cond b x (getD mid v 0)) (w .members v) ∙ elim (tested (isIn v (component edge (freshOf n old) root))) [
     | inl t ↦ rw t

@@ -1,5 +1,5 @@
--- Nodes that get new numbers, and the loop that gives them. One relation serves every such loop: the first i nodes have theirs,
--- the others the numbers that they had.
+-- Nodes that get new numbers, and the loop that gives them. One relation serves every such loop: the first i nodes have theirs, the others the
+-- numbers that they had.
 use mathlib.Core.Path.{_≡_, refl, sym, ap, _∙_}
 use mathlib.Core.Logic.{inl, inr, _≢_}
 use mathlib.Core.Bool.{true, false, cond, or-false}

@@ -69,8 +69,7 @@ placed-own edge region root (after {l = l} {ls = ls} le e some) (suc i) v x h =
 
 -- ---- between two levels
 
--- The levels of a walk so far, the last one first, stand in the numbers and in the queue, which is hi long; the last one stands in it
--- from place lo on.
+-- The levels of a walk so far, the last one first, stand in the numbers and in the queue, which is hi long; the last one from place lo on.
 pub record Stand (n : ℕ) (old : List ℕ) (ls : List (List ℕ)) (last lo hi : ℕ) (numbers queue : List ℕ) : Type 0 where
   pub numbered : (v : ℕ) → getD numbers v 0 ≡ placed v ls (getD old v 0)
   pub count : length ls ≡ last + 1

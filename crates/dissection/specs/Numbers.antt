@@ -80,8 +80,8 @@ pub record Taken (n : ℕ) (edge : Graph) (v : ℕ) (old new begins₀ begins₁
   pub begins : begins₁ ≡ set begins₀ (count + 1) (getD begins₀ count 0 + length (component edge (freshOf n old) v))
   pub total : after ≡ count + 1
 
--- What labelling leaves: each node of component c of the fresh nodes has number c, and the components begin where they are to stand.
--- The nodes that were not fresh have the numbers that they had.
+-- What labelling leaves: each node of component c of the fresh nodes has number c, and the components begin where they are to stand. The nodes that
+-- were not fresh have the numbers that they had.
 pub record Labelled (n : ℕ) (edge : Graph) (nodes : List ℕ) (at : ℕ) (old new begins : List ℕ) (count : ℕ) : Type 0 where
   pub groups : grouped count new nodes ≡ components edge (freshOf n old)
   pub begin : Begins at (components edge (freshOf n old)) begins

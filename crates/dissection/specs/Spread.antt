@@ -18,8 +18,8 @@ pub record Room (n : ℕ) (numbers queue : List ℕ) (tail : ℕ) : Type 0 where
 abbrev pub newly : List ℕ → (ℕ → Bool) → ℕ → Bool
 newly numbers touched v = eqb (getD numbers v 0) fresh && touched v
 
--- From numbers n₀ and a queue q₀ that is hi long, the fresh nodes among those touched have been given number x and put into the queue,
--- which is now tail long.
+-- From numbers n₀ and a queue q₀ that is hi long, the fresh nodes among those touched have been given number x and put into the queue, which is now
+-- tail long.
 pub record Spread (n x hi : ℕ) (n₀ q₀ : List ℕ) (touched : ℕ → Bool) (n₁ q₁ : List ℕ) (tail : ℕ) : Type 0 where
   pub numbers : (v : ℕ) → getD n₁ v 0 ≡ cond (newly n₀ touched v) x (getD n₀ v 0)
   pub queued : (v : ℕ) → isIn v (segment q₁ hi tail) ≡ newly n₀ touched v

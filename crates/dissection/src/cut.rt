@@ -62,8 +62,8 @@ fn separated(n: usize, starts: &[u32], neighbours: &[u16], v: usize, j: u16, num
     numbers[v]
 }
 
-// The nodes of the separator, those of level j that have a neighbour in level j + 1, are left out. In place: a number that changes is j,
-// and only j and j + 1 are looked for. O(length + entries of level j).
+// The nodes of the separator, those of level j that have a neighbour in level j + 1, are left out. In place: a number that changes is j, and only j
+// and j + 1 are looked for. O(length + entries of level j).
 fn separate(
     n: usize,
     starts: &[u32],
@@ -123,8 +123,8 @@ fn number_part(nodes: &[u16], k: u16, numbers: &mut [u16])
     }
 }
 
-// A region's part is left out and its other nodes become fresh, by the levels that stand in the numbers.
-// "If ℓ is 0 or 1 the whole region is one part". O(length + entries of the cut level).
+// A region's part is left out and its other nodes become fresh, by the levels that stand in the numbers. "If ℓ is 0 or 1 the whole region is one
+// part". O(length + entries of the cut level).
 fn choose(
     n: usize,
     starts: &[u32],

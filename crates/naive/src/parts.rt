@@ -163,8 +163,8 @@ fn add_part(p: Parts, s: u64) -> Parts {
     q
 }
 
-// Numbers the regions that s falls into, by smallest node: of each the regions left by its cut, then its part. `turns` is
-// at least the number of nodes of s.
+// Numbers the regions that s falls into, by smallest node: of each the regions left by its cut, then its part. `turns` is at least the number of
+// nodes of s.
 fn number(m: &[u64; 64], s: u64, turns: usize, p: Parts) -> Parts {
     if s == 0 {
         return p;

@@ -47,8 +47,7 @@ rootFrom (suc most) m region r =
     cond (eqb next r) r found
 
 -- Pseudo-peripheral root: document 01's starting root, searched from "the region's smallest node". ℓ grows each time and there are no more levels
--- than nodes, so as many turns as nodes
--- are enough; the square leaves room for a rule under which ℓ need not grow.
+-- than nodes, so as many turns as nodes are enough; the square leaves room for a rule under which ℓ need not grow.
 unfoldable pub rootOf : Mesh → List ℕ → ℕ
 rootOf m region = rootFrom (length region * length region) m region (headD region 0)
 

@@ -7,15 +7,13 @@ use Rattle.plan.specs.Mesh.{noParent}
 use Rattle.plan.specs.Levels.{Graph, components}
 
 -- The dissection of a list of regions: of the first one its part (`members`) and the dissection of what is left of it (`children`), then that of the
--- other regions.
--- A part's parent is document 01's father.
+-- other regions. A part's parent is document 01's father.
 pub data Forest : Type 0 where
   empty : Forest
   tree : (members : List ℕ) → (children others : Forest) → Forest
 
 -- "A region is a connected component of the nodes not yet chosen." "What is left of the region falls into components, each a region; their parts'
--- father is this part."
--- At most `most` regions deep and wide.
+-- father is this part." At most `most` regions deep and wide.
 unfoldable pub dissect : ℕ → Graph → (List ℕ → List ℕ) → List (List ℕ) → Forest
 dissect zero edge choose regions = empty
 dissect (suc most) edge choose [] = empty

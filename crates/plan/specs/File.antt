@@ -126,8 +126,7 @@ unfoldable pub badColumns : ℕ → List ℕ → List ℕ → Bool
 badColumns n columnStarts rows = exists (λ j. badColumn n j (listAt columnStarts rows j)) (below n)
 
 -- 17: counts do not sum to s, or a column's rows are not strictly ascending, above the column and below n; "17 also for column starts that do not
--- begin at 0, fall, or do not end at s".
--- The column starts of a file are the running sums of its counts: they begin at 0, do not fall, and end at the counts' sum.
+-- begin at 0, fall, or do not end at s". A file's column starts are the running sums of its counts: from 0, never falling, up to the counts' sum.
 unfoldable pub badRows : Contents → Bool
 badRows c =
     badStarts (c .nodes) (c .columnStarts) || not (eqb (getD (c .columnStarts) (c .nodes) 0) (c .slots))

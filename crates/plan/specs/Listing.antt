@@ -36,8 +36,7 @@ inputMesh bytes =
     }
 
 -- 20: "Over 256 nodes, over 2,048 entries, an end before the last start or an incomplete number". The end comes before the last start where the bytes
--- do not hold n + 1 starts;
--- neighbours fewer or more than the last start says are check 2. Entries are the numbers that the input holds.
+-- do not hold n + 1 starts; neighbours fewer or more than the last start says are check 2. Entries are the numbers that the input holds.
 unfoldable pub badInput : List ℕ → Bool
 badInput bytes =
     ltb (length bytes) 2 || ltb maxListedNodes (decode16 bytes 0) || ltb maxListedEntries (entryCount bytes)

@@ -1,7 +1,6 @@
 -- Document 01, "One stretch of the dissection takes the state and gives back the next": the dissection one part at a time. A step is document 01's
--- stretch.
--- The last region is cut first, so the parts chosen so far are always the last ones of the order. Nothing that is handed out depends on this file;
--- `Enough.StepsEnough` ties it to the dissection.
+-- stretch. The last region is cut first, so the parts chosen so far are always the last ones of the order. Nothing that is handed out depends on this
+-- file; `Enough.StepsEnough` ties it to the dissection.
 use mathlib.Core.Bool.{cond}
 use mathlib.Core.List.{List, [], _∷_, _++_, map, reverse}
 use Prim.Native.Nat.{ℕ, zero, suc, _-_}

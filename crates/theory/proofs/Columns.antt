@@ -100,8 +100,7 @@ module _ (m : Mesh) (order : List ℕ) where
       (joins-joined j j i (omega (arith, s .later)) (omega (arith, s .later)) li ∙ s .joined)
       (lt-ltb j i (s .later))
 
-  -- a column's rows are ascending
-  -- "ascending"
+  -- a column's rows are "ascending"
   pub column-ascending : (j : ℕ) → ascending (column m order j) ≡ true
   unfolding column remaining
   column-ascending j = ascending-keep (ltb j) (getD (joinsAfter j m order) j []) (go (tested (ltb j (m .nodes))))

@@ -39,8 +39,7 @@ pending-cons parent r rs others =
 -- ---- the parents as the steps count them
 
 -- The parents of a forest's parts, counted in the order of choosing: `before` parts are chosen before those of the forest, and its outermost parts
--- have the parent `parent`.
--- The others are chosen first, then the members, then the children.
+-- have the parent `parent`. The others are chosen first, then the members, then the children.
 abbrev chosenParents : ℕ → ℕ → Forest → List ℕ
 chosenParents parent before empty = []
 chosenParents parent before (tree members children others) =

@@ -24,13 +24,11 @@ parentsOf pending = map (λ q. q .parent) pending
 abbrev pub ParentBefore : ℕ → ℕ → Type 0
 ParentBefore k parent = (parent ≡ noParent) ⊎ (parent < k)
 
--- What holds of every state that the steps from the first regions of n nodes reach.
--- Parents are counted in the order of choosing, as the steps count them.
+-- What holds of every state that the steps from the first regions of n nodes reach. Parents are counted in the order of choosing, as by the steps.
 pub record Balanced (edge : Graph) (n : ℕ) (s : State) : Type 0 where
   -- every pending region is a region: it has a node, it stands ascending, and it is connected
   pub regions : All (Region edge) (regionsOf (s .pending))
-  -- every test counts alike in the nodes of the pending regions with those of the chosen parts, and in 0 .. n − 1:
-  -- so these are their nodes, each once
+  -- every test counts alike in the nodes of the pending regions with those of the chosen parts, and in 0 .. n − 1: they are these, each once
   pub counts : (p : ℕ → Bool) → count p (flatten (regionsOf (s .pending))) + count p (flatten (s .chosen)) ≡ count p (below n)
   -- every chosen part has a node
   pub filled : All (λ part. 0 < length part) (s .chosen)
@@ -38,6 +36,5 @@ pub record Balanced (edge : Graph) (n : ℕ) (s : State) : Type 0 where
   pub asMany : length (s .parents) ≡ length (s .chosen)
   -- the part of a pending region will have no parent, or one that is chosen already
   pub pendingParents : (parent : ℕ) → isIn parent (parentsOf (s .pending)) ≡ true → ParentBefore (length (s .chosen)) parent
-  -- a chosen part has no parent, or one that was chosen before it:
-  -- at place i stands the part chosen as number (chosen parts) − 1 − i, the last one at place 0
+  -- A chosen part has no parent, or one chosen before it. At place i stands the part chosen as number (chosen parts) − 1 − i, the last one at 0.
   pub parents : (i : ℕ) → i < length (s .parents) → ParentBefore (length (s .chosen) - 1 - i) (getD (s .parents) i 0)

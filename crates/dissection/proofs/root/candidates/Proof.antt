@@ -1,4 +1,4 @@
--- `dissection::root::candidates` meets its contract: the last level alone is fresh, its components are labelled, and the best node of each is a candidate.
+-- `dissection::root::candidates` meets its contract: the last level alone is fresh, its components are labelled, each one's best node is a candidate.
 use Prim.Native.Nat.{_≤_}
 use native.Mathlib.Omega.{arith}
 use borrow.Author.Needs.{needs}
