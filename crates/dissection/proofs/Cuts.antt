@@ -22,7 +22,8 @@ use Rattle.theory.proofs.Ranges.{upFrom-snoc, map-ext-upFrom}
 use Rattle.theory.proofs.Ascending.{ascending-keep}
 use Rattle.theory.proofs.Choice.{separator-kept}
 use Rattle.dissection.specs.Numbers.{fresh, outside, freshOf, Within, Only, NumberedBy, Renumbered, grouped, Labelled}
-use Rattle.dissection.specs.Standing.{Standing, restFresh, partNumbered, separatesAt, Parted, Divided}
+use Rattle.dissection.specs.Changes.{restFresh, partNumbered}
+use Rattle.dissection.specs.Standing.{Standing, separatesAt, Parted, Divided}
 use Rattle.dissection.specs.Rooted.{Rooted}
 use Rattle.dissection.proofs.Fresh.{of-fresh, fresh-same}
 use Rattle.dissection.proofs.Renumbering.{Renumbering, renumbered-in, renumbered-only, renumbering-next}

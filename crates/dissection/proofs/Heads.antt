@@ -273,7 +273,7 @@ sizes-lengths : (f : Forest) → sizes f ≡ map length (parts f)
 unfolding sizes
 sizes-lengths f = refl
 
-module _ (m : Mesh) (good : Checked m) (orderHeld heads : List ℕ) (count : ℕ) (d : Dissected m orderHeld heads count) where
+module _ (m : Mesh) (good : Checked m) {left : ℕ} (orderHeld heads : List ℕ) (count : ℕ) (d : Dissected m orderHeld heads left count) where
   -- the parents in the order of choosing
   abbrev chosenParents : List ℕ
   chosenParents = stateAfter m count .parents
@@ -326,7 +326,7 @@ module _ (m : Mesh) (good : Checked m) (orderHeld heads : List ℕ) (count : ℕ
   }
 
 -- What is read from the heads of a dissection are its parts: their sizes, and their parents by number.
-pub dissected-parts : (m : Mesh) → Checked m → (order heads : List ℕ) (count : ℕ) → Dissected m order heads count
+pub dissected-parts : (m : Mesh) → Checked m → {left : ℕ} (order heads : List ℕ) (count : ℕ) → Dissected m order heads left count
     → Heads (take (m .nodes) heads) count × (blockSizes (take (m .nodes) heads) ≡ sizes (dissectionOf m)) × (byNumber count (blockParents (take (m .nodes) heads)) ≡ parents (dissectionOf m))
 dissected-parts m good order heads count d = (
   read-heads m good order heads count d,

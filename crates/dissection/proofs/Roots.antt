@@ -2,7 +2,7 @@
 use mathlib.Core.Path.{_≡_, refl, sym, ap, ap₂, _∙_}
 use mathlib.Core.Logic.{_≢_, inl, inr}
 use mathlib.Core.Bool.{Bool, true, false, cond}
-use mathlib.Core.List.{List, [], _∷_, _++_, map, getLastD}
+use mathlib.Core.List.{List, [], _∷_, _++_, map, flatten, getLastD}
 use Prim.Native.Nat.{ℕ, zero, suc, _+_, _-_, _≤_, _<_}
 use native.Mathlib.Omega.{arith}
 use lib.Dec.{eqb, ltb}
@@ -17,16 +17,18 @@ use Rattle.theory.specs.Checked.{Checked}
 use Rattle.theory.proofs.Bools.{tested, clash, cond-true, cond-false, eq-or-ne}
 use Rattle.theory.proofs.Lists.{isIn-take, of-keep, keep-more, headD-getD, getLastD-getD}
 use Rattle.theory.proofs.AllLists.{all-getD}
-use Rattle.theory.proofs.Flatten.{isIn-flatten-last}
+use Rattle.theory.proofs.Flatten.{isIn-flatten-take, isIn-flatten-last}
 use Rattle.theory.proofs.Ascending.{ascending-keep}
 use Rattle.theory.proofs.Components.{components-some}
 use Rattle.theory.proofs.LevelNumbers.{level-first, level-kept, levels-some}
 use Rattle.theory.proofs.RootSearch.{next-cases, turn-ends, turn-goes, search-same, root-same}
 use Rattle.theory.proofs.RootInside.{leastDegree-isIn}
 use Rattle.mesh.proofs.Lists.{list-long, checked-within}
-use Rattle.dissection.specs.Numbers.{fresh, outside, freshOf, Within, Only, Renumbered, grouped, Labelled}
-use Rattle.dissection.specs.Standing.{Regional, Standing, onlyLevel}
-use Rattle.dissection.specs.Rooted.{none, betterOf, bestOf, Bests, Compared, Rooted, Better}
+use Rattle.dissection.specs.Numbers.{fresh, outside, freshOf, Within, Only, NumberedBy, Renumbered, grouped, Labelled}
+use Rattle.mesh.specs.Lists.{none}
+use Rattle.dissection.specs.Changes.{onlyLevel}
+use Rattle.dissection.specs.Standing.{Regional, Standing}
+use Rattle.dissection.specs.Rooted.{betterOf, bestOf, Bests, Compared, Rooted, Better}
 use Rattle.dissection.proofs.Fresh.{fresh-same}
 use Rattle.dissection.proofs.Renumbering.{renumbered-in, renumbered-out, renumbered-only}
 use Rattle.dissection.proofs.Grouped.{hasNumber, group-at}
@@ -129,7 +131,7 @@ module _ (n : ℕ) (few : n ≤ maxNodes) (degree : ℕ → ℕ) (nodes : List �
 -- ---- the candidates of a root
 
 -- once only one level stays, no node of the region has a number below n
-pub level-high : (last n : ℕ) (nodes old new : List ℕ) → n ≤ 4096 → Renumbered (onlyLevel last) nodes old new → (v : ℕ) → isIn v nodes ≡ true → n ≤ getD new v 0
+pub level-high : (last n : ℕ) (nodes old new : List ℕ) → n ≤ maxNodes → Renumbered (onlyLevel last) nodes old new → (v : ℕ) → isIn v nodes ≡ true → n ≤ getD new v 0
 level-high last n nodes old new h r v t = rw (renumbered-in (onlyLevel last) nodes old new r v t) (go (eqb (getD old v 0) last))
   where
     go : (b : Bool) → n ≤ cond b fresh outside
@@ -249,16 +251,36 @@ module _ (m : Mesh) (nodes : List ℕ) {numbers queue : List ℕ} {root last : �
 
 -- ---- the root search
 
--- a region over other numbers of the same length, where the nodes outside stay outside
-pub regional-again : (m : Mesh) (nodes : List ℕ) {numbers queue new after : List ℕ} → Regional m nodes numbers queue
-    → Only (m .nodes) nodes new → length new ≡ length numbers → length after ≡ length queue → Regional m nodes new after
-regional-again m nodes h only e f = record {
+-- a region over other numbers, where the nodes outside stay outside
+pub regional-over : (m : Mesh) (nodes : List ℕ) {numbers queue new after : List ℕ} → Regional m nodes numbers queue
+    → Only (m .nodes) nodes new → m .nodes ≤ length new → length after ≡ length queue → Regional m nodes new after
+regional-over m nodes h only e f = record {
   checked = h .checked;
   within = h .within;
   some = h .some;
   only = only;
-  numbersLong = omega (arith, h .numbersLong);
+  numbersLong = e;
   queueLong = omega (arith, h .queueLong);
+}
+
+-- and over numbers of the same length
+pub regional-again : (m : Mesh) (nodes : List ℕ) {numbers queue new after : List ℕ} → Regional m nodes numbers queue
+    → Only (m .nodes) nodes new → length new ≡ length numbers → length after ≡ length queue → Regional m nodes new after
+regional-again m nodes h only e f = regional-over m nodes h only (omega (arith, h .numbersLong)) f
+
+-- a node of one of some lists is in all of them together
+isIn-level : (ls : List (List ℕ)) (j v : ℕ) → isIn v (getD ls j []) ≡ true → isIn v (flatten ls) ≡ true
+isIn-level ls j v t =
+    let k : ℕ = suc (j + length ls) in
+    ap (λ (r : List (List ℕ)). isIn v (flatten r)) (sym (take-all k ls (omega arith))) ∙ isIn-flatten-take ls k j v (omega arith) t
+
+-- the levels of a root, where the nodes of the region get their numbers from an array in which they stand
+pub standing-transferred : (m : Mesh) (nodes : List ℕ) {root : ℕ} (from old new : List ℕ) → isIn root nodes ≡ true → Standing m nodes root from → Only (m .nodes) nodes old
+    → NumberedBy (λ v. getD from v 0) nodes old new → Standing m nodes root new
+standing-transferred m nodes {root} from old new inside s only e = record {
+  own = λ j v t. e v ∙ cond-true (isIn v nodes) (getD from v 0) (getD old v 0) (level-inside m nodes root v inside (isIn-level (levels (adjacent m) nodes root) j v t)) ∙ s .own j v t;
+  unreached = λ v t o. e v ∙ cond-true (isIn v nodes) (getD from v 0) (getD old v 0) t ∙ s .unreached v t o;
+  only = λ v lt o. e v ∙ cond-false (isIn v nodes) (getD from v 0) (getD old v 0) o ∙ only v lt o;
 }
 
 module _ (m : Mesh) (nodes : List ℕ) where
@@ -291,9 +313,9 @@ module _ (m : Mesh) (nodes : List ℕ) where
       ∙ search-same m nodes (suc (length nodes)) (length nodes) (nextRoot m nodes root) (omega arith) (omega arith)
       ∙ sym (turn-goes m nodes (length nodes) root other)
 
-  -- a turn that does not go to a farther root ends the search
-  pub found-last : {root next a b : ℕ} → next ≡ nextRoot m nodes root → Rooted m nodes root a → Rooted m nodes next b → b ≤ a → next ≡ foundFrom root
+  -- a turn that does not go to a farther root ends the search at the root that it began from
+  pub found-last : {root next a b : ℕ} → next ≡ nextRoot m nodes root → Rooted m nodes root a → Rooted m nodes next b → b ≤ a → root ≡ foundFrom root
   found-last {root} {next} e h k le = elim (next-cases m nodes root) [
-    | inl s ↦ e ∙ s ∙ sym (turn-ends m nodes (length nodes) root (eq-eqb _ _ s))
+    | inl s ↦ sym (turn-ends m nodes (length nodes) root (eq-eqb _ _ s))
     | inr lt ↦ absurd (omega (arith, h .far, k .far, ap (eccentricity (adjacent m) nodes) e, lt))
   ]

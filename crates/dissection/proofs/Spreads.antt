@@ -1,14 +1,15 @@
 -- One spread of a walk: nothing touched, one node touched, one spread after another, and the same nodes touched by another test.
 use mathlib.Core.Path.{_≡_, refl, sym, ap, _∙_}
 use mathlib.Core.Logic.{inl, inr}
-use mathlib.Core.Bool.{Bool, true, false, _&&_, _||_, and-false}
+use mathlib.Core.Bool.{Bool, true, false, cond, _&&_, _||_, and-false}
 use mathlib.Core.List.{List, _++_}
 use Prim.Native.Nat.{ℕ, _+_, _<_}
+use native.Mathlib.Nat.{add-zero}
 use native.Mathlib.Omega.{arith}
 use borrow.Author.Tests.{eqb-true, eqb-false, ne-eqb}
 use lib.Dec.{eqb}
 use lib.ListN.{length, getD, take, set, length-set}
-use lib.Seq.{take-take, take-set-le, getD-set-same, getD-set-other}
+use lib.Seq.{take-take, take-set-le, getD-set-same, getD-set-other, set-getD}
 use Rattle.plan.specs.Lists.{isIn, segment}
 use Rattle.theory.proofs.Bools.{tested}
 use Rattle.theory.proofs.Lists.{exists-append}
@@ -17,27 +18,27 @@ use Rattle.dissection.specs.Numbers.{fresh, freshOf}
 use Rattle.dissection.specs.Spread.{Room, newly, Spread}
 use Rattle.dissection.proofs.Fresh.{not-fresh, fresh-less}
 
--- no node that is touched is fresh: nothing changes
-spread-none : {n x hi : ℕ} {ns q : List ℕ} {t : ℕ → Bool} → Room n ns q hi → ((v : ℕ) → newly ns t v ≡ false) → Spread n x hi ns q t ns q hi
-spread-none {hi = hi} {q = q} room h =
+-- no node that is touched is fresh: nothing changes but what stands behind the queue's end
+spread-none : {n x hi : ℕ} {ns q q₁ : List ℕ} {t : ℕ → Bool} → Room n ns q hi → take hi q₁ ≡ take hi q → length q₁ ≡ length q → ((v : ℕ) → newly ns t v ≡ false) → Spread n x hi ns q t ns q₁ hi
+spread-none {hi = hi} {q₁ = q₁} room same long h =
     record {
       numbers = λ v. rw (h v);
-      queued = λ v. rw (segment-none q hi, h v);
-      kept = refl;
+      queued = λ v. rw (segment-none q₁ hi, h v);
+      kept = same;
       numbersLength = refl;
-      queueLength = refl;
-      left = room;
+      queueLength = long;
+      left = record { numbersLong = room .numbersLong; queueLong = omega (arith, long, room .queueLong); room = room .room };
       low = omega arith;
       many = refl;
     }
 
 -- no node is touched
 pub spread-start : {n x hi : ℕ} {ns q : List ℕ} {t : ℕ → Bool} → Room n ns q hi → ((v : ℕ) → t v ≡ false) → Spread n x hi ns q t ns q hi
-spread-start {ns = ns} room h = spread-none room (λ v. rw (h v) (and-false (eqb (getD ns v 0) fresh)))
+spread-start {ns = ns} room h = spread-none room refl refl (λ v. rw (h v) (and-false (eqb (getD ns v 0) fresh)))
 
 -- one node is touched that is not fresh
-pub spread-numbered : {n x hi : ℕ} {ns q : List ℕ} (w : ℕ) → Room n ns q hi → (getD ns w 0 ≡ fresh → ⊥) → Spread n x hi ns q (λ v. eqb v w) ns q hi
-spread-numbered {ns = ns} w room h = spread-none room each
+spread-numbered : {n x hi : ℕ} {ns q : List ℕ} (w : ℕ) → Room n ns q hi → (getD ns w 0 ≡ fresh → ⊥) → Spread n x hi ns q (λ v. eqb v w) ns (set q hi w) hi
+spread-numbered {hi = hi} {ns = ns} {q = q} w room h = spread-none room (take-set-le hi q hi w (omega arith)) (length-set q hi w) each
   where
     each : (v : ℕ) → newly ns (λ v. eqb v w) v ≡ false
     each v = elim (tested (eqb v w)) [
@@ -70,7 +71,7 @@ module _ {n x hi w : ℕ} {ns q : List ℕ} (room : Room n ns q hi) (wf : w < n)
   newly-other v e = rw e (and-false (eqb (getD ns v 0) fresh))
 
   -- the queue has a place for it
-  pub place-left : hi < n
+  place-left : hi < n
   place-left = omega (arith, room .room, fresh-less n w x ns wf (room .numbersLong) xf none)
 
   -- it gets the number and the place
@@ -98,6 +99,14 @@ module _ {n x hi w : ℕ} {ns q : List ℕ} (room : Room n ns q hi) (wf : w < n)
         low = omega arith;
         many = omega arith;
       }
+
+-- one node is touched, fresh or not
+pub spread-touch : {n x hi w : ℕ} {ns q : List ℕ} → Room n ns q hi → w < n → x < fresh
+    → Spread n x hi ns q (λ u. eqb u w) (set ns w (cond (eqb (getD ns w 0) fresh) x (getD ns w 0))) (set q hi w) (hi + cond (eqb (getD ns w 0) fresh) 1 0)
+spread-touch {hi = hi} {w = w} {ns = ns} room wf xf = elim (tested (eqb (getD ns w 0) fresh)) [
+  | inl e ↦ rw e (spread-one room wf xf (eqb-true (getD ns w 0) fresh e))
+  | inr e ↦ rw (e, set-getD ns w 0, add-zero hi) (spread-numbered w room (eqb-false (getD ns w 0) fresh e))
+]
 
 -- one spread after another
 module _ {n x hi : ℕ} {n₀ q₀ : List ℕ} {s : ℕ → Bool} {n₁ q₁ : List ℕ} {mid : ℕ} {t : ℕ → Bool} {n₂ q₂ : List ℕ} {tail : ℕ}

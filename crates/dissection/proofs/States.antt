@@ -5,14 +5,14 @@ use mathlib.Core.Bool.{Bool, true, false≢true}
 use mathlib.Core.List.{List, [], _∷_, _++_, map, map-map, map-id, flatten, reverse, reverseAux, append-assoc, append-nil, map-append, reverse-cons, reverse-append, reverse-reverse}
 use Prim.Native.Nat.{ℕ, zero, suc, _+_, _-_, _≤_, _<_}
 use native.Mathlib.Numerals.{add-one}
-use native.Mathlib.Nat.{sub-zero}
+use native.Mathlib.Nat.{sub-zero, zero-add}
 use native.Mathlib.Omega.{arith}
 use lib.Dec.{eqb}
-use lib.ListN.{length, take, drop, set, getD, replicate, length-append, length-set, length-map, length-reverse}
-use lib.Seq.{length-take-le, getD-take, take-at}
+use lib.ListN.{length, take, drop, set, getD, replicate, length-append, length-drop, length-set, length-map, length-reverse}
+use lib.Seq.{length-take-le, getD-take, getD-drop, take-at, drop-at, drop-drop, drop-set-lt, ext-getD}
 use borrow.Author.Tests.{eqb-true, eq-eqb}
 use Rattle.plan.specs.Lists.{keep, isIn, segment, upFrom, below, without, written}
-use Rattle.plan.specs.Mesh.{noParent, Mesh, adjacent}
+use Rattle.plan.specs.Mesh.{maxNodes, noParent, Mesh, adjacent}
 use Rattle.plan.specs.Levels.{components}
 use Rattle.plan.specs.Choice.{georgeLiu}
 use Rattle.plan.specs.Dissection.{parts, order}
@@ -22,7 +22,7 @@ use Rattle.plan.specs.Planning.{dissectionOf}
 use Rattle.theory.specs.Regions.{All, Region}
 use Rattle.theory.specs.Checked.{Checked}
 use Rattle.theory.specs.Balanced.{regionsOf, parentsOf, ParentBefore, Balanced}
-use Rattle.theory.proofs.Bools.{tested, cond-true, cond-false, eq-or-ne, lt-or-le}
+use Rattle.theory.proofs.Bools.{tested, cond-true, cond-false, refuted, eq-or-ne, lt-or-le}
 use Rattle.theory.proofs.Lists.{keep-all, keep-ext, isIn-head, isIn-getD, isIn-append-cases, of-keep, getD-reverse}
 use Rattle.theory.proofs.Ranges.{length-upFrom, length-map-upFrom}
 use Rattle.theory.proofs.Written.{front-written}
@@ -34,6 +34,8 @@ use Rattle.theory.proofs.Choice.{georgeLiu-takes}
 use Rattle.theory.proofs.Dissection.{regionsLeft, part-length, first-regions-length, part-count}
 use Rattle.theory.proofs.Steps.{state, steps-done, steps-add, steps-agree}
 use Rattle.theory.proofs.StepStates.{balanced-steps, balanced-few, balanced-inside}
+use Rattle.mesh.specs.Lists.{filledWith}
+use Rattle.mesh.proofs.Lists.{filled-length, filled-at}
 use Rattle.dissection.specs.Numbers.{fresh, outside, freshOf, Only, Renumbered, grouped, beginOf, Begins, Labelled}
 use Rattle.dissection.specs.Standing.{Divided}
 use Rattle.dissection.specs.Blocks.{inner, headsOf, stateAfter, Holds, Dissected}
@@ -155,11 +157,14 @@ pub record Last (m : Mesh) (s : State) (orderHeld heads : List ℕ) (left : ℕ)
   pub inside : (v : ℕ) → isIn v (next .region) ≡ true → v < m .nodes
   pub parent : next .parent ≢ inner
   pub first : getD heads 0 0 ≢ inner
-  pub orderLong : m .nodes ≤ length orderHeld
-  pub headsLong : length heads ≡ 4096
+  pub orderRest : drop (m .nodes) orderHeld ≡ drop (m .nodes) (filledWith 0)
+  pub headsRest : drop (m .nodes) heads ≡ drop (m .nodes) (filledWith inner)
+  pub small : m .nodes ≤ maxNodes
+  pub orderLong : length orderHeld ≡ maxNodes
+  pub headsLong : length heads ≡ maxNodes
 
 -- a parent is no inner place's mark
-parent-not-inner : (k n parent : ℕ) → k ≤ n → n ≤ 4096 → ParentBefore k parent → parent ≢ inner
+parent-not-inner : (k n parent : ℕ) → k ≤ n → n ≤ maxNodes → ParentBefore k parent → parent ≢ inner
 parent-not-inner k n parent few small (inl none) e = omega arith
 parent-not-inner k n parent few small (inr before) e = omega arith
 
@@ -203,7 +208,7 @@ last-with m (next ∷ others) chosen ps orderHeld heads left checked b h some =
       fits = omega (
         arith,
         h .pending,
-        length-take-le n orderHeld (h .orderLong),
+        length-take-le n orderHeld (omega (arith, h .orderLong, checked .few)),
         ap length (h .order),
         length-append (flatten (reverse (regionsOf (next ∷ others)))) (flatten chosen),
       );
@@ -212,6 +217,9 @@ last-with m (next ∷ others) chosen ps orderHeld heads left checked b h some =
       parent = parent-not-inner (length chosen) n (next .parent) (omega arith) (checked .few) (b .pendingParents (next .parent) (isIn-head (next .parent) qs));
       first = parent-not-inner (length chosen) n (getD heads 0 0) (omega arith) (checked .few)
           (b .pendingParents (getD heads 0 0) (first-parent n (next ∷ others) heads (headsOf chosen ps) (checked .some) (omega arith) (h .marks)));
+      orderRest = h .orderRest;
+      headsRest = h .headsRest;
+      small = checked .few;
       orderLong = h .orderLong;
       headsLong = h .headsLong;
     }
@@ -221,6 +229,27 @@ pub last : (m : Mesh) (k : ℕ) (orderHeld heads : List ℕ) (left : ℕ) → Ch
 last m k orderHeld heads left checked h some =
     let s : State = stateAfter m k in
     last-with m (s .pending) (s .chosen) (s .parents) orderHeld heads left checked (state-balanced m k) h some
+
+-- ---- what stands behind the nodes
+
+-- two lists of one length are equal from place n on, if they are at each place from there
+drop-same : (n : ℕ) (l r : List ℕ) → length l ≡ length r → ((i : ℕ) → n ≤ i → getD l i 0 ≡ getD r i 0) → drop n l ≡ drop n r
+drop-same n l r long same =
+    ext-getD 0 (drop n l) (drop n r) (length-drop n l ∙ ap (λ (k : ℕ). k - n) long ∙ sym (length-drop n r))
+    (λ i h. getD-drop n l i 0 ∙ same (n + i) (omega arith) ∙ sym (getD-drop n r i 0))
+
+-- a list with another segment before place n is as it was from there on
+drop-other : (n a e : ℕ) (old other : List ℕ) → a ≤ length old → a + length other ≡ e → e ≤ n → drop n (take a old ++ (other ++ drop e old)) ≡ drop n old
+drop-other n a e old other within ends le =
+    let k : ℕ = n - e in
+    let all : n ≡ e + k = omega arith in
+    let front : length (take a old ++ other) ≡ e = length-append (take a old) other ∙ ap (λ (k : ℕ). k + length other) (length-take-le a old within) ∙ ends in
+    rw (all, sym (append-assoc (take a old) other (drop e old)), sym (drop-drop k e (take a old ++ other ++ drop e old)), drop-at (take a old ++ other) (drop e old) e front) (drop-drop k e old)
+
+-- places that are marked before n change nothing from there on
+drop-marked : (n k : ℕ) (places old new : List ℕ) → length new ≡ length old → ((v : ℕ) → isIn v places ≡ true → v < n) → Renumbered (λ _. k) places old new → drop n new ≡ drop n old
+drop-marked n k places old new long before e =
+    drop-same n new old long (λ i le. e i ∙ cond-false (isIn i places) k (getD old i 0) (refuted (isIn i places) (λ t. omega (arith, before i t))))
 
 -- ---- the region that is cut
 
@@ -333,9 +362,12 @@ module _ {m : Mesh} {orderHeld heads : List ℕ} {left : ℕ} (k : ℕ) (l : Las
     rest-firsts : Firsts start rest (take count begins)
     rest-firsts = firsts start rest begins count (d .many) (omega (arith, count-few)) (d .begin)
 
-    -- all within the array
-    pub places-few : m .nodes ≤ 4096 → (v : ℕ) → isIn v (take count begins) ≡ true → v < 4096
-    places-few small v h = let w = rest-firsts .only v h in omega (arith, w .2, begin-before start rest rest-full (w .0) (w .1), part-before, l .fits)
+    -- all before the nodes' end, and so within the array
+    places-before : (v : ℕ) → isIn v (take count begins) ≡ true → v < m .nodes
+    places-before v h = let w = rest-firsts .only v h in omega (arith, w .2, begin-before start rest rest-full (w .0) (w .1), part-before, l .fits)
+
+    pub places-few : (v : ℕ) → isIn v (take count begins) ≡ true → v < maxNodes
+    places-few v h = omega (arith, places-before v h, l .small)
 
     -- the nodes of the groups: those of the regions that are left, and then the part
     groups-nodes : flatten (grouped (count + 1) numbers (l .next .region)) ≡ flatten rest ++ georgeLiu m (l .next .region)
@@ -361,11 +393,11 @@ module _ {m : Mesh} {orderHeld heads : List ℕ} {left : ℕ} (k : ℕ) (l : Las
         d .begin c le ∙ sym (ap (λ (ls : List (List ℕ)). beginOf start ls c) (d .groups) ∙ begin-front start rest (georgeLiu m (l .next .region) ∷ []) c le)
 
     -- what the step leaves in the arrays is the next state
-    pub holds-next : m .nodes ≤ 4096 → {nodes : List ℕ} {a end p : ℕ} {now : List ℕ} (marked : List ℕ) → nodes ≡ l .next .region → a ≡ start → end ≡ partPlace → p ≡ l .next .parent
-        → now ≡ take a orderHeld ++ (flatten (grouped (count + 1) numbers nodes) ++ drop (a + (left - a)) orderHeld) → m .nodes ≤ length now
-        → Renumbered (λ _. k) (take count begins) heads marked → length marked ≡ 4096
+    pub holds-next : {nodes : List ℕ} {a end p : ℕ} {now : List ℕ} (marked : List ℕ) → nodes ≡ l .next .region → a ≡ start → end ≡ partPlace → p ≡ l .next .parent
+        → now ≡ take a orderHeld ++ (flatten (grouped (count + 1) numbers nodes) ++ drop (a + (left - a)) orderHeld) → length now ≡ maxNodes
+        → Renumbered (λ _. k) (take count begins) heads marked → length marked ≡ maxNodes
         → Holds m (stateAfter m (k + 1)) now (set marked end p) end
-    holds-next small {nodes} {a} {end} {p = p₀} {now} marked nodesSame aSame endSame pSame regrouped nowLong mark markedLong =
+    holds-next {nodes} {a} {end} {p = p₀} {now} marked nodesSame aSame endSame pSame regrouped nowLong mark markedLong =
         let n : ℕ = m .nodes in
         let chosen : List (List ℕ) = stateAfter m k .chosen in
         let ps : List ℕ = stateAfter m k .parents in
@@ -383,13 +415,14 @@ module _ {m : Mesh} {orderHeld heads : List ℕ} {left : ℕ} (k : ℕ) (l : Las
         length-reverse (regionsOf (l .others)) ∙ length-map (l .others) (λ q. q .region) ∙ sym (length-map (l .others) (λ q. q .parent)) ∙ sym (length-reverse (parentsOf (l .others))) in
         let other : List ℕ = flatten (grouped (count + 1) numbers r) in
         let endAt : a + (left - a) ≡ start + length r = omega (arith, l .place) in
+        let otherLong : length other ≡ length r = omega (arith, ap length groups-nodes, length-append (flatten rest) part, part-rest) in
+        let here : now ≡ take start orderHeld ++ (other ++ drop (start + length r) orderHeld) =
+        regrouped ∙ ap₂ (λ (a e : ℕ). take a orderHeld ++ (flatten (grouped (count + 1) numbers nodes) ++ drop e orderHeld)) aSame endAt
+        ∙ ap (λ (nodes : List ℕ). take start orderHeld ++ (flatten (grouped (count + 1) numbers nodes) ++ drop (start + length r) orderHeld)) nodesSame in
         rw (add-one k, endSame, pSame, state-cut m k (l .next) (l .others) (l .whole))
         record {
           order =
-              segment-other n orderHeld now (flatten rs) r (flatten chosen) other (l .order) (l .orderLong)
-              (omega (arith, ap length groups-nodes, length-append (flatten rest) part, part-rest))
-              (regrouped ∙ ap₂ (λ (a e : ℕ). take a orderHeld ++ (flatten (grouped (count + 1) numbers nodes) ++ drop e orderHeld)) aSame endAt
-              ∙ ap (λ (nodes : List ℕ). take start orderHeld ++ (flatten (grouped (count + 1) numbers nodes) ++ drop (start + length r) orderHeld)) nodesSame)
+              segment-other n orderHeld now (flatten rs) r (flatten chosen) other (l .order) (omega (arith, l .orderLong, l .small)) otherLong here
               ∙ ap (λ (g : List ℕ). flatten rs ++ (g ++ flatten chosen)) groups-nodes
               ∙ sym (ap₂ (λ (xs ys : List ℕ). xs ++ ys) left-nodes (flatten-cons part chosen) ∙ simp append-assoc);
           marks =
@@ -400,6 +433,14 @@ module _ {m : Mesh} {orderHeld heads : List ℕ} {left : ℕ} (k : ℕ) (l : Las
               ∙ ap (λ (l : List ℕ). l ++ headsOf (part ∷ chosen) (p ∷ ps)) (heads-append rs rest qs (replicate (length rest) k) same)
               ∙ append-assoc hs (headsOf rest (replicate (length rest) k)) (headsOf (part ∷ chosen) (p ∷ ps)));
           pending = sym (ap length left-nodes ∙ length-append (flatten rs) (flatten rest));
+          orderRest =
+              ap (drop n) here
+              ∙ drop-other n start (start + length r) orderHeld other (omega (arith, l .place, l .fits, l .small, l .orderLong)) (ap (λ (k : ℕ). start + k) otherLong) (omega (arith, l .place, l .fits))
+              ∙ l .orderRest;
+          headsRest =
+              drop-set-lt n marked partPlace p (omega (arith, part-before, l .fits))
+              ∙ drop-marked n k (take count begins) heads marked (markedLong ∙ sym (l .headsLong)) places-before mark
+              ∙ l .headsRest;
           orderLong = nowLong;
           headsLong = length-set marked partPlace p ∙ markedLong;
         }
@@ -434,10 +475,11 @@ first-nodes m = first-regions-length (adjacent m) (m .nodes)
 
 -- the components one after the other, each with no parent, are the state before the first step
 pub holds-begin : (m : Mesh) (orderHeld heads : List ℕ) → take (m .nodes) orderHeld ≡ flatten (firstRegions m)
-    → take (m .nodes) heads ≡ headsOf (firstRegions m) (replicate (length (firstRegions m)) noParent) → m .nodes ≤ length orderHeld → length heads ≡ 4096
+    → take (m .nodes) heads ≡ headsOf (firstRegions m) (replicate (length (firstRegions m)) noParent) → drop (m .nodes) orderHeld ≡ drop (m .nodes) (filledWith 0)
+    → drop (m .nodes) heads ≡ drop (m .nodes) (filledWith inner) → length orderHeld ≡ maxNodes → length heads ≡ maxNodes
     → Holds m (stateAfter m 0) orderHeld heads (m .nodes)
 unfolding stateAfter steps begin
-holds-begin m orderHeld heads o h orderLong headsLong =
+holds-begin m orderHeld heads o h orderRest headsRest orderLong headsLong =
     let rs : List (List ℕ) = firstRegions m in
     let none : pendingBelow noParent rs ++ [] ≡ pendingBelow noParent rs = append-nil (pendingBelow noParent rs) in
     let regions : reverse (regionsOf (pendingBelow noParent rs)) ≡ rs = sym (ap (λ (l : List Pending). reverse (regionsOf l)) none) ∙ regions-back noParent rs [] in
@@ -446,6 +488,8 @@ holds-begin m orderHeld heads o h orderLong headsLong =
       order = o ∙ sym (ap₂ (λ (xs ys : List ℕ). xs ++ ys) (ap flatten regions) flatten-nil ∙ append-nil (flatten rs));
       marks = h ∙ sym (ap (λ (l : List ℕ). l ++ []) (ap₂ headsOf regions ps) ∙ append-nil (headsOf rs (replicate (length rs) noParent)));
       pending = sym (ap (λ (l : List (List ℕ)). length (flatten l)) regions ∙ first-nodes m);
+      orderRest = orderRest;
+      headsRest = headsRest;
       orderLong = orderLong;
       headsLong = headsLong;
     }
@@ -494,9 +538,9 @@ module _ {m : Mesh} {numbers begins : List ℕ} {count : ℕ} (w : Whole m numbe
   whole-firsts : Firsts 0 (firstRegions m) (take count begins)
   whole-firsts = firsts 0 (firstRegions m) begins count (w .many) (omega (arith, whole-few)) (w .begin)
 
-  -- all within the array
-  pub whole-places : m .nodes ≤ 4096 → (v : ℕ) → isIn v (take count begins) ≡ true → v < 4096
-  whole-places small v h = let p = whole-firsts .only v h in omega (arith, p .2, begin-before 0 (firstRegions m) first-full (p .0) (p .1), first-nodes m)
+  -- all before the nodes' end
+  pub whole-places : (v : ℕ) → isIn v (take count begins) ≡ true → v < m .nodes
+  whole-places v h = let p = whole-firsts .only v h in omega (arith, p .2, begin-before 0 (firstRegions m) first-full (p .0) (p .1), first-nodes m)
 
   -- the groups begin where it is noted
   pub whole-begins : {nodes : List ℕ} → nodes ≡ below (m .nodes) → (c : ℕ) → c < count → getD begins c 0 ≡ beginOf 0 (grouped count numbers nodes) c
@@ -505,20 +549,24 @@ module _ {m : Mesh} {numbers begins : List ℕ} {count : ℕ} (w : Whole m numbe
       ∙ sym (ap (λ (nodes : List ℕ). beginOf 0 (grouped count numbers nodes) c) e ∙ ap (λ (ls : List (List ℕ)). beginOf 0 ls c) (w .groups))
 
   -- what is left in the arrays is the state before the first step
-  pub holds-first : m .nodes ≤ 4096 → {nodes now : List ℕ} (orderHeld old marked : List ℕ) → nodes ≡ below (m .nodes)
-      → now ≡ take 0 orderHeld ++ (flatten (grouped count numbers nodes) ++ drop (0 + m .nodes) orderHeld) → m .nodes ≤ length now
-      → ((i : ℕ) → i < 4096 → getD old i 0 ≡ inner) → Renumbered (λ _. noParent) (take count begins) old marked → length marked ≡ 4096
+  pub holds-first : m .nodes ≤ maxNodes → {nodes now : List ℕ} (orderHeld marked : List ℕ) → nodes ≡ below (m .nodes) → orderHeld ≡ written (below (m .nodes)) (filledWith 0)
+      → now ≡ take 0 orderHeld ++ (flatten (grouped count numbers nodes) ++ drop (0 + m .nodes) orderHeld) → length now ≡ maxNodes
+      → Renumbered (λ _. noParent) (take count begins) (filledWith inner) marked → length marked ≡ maxNodes
       → Holds m (stateAfter m 0) now marked (m .nodes)
-  holds-first small {nodes} {now} orderHeld old marked e regrouped nowLong free mark markedLong =
+  holds-first small {nodes} {now} orderHeld marked e held regrouped nowLong mark markedLong =
       let n : ℕ = m .nodes in
       let rs : List (List ℕ) = firstRegions m in
       let rest : List ℕ = drop (0 + n) orderHeld in
+      let here : now ≡ flatten rs ++ rest =
+      regrouped ∙ ap (λ (nodes : List ℕ). flatten (grouped count numbers nodes) ++ rest) e ∙ ap (λ (ls : List (List ℕ)). flatten ls ++ rest) (w .groups) in
       holds-begin m now marked
-      (ap (take n) (regrouped ∙ ap (λ (nodes : List ℕ). flatten (grouped count numbers nodes) ++ rest) e ∙ ap (λ (ls : List (List ℕ)). flatten ls ++ rest) (w .groups))
-      ∙ take-at (flatten rs) rest n (first-nodes m))
+      (ap (take n) here ∙ take-at (flatten rs) rest n (first-nodes m))
       (ap (λ (k : ℕ). take k marked) (sym (first-nodes m))
       ∙ headed-heads rs 0 noParent marked first-full (omega (arith, first-nodes m))
-      (marked-headed 0 rs noParent (take count begins) old marked whole-firsts (λ i low high. free i (omega (arith, first-nodes m))) (λ i low high. mark i) first-full))
+      (marked-headed 0 rs noParent (take count begins) (filledWith inner) marked whole-firsts (λ i low high. filled-at inner i (omega (arith, first-nodes m))) (λ i low high. mark i) first-full))
+      (ap (drop n) here ∙ drop-at (flatten rs) rest n (first-nodes m) ∙ ap (λ (k : ℕ). drop k orderHeld) (zero-add n) ∙ ap (drop n) held
+      ∙ drop-at (below n) (drop (length (below n)) (filledWith 0)) n (length-upFrom n 0) ∙ ap (λ (k : ℕ). drop k (filledWith 0)) (length-upFrom n 0))
+      (drop-marked n noParent (take count begins) (filledWith inner) marked (markedLong ∙ sym (filled-length inner)) whole-places mark)
       nowLong markedLong
 
 -- ---- the last state
@@ -552,7 +600,8 @@ steps-end m k checked few e =
     rw same at (steps-agree (adjacent m) (georgeLiu m) (georgeLiu-takes m) (m .nodes) (omega (arith, checked .few)))
 
 -- so the arrays hold the dissection
-pub dissected : (m : Mesh) (k : ℕ) (orderHeld heads : List ℕ) (left : ℕ) → Checked m → Holds m (stateAfter m k) orderHeld heads left → left ≡ 0 → length (stateAfter m k .chosen) ≡ k → Dissected m orderHeld heads k
+pub dissected : (m : Mesh) (k : ℕ) (orderHeld heads : List ℕ) (left : ℕ) → Checked m → Holds m (stateAfter m k) orderHeld heads left → left ≡ 0 → length (stateAfter m k .chosen) ≡ k
+    → Dissected m orderHeld heads left k
 unfolding order
 dissected m k orderHeld heads left checked h z many =
     let s : State = stateAfter m k in
@@ -561,9 +610,12 @@ dissected m k orderHeld heads left checked h z many =
     let count : length (parts (dissectionOf m)) ≡ k = ap length (sym (agree .chosen)) ∙ many in
     record {
       order = h .order ∙ ap (λ (l : List Pending). flatten (reverse (regionsOf l)) ++ flatten (s .chosen)) e ∙ ap (λ (l : List ℕ). l ++ flatten (s .chosen)) flatten-nil ∙ ap flatten (agree .chosen);
+      orderRest = h .orderRest;
       marks = h .marks ∙ ap (λ (l : List Pending). headsOf (reverse (regionsOf l)) (reverse (parentsOf l)) ++ headsOf (s .chosen) (s .parents)) e ∙ ap (λ (bs : List (List ℕ)). headsOf bs (s .parents)) (agree .chosen);
-      parents = ap (λ (p : ℕ). byNumber p (s .parents)) (sym count) ∙ agree .numbered;
+      headsRest = h .headsRest;
+      finished = z;
       many = sym count;
+      parents = ap (λ (p : ℕ). byNumber p (s .parents)) (sym count) ∙ agree .numbered;
       orderLong = h .orderLong;
       headsLong = h .headsLong;
     }

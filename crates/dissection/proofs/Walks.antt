@@ -98,7 +98,7 @@ pub restored : (old : List ℕ) (root : ℕ) → getD old root 0 ≡ fresh → s
 restored old root e = set-set old root 0 fresh ∙ ap (set old root) (sym e) ∙ set-getD old root 0
 
 -- a walk starts with the root alone
-pub walk-start : (n : ℕ) (edge : Graph) (old : List ℕ) (root : ℕ) (q : List ℕ) → root < n → getD old root 0 ≡ fresh → n ≤ length old → n ≤ length q → Walking n edge root old 0 0 1 (set old root 0) (set q 0 root)
+pub walk-start : (n : ℕ) (edge : Graph) (old : List ℕ) (root : ℕ) (q : List ℕ) → root < n → getD old root 0 ≡ fresh → n ≤ length old → n < length q → Walking n edge root old 0 0 1 (set old root 0) (set q 0 root)
 unfolding levelsBack headD
 walk-start n edge old root q lt e long long′ =
     let room : Room n old q 0 = record { numbersLong = long; queueLong = long′; room = omega (arith, fresh-few n old) } in

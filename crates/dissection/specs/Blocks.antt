@@ -5,15 +5,15 @@ use mathlib.Core.Bool.{true, not, cond}
 use mathlib.Core.List.{List, [], _∷_, _++_, flatten, reverse}
 use Prim.Native.Nat.{ℕ, suc, _-_, _≤_, _<_}
 use lib.Dec.{eqb}
-use lib.ListN.{length, take, replicate, getD}
+use lib.ListN.{length, take, drop, replicate, getD}
 use Rattle.plan.specs.Lists.{keep, isIn}
-use Rattle.plan.specs.Mesh.{noParent, Mesh, adjacent}
+use Rattle.plan.specs.Mesh.{maxNodes, noParent, Mesh, adjacent}
 use Rattle.plan.specs.Choice.{georgeLiu}
 use Rattle.plan.specs.Dissection.{parts, parents, order}
 use Rattle.plan.specs.Steps.{State, begin, steps, byNumber}
 use Rattle.plan.specs.Planning.{dissectionOf}
-use Rattle.theory.specs.Checked.{Checked}
 use Rattle.theory.specs.Balanced.{regionsOf, parentsOf}
+use Rattle.mesh.specs.Lists.{filledWith}
 use Rattle.dissection.specs.Numbers.{Only}
 
 -- what stands at the places of a block that are not its first
@@ -31,30 +31,36 @@ unfoldable pub stateAfter : Mesh → ℕ → State
 stateAfter m parts = steps parts (adjacent m) (georgeLiu m) (begin (adjacent m) (m .nodes))
 
 -- The arrays hold a state of the book: the pending regions one after the other up to place `left`, the one to be cut next last, and then the chosen
--- parts by number.
+-- parts by number. Behind the nodes the order has 0, and no block begins.
 pub record Holds (m : Mesh) (s : State) (orderHeld heads : List ℕ) (left : ℕ) : Type 0 where
   pub order : take (m .nodes) orderHeld ≡ flatten (reverse (regionsOf (s .pending))) ++ flatten (s .chosen)
   pub marks : take (m .nodes) heads ≡ headsOf (reverse (regionsOf (s .pending))) (reverse (parentsOf (s .pending))) ++ headsOf (s .chosen) (s .parents)
   pub pending : left ≡ length (flatten (reverse (regionsOf (s .pending))))
-  pub orderLong : m .nodes ≤ length orderHeld
-  pub headsLong : length heads ≡ 4096
+  pub orderRest : drop (m .nodes) orderHeld ≡ drop (m .nodes) (filledWith 0)
+  pub headsRest : drop (m .nodes) heads ≡ drop (m .nodes) (filledWith inner)
+  pub orderLong : length orderHeld ≡ maxNodes
+  pub headsLong : length heads ≡ maxNodes
 
--- what each step asks of the lent lists and arrays
-pub record Working (m : Mesh) (numbers queue begins : List ℕ) : Type 0 where
-  pub checked : Checked m
-  pub only : Only (m .nodes) [] numbers
-  pub numbersLong : m .nodes ≤ length numbers
-  pub queueLong : m .nodes ≤ length queue
-  pub beginsLong : m .nodes < length begins
+-- what is asked of the lent arrays before each step: no node is in a set, and there is a place for each node, and one more in the queue and for the
+-- places where blocks begin
+pub record Lent (n : ℕ) (numbers queue begins : List ℕ) : Type 0 where
+  pub only : Only n [] numbers
+  pub numbersLong : n ≤ length numbers
+  pub queueLong : n < length queue
+  pub beginsLong : n < length begins
 
--- The arrays when nothing is pending: the order of the book, and the heads of its parts with the parents counted in the order of choosing.
-pub record Dissected (m : Mesh) (orderHeld heads : List ℕ) (count : ℕ) : Type 0 where
+-- The state when nothing is pending, whole: the order of the book and 0 behind it, the heads of its parts with the parents counted in the order of
+-- choosing and no block behind them, no place left, and as many parts as the book has. By number, the parents are those of the book.
+pub record Dissected (m : Mesh) (orderHeld heads : List ℕ) (left count : ℕ) : Type 0 where
   pub order : take (m .nodes) orderHeld ≡ order (dissectionOf m)
+  pub orderRest : drop (m .nodes) orderHeld ≡ drop (m .nodes) (filledWith 0)
   pub marks : take (m .nodes) heads ≡ headsOf (parts (dissectionOf m)) (stateAfter m count .parents)
-  pub parents : byNumber count (stateAfter m count .parents) ≡ parents (dissectionOf m)
+  pub headsRest : drop (m .nodes) heads ≡ drop (m .nodes) (filledWith inner)
+  pub finished : left ≡ 0
   pub many : count ≡ length (parts (dissectionOf m))
-  pub orderLong : m .nodes ≤ length orderHeld
-  pub headsLong : length heads ≡ 4096
+  pub parents : byNumber count (stateAfter m count .parents) ≡ parents (dissectionOf m)
+  pub orderLong : length orderHeld ≡ maxNodes
+  pub headsLong : length heads ≡ maxNodes
 
 -- how many places at the front are inner ones
 abbrev pub leading : List ℕ → ℕ

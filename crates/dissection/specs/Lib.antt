@@ -1,4 +1,5 @@
 pub mod Numbers
+pub mod Changes
 pub mod Spread
 pub mod Standing
 pub mod Rooted

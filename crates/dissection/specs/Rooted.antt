@@ -10,12 +10,9 @@ use Rattle.plan.specs.Lists.{isIn}
 use Rattle.plan.specs.Mesh.{Mesh, adjacent}
 use Rattle.plan.specs.Levels.{eccentricity}
 use Rattle.plan.specs.Choice.{lesser, leastDegree}
+use Rattle.mesh.specs.Lists.{none}
 use Rattle.dissection.specs.Numbers.{Only}
 use Rattle.dissection.specs.Standing.{Standing}
-
--- no node
-abbrev pub none : ℕ
-none = 65535
 
 -- the better of the best node seen so far and v: the book's `lesser`, or v where none was seen yet
 abbrev pub betterOf : (ℕ → ℕ) → ℕ → ℕ → ℕ

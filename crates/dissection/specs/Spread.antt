@@ -2,16 +2,16 @@
 use mathlib.Core.Path.{_≡_}
 use mathlib.Core.Bool.{Bool, cond, _&&_}
 use mathlib.Core.List.{List}
-use Prim.Native.Nat.{ℕ, _+_, _≤_}
+use Prim.Native.Nat.{ℕ, _+_, _≤_, _<_}
 use lib.Dec.{eqb}
 use lib.ListN.{length, take, getD}
 use Rattle.plan.specs.Lists.{isIn, segment}
 use Rattle.dissection.specs.Numbers.{fresh, freshOf}
 
--- The numbers and the queue are long enough for n nodes, and the queue has room for every fresh node behind place `tail`.
+-- The numbers and the queue are long enough for n nodes, the queue by one place more, and it has room for every fresh node behind place `tail`.
 pub record Room (n : ℕ) (numbers queue : List ℕ) (tail : ℕ) : Type 0 where
   pub numbersLong : n ≤ length numbers
-  pub queueLong : n ≤ length queue
+  pub queueLong : n < length queue
   pub room : tail + length (freshOf n numbers) ≤ n
 
 -- whether v is fresh and touched

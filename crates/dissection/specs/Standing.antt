@@ -19,25 +19,13 @@ pub record Regional (m : Mesh) (nodes numbers queue : List ℕ) : Type 0 where
   pub some : 0 < length nodes
   pub only : Only (m .nodes) nodes numbers
   pub numbersLong : m .nodes ≤ length numbers
-  pub queueLong : m .nodes ≤ length queue
+  pub queueLong : m .nodes < length queue
 
 -- each node of a level has the level's number, and the other nodes of the list are fresh; every node that is not in the list is outside
 pub record Standing (m : Mesh) (nodes : List ℕ) (root : ℕ) (numbers : List ℕ) : Type 0 where
   pub own : (j v : ℕ) → isIn v (getD (levels (adjacent m) nodes root) j []) ≡ true → getD numbers v 0 ≡ j
   pub unreached : (v : ℕ) → isIn v nodes ≡ true → isIn v (flatten (levels (adjacent m) nodes root)) ≡ false → getD numbers v 0 ≡ fresh
   pub only : Only (m .nodes) nodes numbers
-
--- the number of a node once only level `last` stays: fresh in it, outside elsewhere
-abbrev pub onlyLevel : ℕ → ℕ → ℕ
-onlyLevel last x = cond (eqb x last) fresh outside
-
--- the number of a node once those that were not left out are fresh
-abbrev pub restFresh : ℕ → ℕ
-restFresh x = cond (eqb x outside) outside fresh
-
--- the number of a node once those that were left out have number k
-abbrev pub partNumbered : ℕ → ℕ → ℕ
-partNumbered k x = cond (eqb x outside) k x
 
 -- whether v has number j and a neighbour with number j + 1
 abbrev pub separatesAt : Mesh → ℕ → List ℕ → ℕ → Bool

@@ -1,13 +1,15 @@
 // The division of a region: George and Liu's part, and the components of what is left.
-use crate::levels::FRESH;
-use crate::levels::OUTSIDE;
-use crate::levels::fill;
 use crate::levels::label;
+use crate::numbers::Change;
+use crate::numbers::OUTSIDE;
+use crate::numbers::fill;
+use crate::numbers::renumber;
 use crate::root::search;
 use mesh::list;
 use mesh::wide;
 ghost use mathlib.Core.Path.{_≡_};
 ghost use mathlib.Core.Bool.{cond};
+ghost use mathlib.Core.List.{[]};
 ghost use Prim.Native.Nat.{_≤_, _<_};
 ghost use lib.Dec.{eqb};
 ghost use lib.ListN.{length, getD};
@@ -15,8 +17,8 @@ ghost use Rattle.plan.specs.Lists.{exists};
 ghost use Rattle.plan.specs.Mesh.{lent, neighboursOf};
 ghost use Rattle.plan.specs.Choice.{rootOf};
 ghost use Rattle.theory.specs.Checked.{Checked};
-ghost use Rattle.dissection.specs.Numbers.{outside, Within, NumberedBy, Renumbered};
-ghost use Rattle.dissection.specs.Standing.{Regional, Standing, restFresh, partNumbered, separatesAt, Parted, Divided};
+ghost use Rattle.dissection.specs.Numbers.{outside, Within, Only, NumberedBy};
+ghost use Rattle.dissection.specs.Standing.{Regional, Standing, separatesAt, Parted, Divided};
 ghost use Rattle.dissection.specs.Rooted.{Rooted};
 
 // Whether node v has a neighbour with number x. n is for the contract alone. O(degree).
@@ -81,48 +83,6 @@ fn separate(
     }
 }
 
-// The number of a node once the nodes that were not left out are fresh. O(1).
-fn rest_fresh(x: u16) -> u16
-    ensures { λ r. ⌜ r ≡ restFresh x ⌝ }
-{
-    if x == OUTSIDE {
-        return OUTSIDE;
-    }
-    FRESH
-}
-
-// The nodes that were not left out become fresh. O(length).
-fn refresh_rest(nodes: &[u16], numbers: &mut [u16])
-    requires { ⌜ Within (length (now numbers)) (now nodes) ⌝ }
-    ensures { λ _. ⌜ Renumbered restFresh (now (nodes .entry)) (now (numbers .entry)) (now (numbers .exit)) ⌝ }
-{
-    for i in 0..nodes.len() {
-        let v = wide(nodes[i]);
-        numbers[v] = rest_fresh(numbers[v]);
-    }
-}
-
-// The number of a node once the part, the nodes that were left out, has number k. O(1).
-fn part_numbered(k: u16, x: u16) -> u16
-    ensures { λ r. ⌜ r ≡ partNumbered k x ⌝ }
-{
-    if x == OUTSIDE {
-        return k;
-    }
-    x
-}
-
-// The nodes that were left out, those of the part, get number k. O(length).
-fn number_part(nodes: &[u16], k: u16, numbers: &mut [u16])
-    requires { ⌜ Within (length (now numbers)) (now nodes) ⌝ }
-    ensures { λ _. ⌜ Renumbered (partNumbered k) (now (nodes .entry)) (now (numbers .entry)) (now (numbers .exit)) ⌝ }
-{
-    for i in 0..nodes.len() {
-        let v = wide(nodes[i]);
-        numbers[v] = part_numbered(k, numbers[v]);
-    }
-}
-
 // A region's part is left out and its other nodes become fresh, by the levels that stand in the numbers. "If ℓ is 0 or 1 the whole region is one
 // part". O(length + entries of the cut level).
 fn choose(
@@ -142,27 +102,28 @@ fn choose(
         return;
     }
     separate(n, starts, neighbours, nodes, (last + 1) / 2, numbers);
-    refresh_rest(nodes, numbers);
+    renumber(nodes, Change::RestFresh, numbers);
 }
 
 // A region divided: the nodes of the regions left get the numbers 0, 1, .. of their regions, by smallest node, and those of the part the number
 // behind them, which is returned. O(candidates tried · entries of the region).
-pub fn divide(
+pub(crate) fn divide(
     n: usize,
     starts: &[u32],
     neighbours: &[u16],
     nodes: &[u16],
     at: u16,
     numbers: &mut [u16],
+    trial: &mut [u16],
     queue: &mut [u16],
     begins: &mut [u16],
 ) -> usize
-    requires { ⌜ Regional (lent n (now starts) (now neighbours)) (now nodes) (now numbers) (now queue) × (n < length (now begins)) × (at ≤ n) ⌝ }
-    ensures { λ r. ⌜ Divided (lent n (now (starts .entry)) (now (neighbours .entry))) (now (nodes .entry)) at (now (numbers .exit)) (now (begins .exit)) r ⌝ }
+    requires { ⌜ Regional (lent n (now starts) (now neighbours)) (now nodes) (now numbers) (now queue) × Only n [] (now trial) × (n ≤ length (now trial)) × (n < length (now begins)) × (at ≤ n) ⌝ }
+    ensures { λ r. ⌜ Divided (lent n (now (starts .entry)) (now (neighbours .entry))) (now (nodes .entry)) at (now (numbers .exit)) (now (begins .exit)) r × Only n [] (now (trial .exit)) ⌝ }
 {
-    let last = search(n, starts, neighbours, nodes, numbers, queue, begins);
+    let last = search(n, starts, neighbours, nodes, numbers, trial, queue, begins);
     choose(n, starts, neighbours, nodes, last, numbers);
     let count = label(n, starts, neighbours, nodes, at, numbers, queue, begins);
-    number_part(nodes, count as u16, numbers);
+    renumber(nodes, Change::PartNumbered(count as u16), numbers);
     count
 }

@@ -1,36 +1,52 @@
-// Levels from a root and connected components, over lent arrays. Each node has a number: `FRESH` in the set at hand while it is not reached;
-// any other number keeps a walk out.
+// Levels from a root and connected components, over lent arrays. A walk goes over the fresh nodes; any other number keeps it out.
+use crate::numbers::FRESH;
+use crate::numbers::fill;
 use mesh::list;
 use mesh::wide;
 ghost use mathlib.Core.Path.{_≡_};
 ghost use mathlib.Core.Logic.{_⊎_};
-ghost use mathlib.Core.Bool.{true};
+ghost use mathlib.Core.Bool.{true, cond};
 ghost use Prim.Native.Nat.{ℕ, _+_, _≤_, _<_};
 ghost use lib.Dec.{eqb};
 ghost use lib.ListN.{length, getD};
 ghost use Rattle.plan.specs.Lists.{exists, isIn, segment};
 ghost use Rattle.plan.specs.Mesh.{lent, adjacent};
 ghost use Rattle.theory.specs.Checked.{Checked};
-ghost use Rattle.dissection.specs.Numbers.{fresh, freshOf, Within, Renumbered, Walked, Skipped, Taken, Labelled};
+ghost use Rattle.dissection.specs.Numbers.{fresh, freshOf, Within, Walked, Skipped, Taken, Labelled};
 ghost use Rattle.dissection.specs.Spread.{Spread, Room};
 
-// the number of a node that is in the set at hand and was not reached yet
-pub const FRESH: u16 = 65535;
-// the number of a node that is not in it
-pub const OUTSIDE: u16 = 65534;
+// The number of a node that is touched: x where it was fresh, else its own. O(1).
+fn taken(old: u16, x: u16) -> u16
+    ensures { λ r. ⌜ r ≡ cond (eqb old fresh) x old ⌝ }
+{
+    if old == FRESH {
+        return x;
+    }
+    old
+}
 
-// One entry: node w gets number x and a place in the queue if it is fresh. The queue's new end is returned. n is for the contract alone. O(1).
+// How many places a node with this number takes in the queue: one where it is fresh, none elsewhere. O(1).
+fn places(old: u16) -> usize
+    ensures { λ r. ⌜ (r ≡ cond (eqb old fresh) 1 0) × (r ≤ 1) ⌝ }
+{
+    if old == FRESH {
+        return 1;
+    }
+    0
+}
+
+// One entry: node w gets number x and a place in the queue if it is fresh. The queue's new end is returned. Whether a node is fresh nothing predicts in
+// an irregular mesh, so nothing is jumped over: the place behind the queue's end is written either way, and only the end moves or stays. n is for the
+// contract alone. O(1).
 fn touch(n: usize, w: u16, x: u16, numbers: &mut [u16], queue: &mut [u16], tail: usize) -> usize
     requires { ⌜ (w < n) × (x < fresh) × Room n (now numbers) (now queue) tail ⌝ }
     ensures { λ r. ⌜ Spread n x tail (now (numbers .entry)) (now (queue .entry)) (λ v. eqb v w) (now (numbers .exit)) (now (queue .exit)) r ⌝ }
 {
     let v = wide(w);
-    if numbers[v] != FRESH {
-        return tail;
-    }
-    numbers[v] = x;
+    let old = numbers[v];
     queue[tail] = w;
-    tail + 1
+    numbers[v] = taken(old, x);
+    tail + places(old)
 }
 
 // The list of node u: each entry is touched, and the queue's new end is returned. O(degree).
@@ -87,13 +103,13 @@ fn advance(
 }
 
 // What a walk tells: the number of the last level (document 01: ℓ), and how many nodes were reached.
-pub struct Reach {
-    pub last: u16,
-    pub reached: usize,
+pub(crate) struct Reach {
+    pub(crate) last: u16,
+    pub(crate) reached: usize,
 }
 
 // Levels from a root within the fresh nodes: each node reached gets its level's number and stands in the queue. O(entries of the nodes reached).
-pub fn walk(
+pub(crate) fn walk(
     n: usize,
     starts: &[u32],
     neighbours: &[u16],
@@ -101,7 +117,7 @@ pub fn walk(
     numbers: &mut [u16],
     queue: &mut [u16],
 ) -> Reach
-    requires { ⌜ Checked (lent n (now starts) (now neighbours)) × (root < n) × (getD (now numbers) root 0 ≡ fresh) × (n ≤ length (now numbers)) × (n ≤ length (now queue)) ⌝ }
+    requires { ⌜ Checked (lent n (now starts) (now neighbours)) × (root < n) × (getD (now numbers) root 0 ≡ fresh) × (n ≤ length (now numbers)) × (n < length (now queue)) ⌝ }
     ensures { λ r. ⌜ Walked n (adjacent (lent n (now (starts .entry)) (now (neighbours .entry)))) (freshOf n (now (numbers .entry))) root (now (numbers .entry)) (now (numbers .exit)) (now (queue .exit)) (r .last) (r .reached) ⌝ }
 {
     let first = wide(root);
@@ -122,17 +138,6 @@ pub fn walk(
     Reach { last, reached: hi }
 }
 
-// Each node of a list gets number x. O(length).
-pub fn fill(nodes: &[u16], x: u16, numbers: &mut [u16])
-    requires { ⌜ ((v : ℕ) → isIn v (now nodes) ≡ true → v < length (now numbers)) ⌝ }
-    ensures { λ _. ⌜ Renumbered (λ _. x) (now (nodes .entry)) (now (numbers .entry)) (now (numbers .exit)) ⌝ }
-{
-    for i in 0..nodes.len() {
-        let v = wide(nodes[i]);
-        numbers[v] = x;
-    }
-}
-
 // The component of node v, where v is fresh: its nodes get the number `count`, and the place behind them is noted. The number of components
 // so far is returned. O(entries of the nodes reached).
 fn component(
@@ -145,7 +150,7 @@ fn component(
     begins: &mut [u16],
     count: usize,
 ) -> usize
-    requires { ⌜ Checked (lent n (now starts) (now neighbours)) × (v < n) × (n ≤ length (now numbers)) × (n ≤ length (now queue)) × (n < length (now begins)) ⌝ }
+    requires { ⌜ Checked (lent n (now starts) (now neighbours)) × (v < n) × (n ≤ length (now numbers)) × (n < length (now queue)) × (n < length (now begins)) ⌝ }
     requires { ⌜ (getD (now numbers) v 0 ≡ fresh → count < n) × (getD (now begins) count 0 ≤ n + n) ⌝ }
     ensures { λ r. ⌜ Skipped v (now (numbers .entry)) (now (numbers .exit)) (now (begins .entry)) (now (begins .exit)) count r ⊎ Taken n (adjacent (lent n (now (starts .entry)) (now (neighbours .entry)))) v (now (numbers .entry)) (now (numbers .exit)) (now (begins .entry)) (now (begins .exit)) count r ⌝ }
 {
@@ -162,7 +167,7 @@ fn component(
 // The connected components of the fresh nodes, which all stand in a list whose other nodes have numbers from n on: those of component c get
 // number c, the components being counted by their smallest nodes. Where they begin, standing one after the other from place `at`, is noted,
 // and their number is returned. O(length + entries of the nodes reached).
-pub fn label(
+pub(crate) fn label(
     n: usize,
     starts: &[u32],
     neighbours: &[u16],
@@ -173,7 +178,7 @@ pub fn label(
     begins: &mut [u16],
 ) -> usize
     requires { ⌜ Checked (lent n (now starts) (now neighbours)) × Within n (now nodes) × ((v : ℕ) → isIn v (freshOf n (now numbers)) ≡ true → isIn v (now nodes) ≡ true) × ((v : ℕ) → isIn v (now nodes) ≡ true → n ≤ getD (now numbers) v 0) ⌝ }
-    requires { ⌜ (at ≤ n) × (n ≤ length (now numbers)) × (n ≤ length (now queue)) × (n < length (now begins)) ⌝ }
+    requires { ⌜ (at ≤ n) × (n ≤ length (now numbers)) × (n < length (now queue)) × (n < length (now begins)) ⌝ }
     ensures { λ r. ⌜ Labelled n (adjacent (lent n (now (starts .entry)) (now (neighbours .entry)))) (now (nodes .entry)) at (now (numbers .entry)) (now (numbers .exit)) (now (begins .exit)) r ⌝ }
 {
     begins[0] = at;

@@ -1,6 +1,7 @@
 // Nested dissection of a mesh that has passed checks 1 to 7.
 mod cut;
 mod levels;
+mod numbers;
 mod parts;
 mod root;
 mod state;

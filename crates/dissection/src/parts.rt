@@ -9,7 +9,7 @@ ghost use Prim.Native.Nat.{_+_, _-_, _≤_, _<_};
 ghost use lib.Dec.{eqb};
 ghost use lib.ListN.{length, take, drop};
 ghost use Rattle.plan.specs.Lists.{written};
-ghost use Rattle.plan.specs.Mesh.{noParent};
+ghost use Rattle.plan.specs.Mesh.{maxNodes, noParent};
 ghost use Rattle.plan.specs.Steps.{byNumber};
 ghost use Rattle.dissection.specs.Blocks.{leading, blockSizes, blockParents, Heads};
 
@@ -40,12 +40,12 @@ fn by_number(parent: u16, count: u16) -> u16
 // The sizes and parents of the parts, by number. O(n).
 pub fn write_parts(
     n: usize,
-    heads: &[u16; 4096],
+    heads: &[u16; Plan::NODES],
     count: usize,
     sizes: &mut [u16],
     parents: &mut [u16],
 )
-    requires { ⌜ (length (now heads) ≡ 4096) × (n ≤ 4096) × Heads (take n (now heads)) count × (count ≤ length (now sizes)) × (count ≤ length (now parents)) ⌝ }
+    requires { ⌜ (length (now heads) ≡ maxNodes) × (n ≤ maxNodes) × Heads (take n (now heads)) count × (count ≤ length (now sizes)) × (count ≤ length (now parents)) ⌝ }
     ensures { λ _. ⌜ (now (sizes .exit) ≡ written (blockSizes (take n (now (heads .entry)))) (now (sizes .entry))) × (now (parents .exit) ≡ written (byNumber count (blockParents (take n (now (heads .entry))))) (now (parents .entry))) ⌝ }
 {
     let mut at: usize = 0;

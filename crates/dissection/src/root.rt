@@ -1,9 +1,13 @@
 // The pseudo-peripheral root of a region (document 01: its starting root): a search that goes on while a candidate's levels are more.
-use crate::levels::FRESH;
-use crate::levels::OUTSIDE;
-use crate::levels::fill;
 use crate::levels::label;
 use crate::levels::walk;
+use crate::numbers::Change;
+use crate::numbers::FRESH;
+use crate::numbers::OUTSIDE;
+use crate::numbers::fill;
+use crate::numbers::renumber;
+use crate::numbers::transfer;
+use mesh::NONE;
 use mesh::wide;
 ghost use mathlib.Core.Path.{_≡_};
 ghost use mathlib.Core.Bool.{true};
@@ -15,33 +19,10 @@ ghost use Rattle.plan.specs.Lists.{isIn, keep};
 ghost use Rattle.plan.specs.Mesh.{lent};
 ghost use Rattle.plan.specs.Choice.{degreeIn, candidates as candidatesOf, improves, nextRoot, rootOf};
 ghost use Rattle.theory.specs.Checked.{Checked};
-ghost use Rattle.dissection.specs.Numbers.{Within, Only, Renumbered, grouped};
-ghost use Rattle.dissection.specs.Standing.{Regional, Standing, onlyLevel};
-ghost use Rattle.dissection.specs.Rooted.{none, betterOf, bestOf, Bests, Compared, Rooted, Better};
-
-// no node
-const NONE: u16 = 65535;
-
-// The number of a node once only level `last` stays: fresh in it, outside elsewhere. O(1).
-fn only_level(last: u16, x: u16) -> u16
-    ensures { λ r. ⌜ r ≡ onlyLevel last x ⌝ }
-{
-    if x == last {
-        return FRESH;
-    }
-    OUTSIDE
-}
-
-// Only the nodes of level `last` stay, as fresh ones. O(length).
-fn keep_level(nodes: &[u16], last: u16, numbers: &mut [u16])
-    requires { ⌜ Within (length (now numbers)) (now nodes) ⌝ }
-    ensures { λ _. ⌜ Renumbered (onlyLevel last) (now (nodes .entry)) (now (numbers .entry)) (now (numbers .exit)) ⌝ }
-{
-    for i in 0..nodes.len() {
-        let v = wide(nodes[i]);
-        numbers[v] = only_level(last, numbers[v]);
-    }
-}
+ghost use Rattle.mesh.specs.Lists.{none};
+ghost use Rattle.dissection.specs.Numbers.{Within, Only, grouped};
+ghost use Rattle.dissection.specs.Standing.{Regional, Standing};
+ghost use Rattle.dissection.specs.Rooted.{betterOf, bestOf, Bests, Compared, Rooted, Better};
 
 // The degree of node v, in any region: the length of its list. n and neighbours are for the contract alone. O(1).
 fn degree(n: usize, starts: &[u32], neighbours: &[u16], v: u16) -> u32
@@ -116,12 +97,12 @@ fn least(
 }
 
 // A root with the number of its last level (document 01: ℓ).
-pub struct Root {
-    pub node: u16,
-    pub last: u16,
+pub(crate) struct Root {
+    pub(crate) node: u16,
+    pub(crate) last: u16,
 }
 
-// The candidates of a root whose levels stand in the numbers: of each component of its last level a node of least degree. Their number is returned.
+// The candidates of a root whose levels stand in `levels`: of each component of its last level a node of least degree. Their number is returned.
 // `found` has the places where the components begin until the candidates are written over them. O(length + entries of the last level).
 fn candidates(
     n: usize,
@@ -129,17 +110,19 @@ fn candidates(
     neighbours: &[u16],
     nodes: &[u16],
     root: Root,
-    numbers: &mut [u16],
+    levels: &[u16],
+    trial: &mut [u16],
     queue: &mut [u16],
     found: &mut [u16],
 ) -> usize
-    requires { ⌜ Regional (lent n (now starts) (now neighbours)) (now nodes) (now numbers) (now queue) × (n < length (now found)) ⌝ }
-    requires { ⌜ Rooted (lent n (now starts) (now neighbours)) (now nodes) (root .node) (root .last) × Standing (lent n (now starts) (now neighbours)) (now nodes) (root .node) (now numbers) ⌝ }
-    ensures { λ r. ⌜ (take r (now (found .exit)) ≡ candidatesOf (lent n (now (starts .entry)) (now (neighbours .entry))) (now (nodes .entry)) (root .node)) × (r ≤ n) × Only n (now (nodes .entry)) (now (numbers .exit)) ⌝ }
+    requires { ⌜ Regional (lent n (now starts) (now neighbours)) (now nodes) (now trial) (now queue) × (n ≤ length (now levels)) × (n < length (now found)) ⌝ }
+    requires { ⌜ Rooted (lent n (now starts) (now neighbours)) (now nodes) (root .node) (root .last) × Standing (lent n (now starts) (now neighbours)) (now nodes) (root .node) (now levels) ⌝ }
+    ensures { λ r. ⌜ (take r (now (found .exit)) ≡ candidatesOf (lent n (now (starts .entry)) (now (neighbours .entry))) (now (nodes .entry)) (root .node)) × (r ≤ n) × Only n (now (nodes .entry)) (now (trial .exit)) ⌝ }
 {
-    keep_level(nodes, root.last, numbers);
-    let count = label(n, starts, neighbours, nodes, 0, numbers, queue, found);
-    least(n, starts, neighbours, nodes, numbers, count, found);
+    transfer(nodes, levels, trial);
+    renumber(nodes, Change::OnlyLevel(root.last), trial);
+    let count = label(n, starts, neighbours, nodes, 0, trial, queue, found);
+    least(n, starts, neighbours, nodes, trial, count, found);
     count
 }
 
@@ -189,22 +172,34 @@ fn first_better(
     root
 }
 
-// The root after one turn of the search. O(candidates · entries of the region).
+// The root after one turn of the search, from one whose levels stand in `levels`; a better one's levels then stand in `trial`.
+// O(candidates · entries of the region).
 fn improve(
     n: usize,
     starts: &[u32],
     neighbours: &[u16],
     nodes: &[u16],
     root: Root,
-    numbers: &mut [u16],
+    levels: &[u16],
+    trial: &mut [u16],
     queue: &mut [u16],
     found: &mut [u16],
 ) -> Root
-    requires { ⌜ Regional (lent n (now starts) (now neighbours)) (now nodes) (now numbers) (now queue) × (n < length (now found)) ⌝ }
-    requires { ⌜ Rooted (lent n (now starts) (now neighbours)) (now nodes) (root .node) (root .last) × Standing (lent n (now starts) (now neighbours)) (now nodes) (root .node) (now numbers) ⌝ }
-    ensures { λ r. ⌜ (r .node ≡ nextRoot (lent n (now (starts .entry)) (now (neighbours .entry))) (now (nodes .entry)) (root .node)) × Better (lent n (now (starts .entry)) (now (neighbours .entry))) (now (nodes .entry)) (root .last) (r .node) (r .last) (now (numbers .exit)) ⌝ }
+    requires { ⌜ Regional (lent n (now starts) (now neighbours)) (now nodes) (now trial) (now queue) × (n ≤ length (now levels)) × (n < length (now found)) ⌝ }
+    requires { ⌜ Rooted (lent n (now starts) (now neighbours)) (now nodes) (root .node) (root .last) × Standing (lent n (now starts) (now neighbours)) (now nodes) (root .node) (now levels) ⌝ }
+    ensures { λ r. ⌜ (r .node ≡ nextRoot (lent n (now (starts .entry)) (now (neighbours .entry))) (now (nodes .entry)) (root .node)) × Better (lent n (now (starts .entry)) (now (neighbours .entry))) (now (nodes .entry)) (root .last) (r .node) (r .last) (now (trial .exit)) ⌝ }
 {
-    let count = candidates(n, starts, neighbours, nodes, root, numbers, queue, found);
+    let count = candidates(
+        n,
+        starts,
+        neighbours,
+        nodes,
+        root,
+        levels,
+        trial,
+        queue,
+        found,
+    );
     first_better(
         n,
         starts,
@@ -213,33 +208,46 @@ fn improve(
         root,
         count,
         found,
-        numbers,
+        trial,
         queue,
     )
 }
 
 // The number of the last level from the region's pseudo-peripheral root, whose levels then stand in the numbers. Each turn of the search has
-// more levels than the one before. O(candidates tried · entries of the region).
-pub fn search(
+// more levels than the one before. Candidates are walked from in `trial`, so that the root's own levels stay; in it every node is outside, before
+// and after. O(candidates tried · entries of the region).
+pub(crate) fn search(
     n: usize,
     starts: &[u32],
     neighbours: &[u16],
     nodes: &[u16],
     numbers: &mut [u16],
+    trial: &mut [u16],
     queue: &mut [u16],
     found: &mut [u16],
 ) -> u16
-    requires { ⌜ Regional (lent n (now starts) (now neighbours)) (now nodes) (now numbers) (now queue) × (n < length (now found)) ⌝ }
-    ensures { λ r. ⌜ Rooted (lent n (now (starts .entry)) (now (neighbours .entry))) (now (nodes .entry)) (rootOf (lent n (now (starts .entry)) (now (neighbours .entry))) (now (nodes .entry))) r × Standing (lent n (now (starts .entry)) (now (neighbours .entry))) (now (nodes .entry)) (rootOf (lent n (now (starts .entry)) (now (neighbours .entry))) (now (nodes .entry))) (now (numbers .exit)) ⌝ }
+    requires { ⌜ Regional (lent n (now starts) (now neighbours)) (now nodes) (now numbers) (now queue) × Only n [] (now trial) × (n ≤ length (now trial)) × (n < length (now found)) ⌝ }
+    ensures { λ r. ⌜ Rooted (lent n (now (starts .entry)) (now (neighbours .entry))) (now (nodes .entry)) (rootOf (lent n (now (starts .entry)) (now (neighbours .entry))) (now (nodes .entry))) r × Standing (lent n (now (starts .entry)) (now (neighbours .entry))) (now (nodes .entry)) (rootOf (lent n (now (starts .entry)) (now (neighbours .entry))) (now (nodes .entry))) (now (numbers .exit)) × Only n [] (now (trial .exit)) ⌝ }
 {
     let mut root = levels_from(n, starts, neighbours, nodes, nodes[0], numbers, queue);
     loop {
-        let before = root.last;
-        root = improve(n, starts, neighbours, nodes, root, numbers, queue, found);
-        if root.last <= before {
+        let next = improve(
+            n,
+            starts,
+            neighbours,
+            nodes,
+            root,
+            numbers,
+            trial,
+            queue,
+            found,
+        );
+        if next.last <= root.last {
             break;
         }
+        transfer(nodes, trial, numbers);
+        root = next;
     }
-    let w = levels_from(n, starts, neighbours, nodes, root.node, numbers, queue);
-    w.last
+    fill(nodes, OUTSIDE, trial);
+    root.last
 }

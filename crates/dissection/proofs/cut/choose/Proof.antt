@@ -39,8 +39,8 @@ separate-requires c κs =
     let lt = c .before .if1 .left in
     (s .pre .0 .0, s .pre .0 .1, s .pre .0 .2, omega arith)
 
-refresh-rest-requires : tie.Need-refresh-rest-requires
-refresh-rest-requires c κs =
+renumber-requires : tie.Need-renumber-requires
+renumber-requires c κs =
     let s = c .before .before .before .before .before .before .before .before .before .before in
     record { ascends = s .pre .0 .1 .ascends; inside = λ v h. let lt = s .pre .0 .1 .inside v h in search needs }
 
@@ -49,7 +49,7 @@ returns-2 c =
     let e = c .before .before .before .before .before .before .before .before in
     let s = e .before .before .before .before .before in
     let p = c .before .before .before .before .before .before .separate in
-    parted-cut (mesh s) (s .args .nodes .now) (s .pre .0 .1) (s .args .last) (s .pre .1 .0) (s .args .numbers .now) (s .pre .1 .1) (s .pre .0 .0) (omega (arith, e .if1 .left)) (p .last .1 .1 .1 .1 .1 .0) _ (p .ensures) (c .before .before .refresh-rest .ensures)
+    parted-cut (mesh s) (s .args .nodes .now) (s .pre .0 .1) (s .args .last) (s .pre .1 .0) (s .args .numbers .now) (s .pre .1 .1) (s .pre .0 .0) (omega (arith, e .if1 .left)) (p .last .1 .1 .1 .1 .1 .0) _ (p .ensures) (c .before .before .renumber .ensures)
 
 pub choose-spec : {M : Type 1} → statement M
 choose-spec =
@@ -60,6 +60,6 @@ choose-spec =
     returns
     add-separate
     separate-requires
-    refresh-rest-requires
+    renumber-requires
     (λ c. search needs)
     returns-2)

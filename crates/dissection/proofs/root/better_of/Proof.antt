@@ -10,7 +10,8 @@ use lib.Dec.{eqb, ltb}
 use Rattle.plan.specs.Mesh.{Mesh, lent}
 use Rattle.plan.specs.Choice.{degreeIn, lesser}
 use Rattle.theory.proofs.Bools.{cond-true, cond-false}
-use Rattle.dissection.specs.Rooted.{none, betterOf}
+use Rattle.mesh.specs.Lists.{none}
+use Rattle.dissection.specs.Rooted.{betterOf}
 use Rattle.dissection.proofs.Roots.{better-some}
 use Rattle.dissection.proofs.root.better_of.Statement.{statement}
 use Rattle.dissection.proofs.root.better_of.Tie as tie

@@ -1,9 +1,13 @@
--- `dissection::root::candidates` meets its contract: the last level alone is fresh, its components are labelled, each one's best node is a candidate.
-use Prim.Native.Nat.{_≤_}
+-- `dissection::root::candidates` meets its contract: the root's levels are taken over, the last one alone is fresh then, its components are labelled, and
+-- each one's best node is a candidate.
+use mathlib.Core.Path.{_≡_, refl}
+use mathlib.Core.List.{List}
+use Prim.Native.Nat.{ℕ, _≤_}
 use native.Mathlib.Omega.{arith}
 use borrow.Author.Needs.{needs}
 use Rattle.plan.specs.Mesh.{Mesh, lent}
-use Rattle.dissection.proofs.Roots.{fresh-inside, level-high, candidates-only, candidates-found}
+use Rattle.dissection.specs.Standing.{Regional, Standing}
+use Rattle.dissection.proofs.Roots.{regional-again, standing-transferred, fresh-inside, level-high, candidates-only, candidates-found}
 use Rattle.dissection.proofs.root.candidates.Statement.{statement}
 use Rattle.dissection.proofs.root.candidates.Tie as tie
 
@@ -12,56 +16,84 @@ abbrev mesh : tie.Start → Mesh
 mesh s = lent (s .args .n) (s .args .starts .now) (s .args .neighbours .now)
 
 -- the function's entry
-abbrev entry : tie.After-keep-level → tie.Start
-entry k = k .before .before .before .before .before .before .before .before
+abbrev entry : tie.After-transfer → tie.Start
+entry t = t .before .before .before .before .before .before .before .before .before
 
--- what was done before the labelling
-abbrev kept : tie.After-label → tie.After-keep-level
+-- what was done before the last level was kept
+abbrev moved : tie.After-renumber → tie.After-transfer
+moved k = k .before .before .before .before
+
+-- and before the labelling
+abbrev kept : tie.After-label → tie.After-renumber
 kept l = l .before .before .before .before .before .before
 
-keep-level-requires : tie.Need-keep-level-requires
-keep-level-requires c κs =
-    let s = c .before .before .before .before .before .before .before in
-    let h = s .pre .0 .0 in
+-- the levels where they are taken over
+abbrev levels : tie.After-transfer → List ℕ
+levels t = t .transfer .last .1 .1 .0
+
+-- the root's levels stand there
+standing : (t : tie.After-transfer) → let s = entry t in Standing (mesh s) (s .args .nodes .now) (s .args .root .node) (levels t)
+standing t =
+    let s = entry t in
+    standing-transferred (mesh s) (s .args .nodes .now) (s .args .levels .now) (s .args .trial .now) (levels t) (s .pre .1 .0 .inside) (s .pre .1 .1) (s .pre .0 .0 .only) (t .transfer .ensures)
+
+-- so it is a region over them
+regional : (t : tie.After-transfer) → let s = entry t in Regional (mesh s) (s .args .nodes .now) (levels t) (s .args .queue .now)
+regional t = let s = entry t in regional-again (mesh s) (s .args .nodes .now) (s .pre .0 .0) (standing t .only) (t .transfer .kept .1 .1 .0) refl
+
+transfer-requires : tie.Need-transfer-requires
+transfer-requires c κs v t =
+    let s = c .before .before .before .before .before .before .before .before in
+    let lt = s .pre .0 .0 .within .inside v t in
+    (omega (arith, lt, s .pre .0 .1), omega (arith, lt, s .pre .0 .0 .numbersLong))
+
+renumber-requires : tie.Need-renumber-requires
+renumber-requires c κs =
+    let h = regional (c .before .before .before) in
     record { ascends = h .within .ascends; inside = λ v t. omega (arith, h .within .inside v t, h .numbersLong) }
 
 label-requires : tie.Need-label-requires
 label-requires c κs =
     let k = c .before .before .before .before .before in
-    let s = entry k in
-    let h = s .pre .0 .0 in (
-      (h .checked, h .within, fresh-inside (mesh s) (s .args .nodes .now) h (s .pre .1 .0) (s .pre .1 .1) (k .keep-level .last .1 .1 .0) (k .keep-level .ensures), level-high (s .args .root .last) (s .args .n) (s .args .nodes .now) (s .args .numbers .now) (k .keep-level .last .1 .1 .0) (h .checked .few) (k .keep-level .ensures)),
-      (search needs, search needs, search needs, search needs),
+    let t = moved k in
+    let s = entry t in
+    let h = regional t in
+    let e = k .renumber .ensures in (
+      (h .checked, h .within, fresh-inside (mesh s) (s .args .nodes .now) h (s .pre .1 .0) (standing t) (k .renumber .last .1 .1 .0) e, level-high (s .args .root .last) (s .args .n) (s .args .nodes .now) (levels t) (k .renumber .last .1 .1 .0) (h .checked .few) e),
+      (omega arith, omega (arith, h .numbersLong, k .renumber .kept .1 .1 .0), h .queueLong, s .pre .0 .2),
     )
 
 -- there are at most n candidates
-few : (l : tie.After-label) → l .label .result ≤ entry (kept l) .args .n
+few : (l : tie.After-label) → l .label .result ≤ entry (moved (kept l)) .args .n
 few l = l .label .ensures .few
 
 least-requires : tie.Need-least-requires
 least-requires c κs =
     let l = c .before .before .before .before .before .before .before .before in
-    let s = entry (kept l) in
-    let h = s .pre .0 .0 in
-    (h .checked, h .within, search needs, omega (arith, few l, c .before .before .before .found .given, s .pre .0 .1))
+    let k = kept l in
+    let t = moved k in
+    let h = regional t in
+    (h .checked, h .within, omega (arith, h .numbersLong, k .renumber .kept .1 .1 .0, l .label .kept .1 .1 .1 .1 .1 .0), omega (arith, few l, l .label .kept .1 .1 .1 .1 .1 .1 .1 .0, entry t .pre .0 .2))
 
 returns : tie.Need-returns
 returns c =
     let l = c .before .before .before .before .before .before .before .before .before .before .before in
     let k = kept l in
-    let s = entry k in
+    let t = moved k in
+    let s = entry t in
     let e = c .before .before .least in (
-      candidates-found (mesh s) (s .args .nodes .now) (s .pre .0 .0) (s .pre .1 .0) (s .pre .1 .1) (k .keep-level .last .1 .1 .0) (k .keep-level .ensures) (l .label .ensures)
-          (e .last .1 .1 .1 .1 .1 .1 .0) (omega (arith, few l, c .before .found2 .given, c .before .before .before .before .before .before .found .given, s .pre .0 .1)) (e .ensures),
+      candidates-found (mesh s) (s .args .nodes .now) (regional t) (s .pre .1 .0) (standing t) (k .renumber .last .1 .1 .0) (k .renumber .ensures) (l .label .ensures)
+          (e .last .1 .1 .1 .1 .1 .1 .0) (omega (arith, few l, e .kept .1 .1 .1 .1 .1 .1 .0, l .label .kept .1 .1 .1 .1 .1 .1 .1 .0, s .pre .0 .2)) (e .ensures),
       few l,
-      candidates-only (mesh s) (s .args .nodes .now) (s .pre .0 .0) (s .pre .1 .0) (s .pre .1 .1) (k .keep-level .last .1 .1 .0) (k .keep-level .ensures) (l .label .ensures),
+      candidates-only (mesh s) (s .args .nodes .now) (regional t) (s .pre .1 .0) (standing t) (k .renumber .last .1 .1 .0) (k .renumber .ensures) (l .label .ensures),
     )
 
 pub candidates-spec : {M : Type 1} → statement M
 candidates-spec =
     tie.close
     (tie.spec
-    keep-level-requires
+    transfer-requires
+    renumber-requires
     label-requires
     least-requires
     (λ c. search needs)

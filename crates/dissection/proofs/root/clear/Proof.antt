@@ -7,7 +7,7 @@ use lib.ListN.{length, getD, length-set}
 use lib.Seq.{getD-set-same, getD-set-other}
 use borrow.Author.Needs.{needs}
 use Rattle.theory.proofs.Bools.{eq-or-ne}
-use Rattle.dissection.specs.Rooted.{none}
+use Rattle.mesh.specs.Lists.{none}
 use Rattle.dissection.proofs.root.clear.Statement.{statement}
 use Rattle.dissection.proofs.root.clear.Tie as tie
 

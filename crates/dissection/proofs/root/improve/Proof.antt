@@ -18,21 +18,21 @@ mesh s = lent (s .args .n) (s .args .starts .now) (s .args .neighbours .now)
 
 -- the function's entry
 abbrev entry : tie.After-candidates → tie.Start
-entry a = a .before .before .before .before .before .before .before .before .before .before
+entry a = a .before .before .before .before .before .before .before .before .before .before .before
 
 first-better-requires : tie.Need-first-better-requires
 first-better-requires c κs =
     let found = c .before .before .before .before in
     let queue = found .before .before in
-    let numbers = queue .before .before in
-    let a = numbers .before in
+    let trial = queue .before .before in
+    let a = trial .before in
     let s = entry a in
     let e = a .candidates .ensures in
     let nodes = s .args .nodes .now in
     let r = s .args .root .node in (
-      (regional-again (mesh s) nodes (s .pre .0 .0) (e .2) (numbers .numbers .given) (queue .queue .given), s .pre .1 .0),
+      (regional-again (mesh s) nodes (s .pre .0 .0) (e .2) (trial .trial .given) (queue .queue .given), s .pre .1 .0),
       (
-        omega (arith, e .1, s .pre .0 .1, found .found .given),
+        omega (arith, e .1, s .pre .0 .2, found .found .given),
         λ x t. candidate-inside (mesh s) nodes r (s .pre .1 .0 .inside) x (ap (isIn x) (sym (e .0)) ∙ t),
       ),
     )

@@ -1,9 +1,9 @@
--- `dissection::cut::rest_fresh` meets its contract.
+-- `dissection::levels::taken` meets its contract.
 use mathlib.Core.Path.{sym}
 use borrow.Author.Tests.{eq-eqb, ne-eqb}
 use Rattle.theory.proofs.Bools.{cond-true, cond-false}
-use Rattle.dissection.proofs.cut.rest_fresh.Statement.{statement}
-use Rattle.dissection.proofs.cut.rest_fresh.Tie as tie
+use Rattle.dissection.proofs.levels.taken.Statement.{statement}
+use Rattle.dissection.proofs.levels.taken.Tie as tie
 
 returns : tie.Need-returns
 returns c = sym (cond-true _ _ _ (eq-eqb _ _ (c .if1 .taken)))
@@ -11,5 +11,5 @@ returns c = sym (cond-true _ _ _ (eq-eqb _ _ (c .if1 .taken)))
 returns-2 : tie.Need-returns-2
 returns-2 c = sym (cond-false _ _ _ (ne-eqb _ _ (c .if1 .left)))
 
-pub rest-fresh-spec : {M : Type 1} → statement M
-rest-fresh-spec = tie.close (tie.spec returns returns-2)
+pub taken-spec : {M : Type 1} → statement M
+taken-spec = tie.close (tie.spec returns returns-2)

@@ -1,12 +1,12 @@
--- `dissection::levels::fill` meets its contract: the loop renumbers one node after the other.
+-- `dissection::numbers::fill` meets its contract: the loop renumbers one node after the other.
 use mathlib.Core.Path.{_≡_, refl}
 use Prim.Native.Nat.{_-_}
 use native.Mathlib.Omega.{arith}
 use borrow.Author.Needs.{needs}
 use lib.ListN.{length}
 use Rattle.dissection.proofs.Renumbering.{Renumbering, renumbering-none, renumbering-inside, renumbering-more, renumbering-all}
-use Rattle.dissection.proofs.levels.fill.Statement.{statement}
-use Rattle.dissection.proofs.levels.fill.Tie as tie
+use Rattle.dissection.proofs.numbers.fill.Statement.{statement}
+use Rattle.dissection.proofs.numbers.fill.Tie as tie
 
 abbrev Inv-loop : tie.InvT-loop
 Inv-loop nodes x numbers₀ i₀ i-end numbers i = (i-end ≡ length nodes) × Renumbering (λ _. x) nodes numbers₀ i numbers
