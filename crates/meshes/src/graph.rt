@@ -11,7 +11,7 @@ fn put_neighbour(cells: &mut [u8; 4096], v: u8, w: u8) {
     }
 }
 
-pub fn join(cells: &mut [u8; 4096], v: u8, w: u8) {
+pub(crate) fn join(cells: &mut [u8; 4096], v: u8, w: u8) {
     if v != w {
         put_neighbour(cells, v, w);
         put_neighbour(cells, w, v);
@@ -54,7 +54,7 @@ fn put_list(neighbours: &mut [u16; 4096], at: usize, cells: &[u8; 4096], v: u8) 
 }
 
 // The lists of the graph's first n nodes, with results of the least lengths that are enough.
-pub fn lists(n: u8, cells: &[u8; 4096]) -> Case {
+pub(crate) fn lists(n: u8, cells: &[u8; 4096]) -> Case {
     let mut starts = [0u32; 72];
     let mut neighbours = [0u16; 4096];
     let mut at = 0usize;

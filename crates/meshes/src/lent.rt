@@ -35,28 +35,28 @@ pub struct Case {
     pub lengths: Lengths,
 }
 
-pub fn start(c: Case, v: usize) -> usize {
+pub(crate) fn start(c: Case, v: usize) -> usize {
     if v < 72 {
         return c.starts[v] as usize;
     }
     0
 }
 
-pub fn entry(c: Case, e: usize) -> usize {
+pub(crate) fn entry(c: Case, e: usize) -> usize {
     if e < 4096 {
         return c.neighbours[e] as usize;
     }
     0
 }
 
-pub fn with_start(mut c: Case, v: usize, x: usize) -> Case {
+pub(crate) fn with_start(mut c: Case, v: usize, x: usize) -> Case {
     if v < 72 {
         c.starts[v] = (x % 4294967296) as u32;
     }
     c
 }
 
-pub fn with_entry(mut c: Case, e: usize, x: usize) -> Case {
+pub(crate) fn with_entry(mut c: Case, e: usize, x: usize) -> Case {
     if e < 4096 {
         c.neighbours[e] = (x % 65536) as u16;
     }

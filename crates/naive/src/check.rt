@@ -72,7 +72,7 @@ fn mesh_fails(number: u32, n: usize, starts: &[u32], neighbours: &[u16]) -> bool
 }
 
 // The first check that fails, or 0.
-pub fn mesh(n: usize, starts: &[u32], neighbours: &[u16]) -> u32 {
+pub(crate) fn mesh(n: usize, starts: &[u32], neighbours: &[u16]) -> u32 {
     if n == 0 || 4096 < n {
         return 1;
     }
@@ -99,7 +99,7 @@ fn list(starts: &[u32], neighbours: &[u16], v: usize) -> u64 {
     s
 }
 
-pub fn matrix(starts: &[u32], neighbours: &[u16]) -> [u64; 64] {
+pub(crate) fn matrix(starts: &[u32], neighbours: &[u16]) -> [u64; 64] {
     let mut m = [0u64; 64];
     for v in 0..64usize {
         m[v] = list(starts, neighbours, v);

@@ -170,12 +170,12 @@ fn columns_fail(
 }
 
 // 17's rule of the rows alone, where the column starts are sound.
-pub fn rows_fail(n: usize, column_starts: &[u32], rows: &[u16]) -> bool {
+pub(crate) fn rows_fail(n: usize, column_starts: &[u32], rows: &[u16]) -> bool {
     columns_fail(17, n, 0, &[], &[], column_starts, rows)
 }
 
 // The first of checks 15 to 19 that fails, or 0. `starts_fail` is what 17 says of the counts or of the column starts.
-pub fn contents(
+pub(crate) fn contents(
     n: usize,
     p: usize,
     order: &[u16],

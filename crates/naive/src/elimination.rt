@@ -6,15 +6,15 @@ use crate::sets::size;
 use crate::sets::wide16;
 use crate::sets::without;
 
-pub struct Elimination {
-    pub slots: usize,
-    pub multiplications: u64,
-    pub column_starts: [u32; 65],
-    pub rows: [u16; 2016],
+pub(crate) struct Elimination {
+    pub(crate) slots: usize,
+    pub(crate) multiplications: u64,
+    pub(crate) column_starts: [u32; 65],
+    pub(crate) rows: [u16; 2016],
 }
 
 // The multiplications of a column of c rows.
-pub fn multiplications(c: u32) -> u64 {
+pub(crate) fn multiplications(c: u32) -> u64 {
     if c < 64 {
         return (c * (c + 3) / 2) as u64;
     }
@@ -22,7 +22,7 @@ pub fn multiplications(c: u32) -> u64 {
 }
 
 // A sum of multiplications: 64 columns have at most 45,696.
-pub fn sum(a: u64, b: u64) -> u64 {
+pub(crate) fn sum(a: u64, b: u64) -> u64 {
     if a < 1000000 {
         if b < 1000000 {
             return a + b;
@@ -74,7 +74,7 @@ fn join(m: [u64; 64], s: u64) -> [u64; 64] {
 }
 
 // Eliminates the nodes by their positions.
-pub fn eliminate(m: [u64; 64], order: &[u16; 64], n: usize) -> Elimination {
+pub(crate) fn eliminate(m: [u64; 64], order: &[u16; 64], n: usize) -> Elimination {
     let mut e = Elimination {
         slots: 0,
         multiplications: 0,

@@ -2,7 +2,7 @@
 use crate::sets::wide16;
 use crate::sets::wide32;
 
-pub fn entry(list: &[u16], i: usize) -> usize {
+pub(crate) fn entry(list: &[u16], i: usize) -> usize {
     if i < list.len() {
         return wide16(list[i]);
     }
@@ -10,7 +10,7 @@ pub fn entry(list: &[u16], i: usize) -> usize {
 }
 
 // Where v's list begins, or column v.
-pub fn start(starts: &[u32], v: usize) -> usize {
+pub(crate) fn start(starts: &[u32], v: usize) -> usize {
     if v < starts.len() {
         return wide32(starts[v]);
     }
@@ -18,7 +18,7 @@ pub fn start(starts: &[u32], v: usize) -> usize {
 }
 
 // Where it ends.
-pub fn end(starts: &[u32], v: usize) -> usize {
+pub(crate) fn end(starts: &[u32], v: usize) -> usize {
     if v < starts.len() {
         return start(starts, v + 1);
     }
@@ -26,7 +26,7 @@ pub fn end(starts: &[u32], v: usize) -> usize {
 }
 
 // Whether one of the first n ends before it begins.
-pub fn falling(n: usize, starts: &[u32]) -> bool {
+pub(crate) fn falling(n: usize, starts: &[u32]) -> bool {
     for v in 0..n {
         if end(starts, v) < start(starts, v) {
             return true;
@@ -36,7 +36,7 @@ pub fn falling(n: usize, starts: &[u32]) -> bool {
 }
 
 // A sum, exact where both numbers are below 2^32.
-pub fn plus(a: usize, b: usize) -> usize {
+pub(crate) fn plus(a: usize, b: usize) -> usize {
     if a < 4294967296 {
         if b < 4294967296 {
             return a + b;
@@ -46,7 +46,7 @@ pub fn plus(a: usize, b: usize) -> usize {
 }
 
 // The sum of the first k entries.
-pub fn total(list: &[u16], k: usize) -> usize {
+pub(crate) fn total(list: &[u16], k: usize) -> usize {
     let mut t = 0usize;
     for i in 0..k {
         t = plus(t, entry(list, i));

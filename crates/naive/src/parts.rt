@@ -108,13 +108,13 @@ fn part_of(m: &[u64; 64], region: u64) -> u64 {
 }
 
 // The parts and positions given so far.
-pub struct Parts {
-    pub placed: usize,
-    pub parts: usize,
-    pub order: [u16; 64],
-    pub positions: [u16; 64],
-    pub sizes: [u16; 64],
-    pub parents: [u16; 64],
+pub(crate) struct Parts {
+    placed: usize,
+    pub(crate) parts: usize,
+    pub(crate) order: [u16; 64],
+    pub(crate) positions: [u16; 64],
+    pub(crate) sizes: [u16; 64],
+    pub(crate) parents: [u16; 64],
 }
 
 // Node v at the next position.
@@ -191,7 +191,7 @@ fn nodes(n: usize) -> u64 {
     s
 }
 
-pub fn dissect(m: &[u64; 64], n: usize) -> Parts {
+pub(crate) fn dissect(m: &[u64; 64], n: usize) -> Parts {
     let p = Parts {
         placed: 0,
         parts: 0,
