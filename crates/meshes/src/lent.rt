@@ -1,4 +1,6 @@
 // What a planner is lent: a mesh, and results of some lengths.
+ghost use mathlib.Core.Path.{_≡_};
+ghost use Prim.Native.Nat.{_+_};
 
 // The lengths of the lent results. The rows have room for the slots and `rows_more`, less `rows_less`.
 pub struct Lengths {
@@ -12,7 +14,9 @@ pub struct Lengths {
 }
 
 // The least lengths that are enough for n nodes.
-pub fn least(n: u8) -> Lengths {
+pub fn least(n: u8) -> Lengths
+    ensures { λ r. ⌜ r ≡ record { order = n; positions = n; sizes = n; parents = n; «column_starts» = n + 1; «rows_more» = 0; «rows_less» = 0 } ⌝ }
+{
     let size = n as usize;
     Lengths {
         order: size,

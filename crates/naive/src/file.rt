@@ -13,6 +13,10 @@ use crate::lists::start;
 use crate::lists::total;
 use crate::refused;
 use crate::sets::wide16;
+ghost use mathlib.Core.Path.{_≡_};
+ghost use mathlib.Core.Bool.{cond};
+ghost use Prim.Native.Nat.{_-_, _*_, _/_};
+ghost use lib.Dec.{ltb};
 
 fn byte(bytes: &[u8], at: usize) -> u8 {
     if at < bytes.len() {
@@ -34,9 +38,14 @@ fn number32(bytes: &[u8], at: u8) -> usize {
     number16(bytes, at as usize) as usize + number16(bytes, at as usize + 2) as usize * 65536
 }
 
-// n(n − 1)/2 for n of at most 4,096.
-pub fn most_slots(n: usize) -> usize {
-    if n == 0 || 4096 < n {
+// n(n − 1)/2 for n of at most 4,096, and 0 beyond.
+pub fn most_slots(n: usize) -> usize
+    ensures { λ r. ⌜ r ≡ cond (ltb 4096 n) 0 (n * (n - 1) / 2) ⌝ }
+{
+    if n == 0 {
+        return 0;
+    }
+    if 4096 < n {
         return 0;
     }
     n * (n - 1) / 2
