@@ -8,6 +8,7 @@ use crate::lent::with_start;
 use crate::numbers::less;
 use crate::numbers::more;
 use crate::random::draw;
+use plan::Plan;
 
 // A wrong number of nodes, of starts or of entries, or a wrong start.
 fn damage_starts(c: Case, what: usize, seed: u64) -> Case {
@@ -15,7 +16,7 @@ fn damage_starts(c: Case, what: usize, seed: u64) -> Case {
     let v = draw(seed, 0, 5, d.n);
     match what {
         0 => d.n = 0,
-        1 => d.n = 4097 + draw(seed, 1, 5, 3) % 4,
+        1 => d.n = Plan::NODES + 1 + draw(seed, 1, 5, 3) % 4,
         2 => d.n = d.n % 65536 + 65536,
         3 => d.start_count = less(d.start_count),
         4 => d.start_count = more(d.start_count),
