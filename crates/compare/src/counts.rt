@@ -5,13 +5,13 @@ use meshes::more;
 use meshes::print_difference;
 use meshes::print_number;
 
-pub struct Counts {
-    pub planned: usize,
-    pub refused: [usize; 10],
-    pub different: usize,
+pub(crate) struct Counts {
+    planned: usize,
+    refused: [usize; 10],
+    different: usize,
 }
 
-pub fn none() -> Counts {
+pub(crate) fn none() -> Counts {
     Counts {
         planned: 0,
         refused: [0; 10],
@@ -20,7 +20,13 @@ pub fn none() -> Counts {
 }
 
 // One more mesh tried. `numbers` says what the two numbers behind it are; they tell the mesh where the planners differ, for the first twenty.
-pub fn counted(c: Counts, o: Outcome, numbers: &[u8], first: usize, second: usize) -> Counts {
+pub(crate) fn counted(
+    c: Counts,
+    o: Outcome,
+    numbers: &[u8],
+    first: usize,
+    second: usize,
+) -> Counts {
     let mut d = c;
     if !o.same {
         if c.different < 20 {
@@ -56,7 +62,7 @@ fn print_different(c: Counts) {
     print_number(c.different);
 }
 
-pub fn print(c: Counts) {
+pub(crate) fn print(c: Counts) {
     print_planned(c);
     for number in 1..10usize {
         print_refused(c, number);

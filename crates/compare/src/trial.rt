@@ -8,9 +8,9 @@ use meshes::front32;
 use naive::NaivePlan;
 
 // The refusal, or 0, and whether both planners answer the same and leave the same.
-pub struct Outcome {
-    pub refusal: u32,
-    pub same: bool,
+pub(crate) struct Outcome {
+    pub(crate) refusal: u32,
+    pub(crate) same: bool,
 }
 
 // The length of the rows where there are so many slots.
@@ -43,7 +43,7 @@ fn plan_naively(
 }
 
 // Lends both planners the same. Entries that are not used should stay as found, past a result's length too.
-pub fn try_lent(n: usize, starts: &[u32], neighbours: &[u16], l: Lengths) -> Outcome {
+pub(crate) fn try_lent(n: usize, starts: &[u32], neighbours: &[u16], l: Lengths) -> Outcome {
     let room = plan_naively(n, starts, neighbours, l, 2016);
     let rows_room = rows_length(l, room.slots);
     let p = plan_naively(n, starts, neighbours, l, rows_room);
@@ -79,7 +79,7 @@ pub fn try_lent(n: usize, starts: &[u32], neighbours: &[u16], l: Lengths) -> Out
     }
 }
 
-pub fn try_case(c: Case) -> Outcome {
+pub(crate) fn try_case(c: Case) -> Outcome {
     let starts = c.starts;
     let neighbours = c.neighbours;
     let start_count = c.start_count;
