@@ -191,7 +191,7 @@ fn unwritten() {
     write_path(79, &[0, 1, 3, 4, 4], &[0, 1, 2, 4, 5, 5], &rows, 0);
 }
 
-pub fn all() {
+pub(crate) fn all() {
     worked();
     short();
     headed();

@@ -53,7 +53,7 @@ fn refused() {
     ask_column(89, 5, &[0, 1, 2, 4, 3, 5], &rows, 9);
 }
 
-pub fn all() {
+pub(crate) fn all() {
     answered();
     refused();
 }

@@ -17,7 +17,7 @@ fn print_spaced(x: u64) {
 }
 
 // The case's number: below 20 document 01's row.
-pub fn print_title(number: u8) {
+pub(crate) fn print_title(number: u8) {
     io::write_all(STDOUT_FILENO, b"case");
     print_spaced(number as u64);
     end_line();
@@ -39,7 +39,7 @@ fn print_refusal(number: u32) {
 }
 
 // Nodes, parts, slots and multiplications, or the refusal's number.
-pub fn print_answer(answer: PlanAnswer) {
+pub(crate) fn print_answer(answer: PlanAnswer) {
     match answer {
         PlanAnswer::Accepted(p) => print_plan(p),
         PlanAnswer::Refused(number) => print_refusal(number),
@@ -55,7 +55,7 @@ fn print_long(x: u32) {
 }
 
 // The entries of a buffer in a line: numbers of 16 bits.
-pub fn print_numbers(entries: &[u16]) {
+pub(crate) fn print_numbers(entries: &[u16]) {
     for i in 0..entries.len() {
         print_short(entries[i]);
     }
@@ -71,7 +71,7 @@ fn print_starts(entries: &[u32]) {
 }
 
 // The six buffers that planning and reading are lent, a line for each.
-pub fn print_buffers(
+pub(crate) fn print_buffers(
     order: &[u16],
     positions: &[u16],
     sizes: &[u16],
@@ -91,7 +91,7 @@ fn print_byte(x: u8) {
     print_spaced(x as u64);
 }
 
-pub fn print_bytes(bytes: &[u8]) {
+pub(crate) fn print_bytes(bytes: &[u8]) {
     for i in 0..bytes.len() {
         print_byte(bytes[i]);
     }
@@ -105,7 +105,7 @@ fn print_length(length: usize) {
 }
 
 // The file's length, or the refusal's number.
-pub fn print_written(answer: WriteAnswer) {
+pub(crate) fn print_written(answer: WriteAnswer) {
     match answer {
         WriteAnswer::Written(length) => print_length(length),
         WriteAnswer::Refused(number) => print_refusal(number),
@@ -125,7 +125,7 @@ fn print_last(word: &[u8]) {
 }
 
 // A refusal's number and its family.
-pub fn print_family(number: u32) {
+pub(crate) fn print_family(number: u32) {
     io::print_decimal(STDOUT_FILENO, number as u64);
     let family = plan::family(number);
     match family {
@@ -138,7 +138,7 @@ pub fn print_family(number: u32) {
 }
 
 // The slot, "diagonal", "no slot", or the refusal's number.
-pub fn print_pair(answer: PairAnswer) {
+pub(crate) fn print_pair(answer: PairAnswer) {
     match answer {
         PairAnswer::Slot(slot) => print_slot(slot),
         PairAnswer::Diagonal => print_last(b"diagonal"),

@@ -3,12 +3,12 @@ use meshes::less;
 use meshes::more;
 
 // How many borders there are for a number of two bytes, and for one of four.
-pub const SHORT: usize = 20;
+pub(crate) const SHORT: usize = 20;
 
-pub const LONG: usize = 26;
+pub(crate) const LONG: usize = 26;
 
 // Border b of a number that was `value`, in a plan with n nodes, p parts and s slots.
-pub fn border(b: usize, value: usize, n: usize, p: usize, s: usize) -> usize {
+pub(crate) fn border(b: usize, value: usize, n: usize, p: usize, s: usize) -> usize {
     match b {
         0 => 0,
         1 => 1,

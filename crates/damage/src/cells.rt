@@ -2,11 +2,11 @@
 use crate::draft::Draft;
 use crate::draft::entry;
 
-pub fn cell(cells: &[u8; 4096], j: usize, i: usize) -> u8 {
+pub(crate) fn cell(cells: &[u8; 4096], j: usize, i: usize) -> u8 {
     cells[j % 64 * 64 + i % 64]
 }
 
-pub fn put_cell(cells: &mut [u8; 4096], j: usize, i: usize, x: u8) {
+pub(crate) fn put_cell(cells: &mut [u8; 4096], j: usize, i: usize, x: u8) {
     cells[j % 64 * 64 + i % 64] = x;
 }
 
@@ -17,7 +17,7 @@ fn put_column(cells: &mut [u8; 4096], d: Draft, j: usize) {
     }
 }
 
-pub fn cells_of(d: Draft) -> [u8; 4096] {
+pub(crate) fn cells_of(d: Draft) -> [u8; 4096] {
     let mut cells = [0u8; 4096];
     for j in 0..64usize {
         if j < d.n {
@@ -28,7 +28,7 @@ pub fn cells_of(d: Draft) -> [u8; 4096] {
 }
 
 // The cells with a slot more, or one less, at row i of column j.
-pub fn toggled(cells: [u8; 4096], j: usize, i: usize) -> [u8; 4096] {
+pub(crate) fn toggled(cells: [u8; 4096], j: usize, i: usize) -> [u8; 4096] {
     let mut t = cells;
     if cell(&cells, j, i) == 0 {
         put_cell(&mut t, j, i, 1);
@@ -65,7 +65,7 @@ fn put_start(starts: &mut [u32; 80], j: usize, at: usize) {
 }
 
 // The draft with these slots.
-pub fn with_cells(d: Draft, cells: &[u8; 4096]) -> Draft {
+pub(crate) fn with_cells(d: Draft, cells: &[u8; 4096]) -> Draft {
     let mut e = d;
     let mut starts = [meshes::STALE_COLUMN_STARTS; 80];
     let mut rows = [meshes::STALE_ROWS; 2100];

@@ -6,38 +6,38 @@ use meshes::print_number;
 use naive::TOO_LARGE;
 
 // The operations.
-pub const READ: usize = 0;
+pub(crate) const READ: usize = 0;
 
-pub const WRITE: usize = 1;
+pub(crate) const WRITE: usize = 1;
 
-pub const PAIR: usize = 2;
+pub(crate) const PAIR: usize = 2;
 
-pub const COLUMN: usize = 3;
+pub(crate) const COLUMN: usize = 3;
 
 const ROUND_TRIP: usize = 4;
 
 // The subjects, by the number of their first: the meshes that `main` gives by their edges, in turn; meshes that a seed draws; lists to be
 // written, and layouts, that a seed draws.
-pub const GIVEN: usize = 0;
+pub(crate) const GIVEN: usize = 0;
 
-pub const DRAWN_MESHES: usize = 1000;
+pub(crate) const DRAWN_MESHES: usize = 1000;
 
-pub const DRAWN_DRAFTS: usize = 2000;
+pub(crate) const DRAWN_DRAFTS: usize = 2000;
 
-pub const DRAWN_LAYOUTS: usize = 6000;
+pub(crate) const DRAWN_LAYOUTS: usize = 6000;
 
 // Answers by operation and refusal, 23 to an operation; 0 is an answer that is no refusal. `subject` is what is tried, and `turn` how many
 // comparisons of it were made: they tell where a difference is.
-pub struct Counts {
-    pub met: [usize; 92],
-    pub too_large: usize,
-    pub round_trips: usize,
-    pub different: usize,
-    pub subject: usize,
-    pub turn: usize,
+pub(crate) struct Counts {
+    met: [usize; 92],
+    too_large: usize,
+    round_trips: usize,
+    different: usize,
+    subject: usize,
+    turn: usize,
 }
 
-pub fn none() -> Counts {
+pub(crate) fn none() -> Counts {
     Counts {
         met: [0; 92],
         too_large: 0,
@@ -49,7 +49,7 @@ pub fn none() -> Counts {
 }
 
 // The next subject, `number` behind `first`.
-pub fn begun(mut c: Counts, first: usize, number: u64) -> Counts {
+pub(crate) fn begun(mut c: Counts, first: usize, number: u64) -> Counts {
     c.subject = first % 65536 + number as usize % 65536;
     c.turn = 0;
     c
@@ -69,13 +69,13 @@ fn compared(mut c: Counts, operation: usize, same: bool) -> Counts {
 }
 
 // One more plan written, read and written again.
-pub fn returned(mut c: Counts, same: bool) -> Counts {
+pub(crate) fn returned(mut c: Counts, same: bool) -> Counts {
     c.round_trips = more(c.round_trips);
     compared(c, ROUND_TRIP, same)
 }
 
 // One more answer of an operation. Where the naive code has none (too large), nothing is compared.
-pub fn counted(mut c: Counts, operation: usize, refusal: u32, same: bool) -> Counts {
+pub(crate) fn counted(mut c: Counts, operation: usize, refusal: u32, same: bool) -> Counts {
     if refusal == TOO_LARGE {
         c.too_large = more(c.too_large);
         return c;
@@ -131,7 +131,7 @@ fn print_operation(c: Counts, operation: usize) {
 }
 
 // A line for each answer that was met.
-pub fn print(c: Counts) {
+pub(crate) fn print(c: Counts) {
     for operation in 0..4usize {
         print_operation(c, operation);
     }

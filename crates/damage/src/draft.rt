@@ -12,20 +12,20 @@ use naive::NaiveFile;
 use plan::WriteAnswer;
 
 // `lengths` has those of the lists (order, sizes, parents, column starts, rows) and the room for the bytes.
-pub struct Draft {
-    pub n: usize,
-    pub p: usize,
-    pub s: usize,
-    pub order: [u16; 80],
-    pub sizes: [u16; 80],
-    pub parents: [u16; 80],
-    pub column_starts: [u32; 80],
-    pub rows: [u16; 2100],
-    pub lengths: [usize; 6],
+pub(crate) struct Draft {
+    pub(crate) n: usize,
+    pub(crate) p: usize,
+    pub(crate) s: usize,
+    pub(crate) order: [u16; 80],
+    pub(crate) sizes: [u16; 80],
+    pub(crate) parents: [u16; 80],
+    pub(crate) column_starts: [u32; 80],
+    pub(crate) rows: [u16; 2100],
+    pub(crate) lengths: [usize; 6],
 }
 
 // The draft of a plan, its lists and the room longer than needed.
-pub fn draft_of(h: Held) -> Draft {
+pub(crate) fn draft_of(h: Held) -> Draft {
     let order = h.order;
     let sizes = h.sizes;
     let parents = h.parents;
@@ -45,10 +45,10 @@ pub fn draft_of(h: Held) -> Draft {
 }
 
 // What writing leaves: the refusal or 0, the length or 0, and the bytes, which were 77.
-pub struct Wrote {
-    pub refusal: u32,
-    pub length: usize,
-    pub bytes: [u8; 4561],
+pub(crate) struct Wrote {
+    pub(crate) refusal: u32,
+    pub(crate) length: usize,
+    pub(crate) bytes: [u8; 4561],
 }
 
 fn answered(answer: WriteAnswer, bytes: [u8; 4561]) -> Wrote {
@@ -66,7 +66,7 @@ fn answered(answer: WriteAnswer, bytes: [u8; 4561]) -> Wrote {
     }
 }
 
-pub fn write(d: Draft) -> Wrote {
+pub(crate) fn write(d: Draft) -> Wrote {
     let order = d.order;
     let sizes = d.sizes;
     let parents = d.parents;
@@ -114,18 +114,18 @@ fn agrees(w: Wrote, f: NaiveFile) -> bool {
 }
 
 // Writes a draft with the writer and with the naive one.
-pub fn try_writing(c: Counts, d: Draft) -> Counts {
+pub(crate) fn try_writing(c: Counts, d: Draft) -> Counts {
     let f = write_naively(d);
     counted(c, WRITE, f.refusal, agrees(write(d), f))
 }
 
 // Whether both wrote the same, in every byte that was lent.
-pub fn same_bytes(w: Wrote, v: Wrote) -> bool {
+pub(crate) fn same_bytes(w: Wrote, v: Wrote) -> bool {
     w.length == v.length && holds8(&w.bytes, &v.bytes, 4561, 0)
 }
 
 // The file that was written.
-pub fn file_of(w: Wrote) -> File {
+pub(crate) fn file_of(w: Wrote) -> File {
     let bytes = w.bytes;
     File {
         bytes: bytes,
@@ -134,7 +134,7 @@ pub fn file_of(w: Wrote) -> File {
 }
 
 // The file of a draft as it stands, sound or not, for n and p of at most 64 and s of at most 2,016.
-pub fn encoded(d: Draft) -> File {
+pub(crate) fn encoded(d: Draft) -> File {
     let order = d.order;
     let sizes = d.sizes;
     let parents = d.parents;
@@ -158,7 +158,7 @@ pub fn encoded(d: Draft) -> File {
 }
 
 // How many entries list `which` has: 0 order, 1 sizes, 2 parents, 3 column starts, 4 rows; 5, 6 and 7 are n, p and s.
-pub fn entries(d: Draft, which: usize) -> usize {
+pub(crate) fn entries(d: Draft, which: usize) -> usize {
     match which {
         0 => d.n,
         1 | 2 => d.p,
@@ -187,7 +187,7 @@ fn start(d: Draft, i: usize) -> usize {
 }
 
 // Entry i of list `which`, or the number.
-pub fn entry(d: Draft, which: usize, i: usize) -> usize {
+pub(crate) fn entry(d: Draft, which: usize, i: usize) -> usize {
     match which {
         0 => short(&d.order, i),
         1 => short(&d.sizes, i),
@@ -213,7 +213,7 @@ fn with_row(mut d: Draft, e: usize, x: usize) -> Draft {
     d
 }
 
-pub fn with_start(mut d: Draft, j: usize, x: usize) -> Draft {
+fn with_start(mut d: Draft, j: usize, x: usize) -> Draft {
     if j < 80 {
         d.column_starts[j] = (x % 4294967296) as u32;
     }
@@ -221,7 +221,7 @@ pub fn with_start(mut d: Draft, j: usize, x: usize) -> Draft {
 }
 
 // The draft with another number there.
-pub fn with_entry(d: Draft, which: usize, i: usize, x: usize) -> Draft {
+pub(crate) fn with_entry(d: Draft, which: usize, i: usize, x: usize) -> Draft {
     let mut e = d;
     match which {
         0 => put(&mut e.order, i, x),
@@ -237,7 +237,7 @@ pub fn with_entry(d: Draft, which: usize, i: usize, x: usize) -> Draft {
 }
 
 // The draft with another length of a list or of the room.
-pub fn with_length(mut d: Draft, which: usize, length: usize) -> Draft {
+pub(crate) fn with_length(mut d: Draft, which: usize, length: usize) -> Draft {
     if which < 6 {
         d.lengths[which] = length;
     }

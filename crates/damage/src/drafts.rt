@@ -50,7 +50,7 @@ fn every_entry_of(c: Counts, d: Draft, which: usize) -> Counts {
 }
 
 // Every border in each entry of each list, and in n, p and s.
-pub fn every_entry(c: Counts, d: Draft) -> Counts {
+pub(crate) fn every_entry(c: Counts, d: Draft) -> Counts {
     let mut e = c;
     for which in 0..8usize {
         e = every_entry_of(e, d, which);
@@ -74,7 +74,7 @@ fn every_length_of(c: Counts, d: Draft, which: usize) -> Counts {
     try_writing(f, with_length(d, which, 0))
 }
 
-pub fn every_length(c: Counts, d: Draft) -> Counts {
+pub(crate) fn every_length(c: Counts, d: Draft) -> Counts {
     let mut e = c;
     for which in 0..6usize {
         e = every_length_of(e, d, which);
@@ -83,7 +83,7 @@ pub fn every_length(c: Counts, d: Draft) -> Counts {
 }
 
 // Every room for the bytes up to what is needed.
-pub fn every_room(c: Counts, d: Draft) -> Counts {
+pub(crate) fn every_room(c: Counts, d: Draft) -> Counts {
     let mut e = c;
     for room in 0..enough(d, 5) % 65536 + 1 {
         e = try_writing(e, with_length(d, 5, room));
@@ -102,7 +102,7 @@ fn every_slot_of(c: Counts, d: Draft, j: usize) -> Counts {
     e
 }
 
-pub fn every_slot(c: Counts, d: Draft) -> Counts {
+pub(crate) fn every_slot(c: Counts, d: Draft) -> Counts {
     let mut e = c;
     for j in 0..d.n {
         e = every_slot_of(e, d, j);
@@ -111,7 +111,7 @@ pub fn every_slot(c: Counts, d: Draft) -> Counts {
 }
 
 // Drafts that no planner made, some with a list, or the room, that is too short.
-pub fn all_drawn(c: Counts) -> Counts {
+pub(crate) fn all_drawn(c: Counts) -> Counts {
     let mut e = c;
     for seed in 0..3000u64 {
         let d = drawn_draft(seed);

@@ -151,7 +151,7 @@ fn empty(n: usize) -> Draft {
     }
 }
 
-pub fn drawn_draft(seed: u64) -> Draft {
+pub(crate) fn drawn_draft(seed: u64) -> Draft {
     let n = 1 + draw(seed, 5, 9, 8) % 8;
     let cells = drawn_cells(seed, n);
     let d = with_parents(with_sizes(with_order(empty(n), seed), seed), seed);

@@ -1,11 +1,11 @@
 // A file of at most 4,561 bytes, and its fields: the version, n, p, s, and then each number of two bytes.
 
-pub struct File {
-    pub bytes: [u8; 4561],
-    pub length: usize,
+pub(crate) struct File {
+    pub(crate) bytes: [u8; 4561],
+    pub(crate) length: usize,
 }
 
-pub fn with_byte(mut f: File, at: usize, x: usize) -> File {
+pub(crate) fn with_byte(mut f: File, at: usize, x: usize) -> File {
     if at < 4561 {
         f.bytes[at] = (x % 256) as u8;
     }
@@ -20,7 +20,7 @@ fn byte(f: File, at: usize) -> usize {
 }
 
 // The file cut or continued, by what stands behind it, to a length; as it was where that is over 4,561.
-pub fn with_length(mut f: File, length: usize) -> File {
+pub(crate) fn with_length(mut f: File, length: usize) -> File {
     if length <= 4561 {
         f.length = length;
     }
@@ -28,7 +28,7 @@ pub fn with_length(mut f: File, length: usize) -> File {
 }
 
 // How many fields a file has.
-pub fn fields(f: File) -> usize {
+pub(crate) fn fields(f: File) -> usize {
     let length = f.length % 8192;
     if length < 17 {
         return 0;
@@ -68,7 +68,7 @@ fn with_short(f: File, at: usize, x: usize) -> File {
     with_byte(with_byte(f, at, x % 256), next(at), x / 256)
 }
 
-pub fn field(f: File, k: usize) -> usize {
+pub(crate) fn field(f: File, k: usize) -> usize {
     let at = field_at(k);
     if width(k) == 4 {
         return short(f, at) % 65536 + short(f, next(next(at))) % 65536 * 65536;
@@ -76,7 +76,7 @@ pub fn field(f: File, k: usize) -> usize {
     short(f, at)
 }
 
-pub fn with_field(f: File, k: usize, x: usize) -> File {
+pub(crate) fn with_field(f: File, k: usize, x: usize) -> File {
     let at = field_at(k);
     if width(k) == 4 {
         return with_short(with_short(f, at, x % 65536), next(next(at)), x / 65536);
@@ -90,19 +90,19 @@ fn asked(f: File) -> usize {
 }
 
 // The file cut or continued to the length that it asks for, where that is at most 4,561.
-pub fn fitted(f: File) -> File {
+pub(crate) fn fitted(f: File) -> File {
     with_length(f, asked(f))
 }
 
 // Fields k and m, each with the other's number.
-pub fn swapped(f: File, k: usize, m: usize) -> File {
+pub(crate) fn swapped(f: File, k: usize, m: usize) -> File {
     let x = field(f, k);
     let y = field(f, m);
     with_field(with_field(f, k, y), m, x)
 }
 
 // Field k with so much more and field m with so much less, cut to the field's width.
-pub fn moved(f: File, k: usize, m: usize, amount: usize) -> File {
+pub(crate) fn moved(f: File, k: usize, m: usize, amount: usize) -> File {
     let by = amount % 4294967296;
     let g = with_field(f, k, field(f, k) % 4294967296 + by);
     with_field(g, m, field(g, m) % 4294967296 + (4294967296 - by))

@@ -37,7 +37,7 @@ fn try_lent(c: Counts, f: File, lengths: [usize; 6]) -> Counts {
 }
 
 // A file read into results that are long enough.
-pub fn try_file(c: Counts, f: File) -> Counts {
+pub(crate) fn try_file(c: Counts, f: File) -> Counts {
     try_lent(c, f, [80, 80, 80, 80, 80, 2100])
 }
 
@@ -51,7 +51,7 @@ fn every_value(c: Counts, f: File, at: usize) -> Counts {
 }
 
 // Every value of each of the first bytes.
-pub fn every_byte(c: Counts, f: File, end: usize) -> Counts {
+pub(crate) fn every_byte(c: Counts, f: File, end: usize) -> Counts {
     let mut d = c;
     for at in 0..end {
         d = every_value(d, f, at);
@@ -77,7 +77,7 @@ fn every_border(c: Counts, f: File, k: usize) -> Counts {
 }
 
 // Every border in each field.
-pub fn every_field(c: Counts, f: File) -> Counts {
+pub(crate) fn every_field(c: Counts, f: File) -> Counts {
     let mut d = c;
     for k in 0..fields(f) {
         d = every_border(d, f, k);
@@ -95,12 +95,12 @@ fn every_long_border(c: Counts, f: File, k: usize) -> Counts {
     d
 }
 
-pub fn every_number(c: Counts, f: File) -> Counts {
+pub(crate) fn every_number(c: Counts, f: File) -> Counts {
     every_long_border(every_long_border(every_long_border(c, f, 1), f, 2), f, 3)
 }
 
 // Every shorter length, and up to four bytes more.
-pub fn every_length(c: Counts, f: File) -> Counts {
+pub(crate) fn every_length(c: Counts, f: File) -> Counts {
     let mut d = c;
     for length in 0..f.length % 65536 + 5 {
         d = try_file(d, with_length(f, length));
@@ -117,7 +117,7 @@ fn every_swap_with(c: Counts, f: File, k: usize) -> Counts {
     d
 }
 
-pub fn every_swap(c: Counts, f: File) -> Counts {
+pub(crate) fn every_swap(c: Counts, f: File) -> Counts {
     let mut d = c;
     for k in 0..fields(f) {
         d = every_swap_with(d, f, k);
@@ -136,7 +136,7 @@ fn every_move_to(c: Counts, f: File, k: usize) -> Counts {
     d
 }
 
-pub fn every_move(c: Counts, f: File) -> Counts {
+pub(crate) fn every_move(c: Counts, f: File) -> Counts {
     let mut d = c;
     for k in 0..fields(f) {
         d = every_move_to(d, f, k);
@@ -171,7 +171,7 @@ fn short_lengths(f: File, mask: usize) -> [usize; 6] {
 }
 
 // Results too short by one, every choice of them.
-pub fn every_short(c: Counts, f: File) -> Counts {
+pub(crate) fn every_short(c: Counts, f: File) -> Counts {
     let mut d = c;
     for mask in 0..64usize {
         d = try_lent(d, f, short_lengths(f, mask));
@@ -180,7 +180,7 @@ pub fn every_short(c: Counts, f: File) -> Counts {
 }
 
 // Results just long enough, and rows of every shorter length.
-pub fn every_rows_length(c: Counts, f: File) -> Counts {
+pub(crate) fn every_rows_length(c: Counts, f: File) -> Counts {
     let mut d = c;
     for length in 0..field(f, 3) % 65536 {
         let l = short_lengths(f, 0);
@@ -247,7 +247,7 @@ fn drawn_mask(seed: u64) -> usize {
 }
 
 // So many draws of two damages.
-pub fn drawn_pairs(c: Counts, f: File, first: u64, count: u64) -> Counts {
+pub(crate) fn drawn_pairs(c: Counts, f: File, first: u64, count: u64) -> Counts {
     let mut d = c;
     for turn in 0..count {
         let seed = first % 4294967296 + turn % 4294967296;

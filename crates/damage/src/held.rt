@@ -10,7 +10,7 @@ use meshes::holds16;
 use meshes::holds32;
 
 // The plan of a mesh.
-pub fn planned(c: Case) -> Held {
+pub(crate) fn planned(c: Case) -> Held {
     let starts = c.starts;
     let neighbours = c.neighbours;
     let start_count = c.start_count;
@@ -44,7 +44,7 @@ pub fn planned(c: Case) -> Held {
 }
 
 // What reading leaves where results of these lengths are lent: order, positions, sizes, parents, column starts, rows.
-pub fn read(bytes: &[u8], lengths: [usize; 6]) -> Held {
+pub(crate) fn read(bytes: &[u8], lengths: [usize; 6]) -> Held {
     let mut order = [meshes::STALE_ORDER; 80];
     let mut positions = [meshes::STALE_POSITIONS; 80];
     let mut sizes = [meshes::STALE_SIZES; 80];
@@ -72,7 +72,7 @@ pub fn read(bytes: &[u8], lengths: [usize; 6]) -> Held {
 }
 
 // Whether both are the same in every entry.
-pub fn same(h: Held, k: Held) -> bool {
+pub(crate) fn same(h: Held, k: Held) -> bool {
     h.refusal == k.refusal
         && h.nodes == k.nodes
         && h.parts == k.parts

@@ -139,14 +139,14 @@ fn every_length(c: Counts, d: Draft, which: usize) -> Counts {
 }
 
 // A layout as it is; with each border in each column start, each row and n; and with other lengths.
-pub fn every_question(c: Counts, d: Draft) -> Counts {
+pub(crate) fn every_question(c: Counts, d: Draft) -> Counts {
     let s = as_layout(d);
     let e = every_entry(every_entry(ask_draft(c, s, d.n), s, 3), s, 4);
     every_length(every_length(every_entry(e, s, 5), s, 3), s, 4)
 }
 
 // Layouts that no planner made.
-pub fn all_drawn(c: Counts) -> Counts {
+pub(crate) fn all_drawn(c: Counts) -> Counts {
     let mut e = c;
     for seed in 0..500u64 {
         let d = drawn_draft(seed);
