@@ -15,6 +15,7 @@ use meshes::first32;
 use meshes::from_edges;
 use meshes::front16;
 use meshes::front32;
+use plan::Plan;
 
 // A mesh planned into four buffers of `length` entries, column starts of `columns` and rows of `slots`.
 fn plan_lent(
@@ -81,16 +82,16 @@ fn plan_lists(title: u8, n: usize, starts: &[u32], neighbours: &[u16], length: u
 // n nodes without entries: the answer, the last entries of each buffer and the entry behind them.
 fn plan_bare(title: u8, n: usize) {
     print_title(title);
-    let starts = [0u32; 4098];
-    let mut order = [60000u16; 4097];
-    let mut positions = [60000u16; 4097];
-    let mut sizes = [60000u16; 4097];
-    let mut parents = [60000u16; 4097];
-    let mut columnStarts = [60000u32; 4098];
+    let starts = [0u32; Plan::NODES + 2];
+    let mut order = [60000u16; Plan::NODES + 1];
+    let mut positions = [60000u16; Plan::NODES + 1];
+    let mut sizes = [60000u16; Plan::NODES + 1];
+    let mut parents = [60000u16; Plan::NODES + 1];
+    let mut columnStarts = [60000u32; Plan::NODES + 2];
     let mut rows = [60000u16; 1];
     let answer = planner::plan(
         n,
-        first32(&starts, n % 4098 + 1),
+        first32(&starts, n % (Plan::NODES + 2) + 1),
         &[],
         &mut order,
         &mut positions,
@@ -101,11 +102,11 @@ fn plan_bare(title: u8, n: usize) {
     );
     print_answer(answer);
     print_buffers(
-        &order[4094..4097],
-        &positions[4094..4097],
-        &sizes[4094..4097],
-        &parents[4094..4097],
-        &columnStarts[4095..4098],
+        &order[Plan::NODES - 2..Plan::NODES + 1],
+        &positions[Plan::NODES - 2..Plan::NODES + 1],
+        &sizes[Plan::NODES - 2..Plan::NODES + 1],
+        &parents[Plan::NODES - 2..Plan::NODES + 1],
+        &columnStarts[Plan::NODES - 1..Plan::NODES + 2],
         &rows,
     );
 }
@@ -122,8 +123,8 @@ fn worked() {
     plan_lists(7, 0, &[0], &[], 2, 1);
     plan_lists(8, 2, &[0, 1, 1], &[1], 3, 1);
     plan_lists(9, 2, &[0, 2, 2], &[5, 0], 3, 1);
-    plan_bare(13, 4096);
-    plan_bare(13, 4097);
+    plan_bare(13, Plan::NODES);
+    plan_bare(13, Plan::NODES + 1);
 }
 
 // Meshes whose order tells a misreading of the cut or of the root search.

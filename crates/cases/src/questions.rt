@@ -3,6 +3,7 @@ use crate::show::print_numbers;
 use crate::show::print_pair;
 use crate::show::print_title;
 use meshes::print_number;
+use plan::Plan;
 
 // The question about a pair of positions.
 fn ask_pair(title: u8, n: usize, columnStarts: &[u32], rows: &[u16], a: usize, b: usize) {
@@ -47,7 +48,7 @@ fn refused() {
     ask_pair(87, 5, &starts, &[1, 4, 3, 4, 4, 0, 9, 0], 4, 3);
     ask_column(87, 5, &starts, &[1, 4, 3, 4, 4, 0, 9, 0], 3);
     ask_pair(88, 0, &[], &[], 0, 0);
-    ask_pair(88, 4097, &[], &[], 0, 0);
+    ask_pair(88, Plan::NODES + 1, &[], &[], 0, 0);
     ask_column(88, 0, &[0], &[], 0);
     ask_pair(89, 5, &starts, &[1, 4, 3, 4], 9, 9);
     ask_column(89, 5, &[0, 1, 2, 4, 3, 5], &rows, 9);

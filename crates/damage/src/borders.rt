@@ -1,6 +1,7 @@
 // Numbers at which a check may change its mind.
 use meshes::less;
 use meshes::more;
+use plan::Plan;
 
 // How many borders there are for a number of two bytes, and for one of four.
 pub(crate) const SHORT: usize = 20;
@@ -25,8 +26,8 @@ pub(crate) fn border(b: usize, value: usize, n: usize, p: usize, s: usize) -> us
         12 => more(s),
         13 => 255,
         14 => 256,
-        15 => 4096,
-        16 => 4097,
+        15 => Plan::NODES,
+        16 => Plan::NODES + 1,
         17 => 32768,
         18 => 65534,
         19 => 65535,
