@@ -1,5 +1,6 @@
-/* A plain C program of the same rules as the proved library, for comparison of speed and results: nothing in it is proved. Its functions have
- * the library's interface: each is declared with the type of the function that it stands beside. */
+/* A plain C program of the same rules as the proved library, written apart from it; nothing in it is proved. The benchmark compares speed and
+ * results with it, the tests of bindings/rust results, and tests/stored makes stored outputs with it. Its functions have the library's interface:
+ * each is declared with the type of the function that it stands beside. Its working memory is static, so only one call may run at a time. */
 #ifndef PLAIN_H
 #define PLAIN_H
 #include "ndplan.h"
@@ -14,4 +15,5 @@ __typeof__(ndp_read) plain_read;
 __typeof__(ndp_write) plain_write;
 __typeof__(ndp_slot) plain_slot;
 __typeof__(ndp_rows) plain_rows;
+__typeof__(ndp_family) plain_family;
 #endif

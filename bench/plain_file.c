@@ -1,5 +1,5 @@
-/* Plain C: the plan file and the two questions over a layout. Numbers of checks are document 01's. The reader decodes the file into memory of its
- * own, where the writer's checks look at it, and copies it to the caller when nothing is left to refuse. */
+/* Plain C: the plan file, the two questions over a layout, and the family of a refusal. Numbers of checks are document 01's. The reader decodes the
+ * file into memory of its own, where the writer's checks look at it, and copies it to the caller when nothing is left to refuse. */
 #include "plain.h"
 #include <string.h>
 
@@ -233,4 +233,11 @@ NdpRows plain_rows(size_t n, const uint32_t *column_starts, size_t column_starts
     if (!refusal && j >= n) refusal = 21;
     if (refusal) return (NdpRows){refusal, 0, 0};
     return (NdpRows){0, column_starts[j], column_starts[j + 1] - column_starts[j]};
+}
+
+/* ---- the family of a refusal */
+
+uint32_t plain_family(uint32_t number) {
+    if (number == 0 || number > 22) return NDP_NONE;
+    return number <= 9 ? NDP_MESH : number <= 19 ? NDP_FILE : number == 20 ? NDP_PROGRAM : NDP_QUESTION;
 }

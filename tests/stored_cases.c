@@ -1,0 +1,294 @@
+/* Writes what the program `cases` has to print: document 01's worked meshes and files, and meshes, files and questions that tell misreadings apart,
+ * each answered by the plain C program of bench/, with every lent buffer after it. The numbers of the cases are those of crates/cases/src. */
+#include "lists.h"
+#include "plain.h"
+#include <stdio.h>
+#include <string.h>
+
+/* What stands in a buffer before, in entries and in bytes. */
+enum { FILL = 60000, FILL_BYTE = 77 };
+enum { NONE = NDP_NO_PARENT, NODES = NDP_MAX_NODES, MOST_BYTES = 64, ALL = NODES + 2 };
+
+/* ---- the lent results of planning and reading */
+
+typedef struct {
+    size_t order, positions, sizes, parents, column_starts, rows;
+} Lengths;
+
+static uint16_t order[NODES + 1], positions[NODES + 1], sizes[NODES + 1], parents[NODES + 1], rows[32];
+static uint32_t column_starts[NODES + 2];
+
+static void fill(uint16_t *entries, size_t length) {
+    for (size_t i = 0; i < length; i++) entries[i] = FILL;
+}
+
+static void fill_results(void) {
+    fill(order, NODES + 1);
+    fill(positions, NODES + 1);
+    fill(sizes, NODES + 1);
+    fill(parents, NODES + 1);
+    fill(rows, 32);
+    for (size_t j = 0; j < NODES + 2; j++) column_starts[j] = FILL;
+}
+
+/* The last entries of a buffer in a line, all where it has fewer. */
+static void print_last(const uint16_t *entries, size_t length, size_t last) {
+    for (size_t i = length < last ? 0 : length - last; i < length; i++) printf(" %u", entries[i]);
+    printf("\n");
+}
+
+static void print_results(NdpPlan reply, Lengths l, size_t last) {
+    if (reply.refusal) printf("refused %u\n", reply.refusal);
+    else printf("accepted %u %u %u %llu\n", reply.nodes, reply.parts, reply.slots, (unsigned long long)reply.multiplications);
+    print_last(order, l.order, last);
+    print_last(positions, l.positions, last);
+    print_last(sizes, l.sizes, last);
+    print_last(parents, l.parents, last);
+    for (size_t j = l.column_starts < last ? 0 : l.column_starts - last; j < l.column_starts; j++) printf(" %u", column_starts[j]);
+    printf("\n");
+    print_last(rows, l.rows, last);
+}
+
+/* ---- meshes */
+
+static void plan_lent(int title, size_t n, List32 starts, List16 neighbours, Lengths l, size_t last) {
+    printf("case %d\n", title);
+    fill_results();
+    NdpPlan reply = plain_plan(n, starts.at, starts.length, neighbours.at, neighbours.length, order, l.order, positions, l.positions, sizes, l.sizes,
+                               parents, l.parents, column_starts, l.column_starts, rows, l.rows);
+    print_results(reply, l, last);
+}
+
+/* Any lists of n nodes, planned into buffers of this length, one more for the column starts, and rows of their length. */
+static void plan_lists(int title, size_t n, List32 starts, List16 neighbours, size_t length, size_t slots) {
+    plan_lent(title, n, starts, neighbours, (Lengths){length, length, length, length, length + 1, slots}, ALL);
+}
+
+static void plan_edges(int title, size_t n, const char *edges, size_t slots) {
+    Mesh mesh = mesh_of_edges(n, edges);
+    plan_lists(title, n, mesh.starts, mesh.neighbours, n + 1, slots);
+}
+
+/* n nodes without entries: the last three entries of each buffer, which has one more than 4,096 nodes need. */
+static void plan_bare(int title, size_t n) {
+    static const uint32_t starts[NODES + 2];
+    plan_lent(title, n, (List32){starts, n + 1}, EMPTY16, (Lengths){NODES + 1, NODES + 1, NODES + 1, NODES + 1, NODES + 2, 1}, 3);
+}
+
+static void worked_meshes(void) {
+    plan_edges(1, 1, "", 1);
+    plan_edges(2, 2, "", 1);
+    plan_edges(3, 3, "01 02 12", 2);
+    plan_edges(3, 3, "01 02 12", 3);
+    plan_edges(4, 5, "01 12 23 34", 6);
+    plan_edges(5, 4, "01 12 23 03", 6);
+    plan_edges(6, 4, "01 02 03", 4);
+    plan_lists(7, 0, LIST32(0), EMPTY16, 2, 1);
+    plan_lists(8, 2, LIST32(0, 1, 1), LIST16(1), 3, 1);
+    plan_lists(9, 2, LIST32(0, 2, 2), LIST16(5, 0), 3, 1);
+    plan_bare(13, 4096);
+    plan_bare(13, 4097);
+}
+
+/* The root search and the cut, then the order of the checks. */
+static void telling_meshes(void) {
+    plan_edges(21, 4, "01 02 03 12", 6);
+    plan_edges(22, 4, "01 02 13", 6);
+    plan_edges(23, 7, "01 02 13 14 25 26 35", 16);
+    plan_edges(24, 5, "01 02 03 04 12 13 24", 12);
+    plan_edges(25, 5, "01 02 13 14", 8);
+    plan_edges(26, 7, "03 04 12 14 23 36 45", 16);
+    plan_edges(27, 5, "01 02 03 04 14 34", 12);
+    plan_edges(28, 5, "01 02 03 04 13 34", 12);
+    plan_edges(29, 7, "01 02 03 12 13 24 25 34 35 46 56", 24);
+    plan_edges(30, 7, "01 12 23 34 45 56", 12);
+    plan_lists(41, 0, EMPTY32, EMPTY16, 2, 1);
+    plan_lists(42, 3, LIST32(0, 0, 0), EMPTY16, 4, 1);
+    plan_lists(43, 2, LIST32(0, 2, 2), LIST16(1, 0), 3, 1);
+    plan_lists(44, 3, LIST32(0, 2, 2, 2), LIST16(2, 1), 4, 1);
+    plan_lists(45, 2, LIST32(0, 1, 2), LIST16(0, 2), 3, 1);
+    plan_lists(46, 2, LIST32(0, 1, 2), LIST16(1, 0), 1, 0);
+    plan_lists(47, 2, LIST32(0, 1, 2), LIST16(1, 0), 2, 0);
+}
+
+/* ---- files */
+
+typedef struct {
+    uint8_t bytes[MOST_BYTES];
+    size_t length;
+} File;
+
+/* The file with another number of two bytes there. */
+static File changed(File file, size_t at, uint16_t x) {
+    file.bytes[at] = x & 255;
+    file.bytes[at + 1] = x >> 8;
+    return file;
+}
+
+/* The first bytes of a file, or all of them and zeros. */
+static File resized(File file, size_t length) {
+    file.length = length;
+    return file;
+}
+
+/* The file of these counts, which are below 65,536, and of the numbers behind them. */
+static File file_of(uint16_t version, uint16_t n, uint16_t p, uint16_t s, List16 numbers) {
+    File file = {"NDP", 17 + 2 * numbers.length};
+    file = changed(changed(changed(changed(file, 3, version), 5, n), 9, p), 13, s);
+    for (size_t k = 0; k < numbers.length; k++) file = changed(file, 17 + 2 * k, numbers.at[k]);
+    return file;
+}
+
+/* Mesh 4's file: n stands at 5, the order at 17, sizes and parents at 27, row counts at 39, rows at 49. */
+static File path_file(void) {
+    return file_of(1, 5, 3, 5, LIST16(0, 1, 3, 4, 2, 2, 2, 2, 2, 1, NONE, 1, 1, 2, 1, 0, 1, 4, 3, 4, 4));
+}
+
+static void read_lent(int title, File file, Lengths l) {
+    printf("case %d\n", title);
+    fill_results();
+    NdpPlan reply = plain_read(file.bytes, file.length, order, l.order, positions, l.positions, sizes, l.sizes, parents, l.parents, column_starts,
+                               l.column_starts, rows, l.rows);
+    print_results(reply, l, ALL);
+}
+
+/* A file read into buffers that are long enough for mesh 4. */
+static void read_path(int title, File file) { read_lent(title, file, (Lengths){6, 6, 6, 6, 7, 6}); }
+
+static void write_lent(int title, size_t n, size_t p, size_t s, List16 lent_order, List16 lent_sizes, List16 lent_parents, List32 starts,
+                       List16 lent_rows, size_t room) {
+    uint8_t bytes[MOST_BYTES];
+    memset(bytes, FILL_BYTE, sizeof bytes);
+    NdpWritten reply = plain_write(n, p, s, lent_order.at, lent_order.length, lent_sizes.at, lent_sizes.length, lent_parents.at, lent_parents.length,
+                                   starts.at, starts.length, lent_rows.at, lent_rows.length, bytes, room);
+    printf("case %d\n", title);
+    if (reply.refusal) printf("refused %u\n", reply.refusal);
+    else printf("written %u\n", (unsigned)reply.length);
+    for (size_t k = 0; k < room; k++) printf(" %u", bytes[k]);
+    printf("\n");
+}
+
+/* Mesh 4's sizes and parents with these lists. */
+static void write_path(int title, List16 lent_order, List32 starts, List16 lent_rows, size_t room) {
+    write_lent(title, 5, 3, 5, lent_order, LIST16(2, 2, 1), LIST16(2, 2, NONE), starts, lent_rows, room);
+}
+
+static void worked_files(void) {
+    write_path(4, LIST16(0, 1, 3, 4, 2), LIST32(0, 1, 2, 4, 5, 5), LIST16(1, 4, 3, 4, 4), 59);
+    read_path(4, path_file());
+    read_lent(10, file_of(2, 0, 0, 0, EMPTY16), (Lengths){1, 1, 1, 1, 2, 1});
+    read_lent(10, resized(file_of(2, 0, 0, 0, EMPTY16), 16), (Lengths){1, 1, 1, 1, 2, 1});
+    read_lent(11, file_of(1, 3, 1, 2, LIST16(0, 1, 2, 3, NONE, 2, 0, 0, 1, 2)), (Lengths){4, 4, 4, 4, 5, 3});
+    read_lent(12, file_of(1, 2, 2, 1, LIST16(0, 1, 1, NONE, 1, NONE, 1, 0, 1)), (Lengths){3, 3, 3, 3, 4, 2});
+}
+
+/* Short buffers, then the order of the checks and sums that would be right if cut to two bytes. */
+static void telling_files(void) {
+    File f = path_file(), moved = changed(changed(f, 39, 2), 41, 0);
+    read_lent(51, f, (Lengths){5, 4, 5, 5, 6, 5});
+    read_lent(52, f, (Lengths){5, 5, 3, 5, 6, 5});
+    read_lent(53, f, (Lengths){5, 5, 4, 5, 6, 4});
+    read_lent(54, f, (Lengths){5, 5, 5, 5, 6, 4});
+    read_path(55, resized(changed(f, 1, 0), 16));
+    read_path(56, changed(changed(f, 1, 0), 3, 2));
+    read_path(57, changed(changed(f, 3, 2), 5, 0));
+    read_path(58, changed(f, 3, 2));
+    read_path(59, changed(f, 7, 1));
+    read_path(60, changed(f, 5, 0));
+    read_path(61, resized(f, 58));
+    read_path(61, resized(f, 60));
+    read_path(62, changed(changed(f, 27, 65535), 31, 5));
+    read_path(63, changed(changed(changed(changed(f, 43, 0), 45, 0), 39, 65535), 41, 6));
+    read_path(64, changed(changed(f, 39, 2), 49, 3));
+    read_path(65, changed(f, 49, 7));
+    read_path(66, changed(moved, 51, 3));
+    read_path(67, moved);
+    read_path(68, changed(changed(f, 19, 0), 27, 0));
+    read_path(69, changed(f, 33, 1));
+}
+
+/* Lists that are too short or longer than needed, wrong column starts, and little room. */
+static void writings(void) {
+    List16 path_order = LIST16(0, 1, 3, 4, 2), path_rows = LIST16(1, 4, 3, 4, 4);
+    List32 path_starts = LIST32(0, 1, 2, 4, 5, 5);
+    write_lent(71, 1, 1, 0, LIST16(0), LIST16(1), LIST16(NONE), LIST32(0, 0), EMPTY16, 26);
+    write_path(72, path_order, LIST32(0, 1, 2, 4, 5), path_rows, 59);
+    write_path(73, path_order, path_starts, LIST16(1, 4, 3, 4), 59);
+    write_path(74, LIST16(0, 1, 3, 4, 2, 0), LIST32(0, 1, 2, 4, 5, 5, 9), LIST16(1, 4, 3, 4, 4, 0), 61);
+    write_path(75, path_order, LIST32(1, 1, 2, 4, 5, 5), path_rows, 59);
+    write_path(76, path_order, LIST32(0, 1, 2, 4, 5, 6), path_rows, 59);
+    write_path(77, path_order, LIST32(0, 2, 1, 4, 5, 5), path_rows, 59);
+    write_path(78, path_order, path_starts, path_rows, 58);
+    write_path(79, LIST16(0, 1, 3, 4, 4), path_starts, path_rows, 0);
+}
+
+/* ---- questions */
+
+static void ask_pair(int title, size_t n, List32 starts, List16 lent_rows, size_t a, size_t b) {
+    NdpSlot reply = plain_slot(n, starts.at, starts.length, lent_rows.at, lent_rows.length, a, b);
+    printf("case %d\n", title);
+    if (reply.refusal) printf("refused %u\n", reply.refusal);
+    else if (reply.kind == NDP_SLOT) printf("slot %u\n", reply.slot);
+    else printf("%s\n", reply.kind == NDP_DIAGONAL ? "diagonal" : "no slot");
+}
+
+/* The companion's number, and the rows. */
+static void ask_column(int title, size_t n, List32 starts, List16 lent_rows, size_t j) {
+    NdpRows reply = plain_rows(n, starts.at, starts.length, lent_rows.at, lent_rows.length, j);
+    printf("case %d\n%u\n", title, reply.refusal);
+    for (uint32_t k = 0; k < reply.count; k++) printf(" %u", lent_rows.at[reply.start + k]);
+    printf("\n");
+}
+
+/* The layout of mesh 4: every kind of answer. */
+static void answered_questions(void) {
+    List32 starts = LIST32(0, 1, 2, 4, 5, 5);
+    List16 path_rows = LIST16(1, 4, 3, 4, 4);
+    ask_pair(81, 5, starts, path_rows, 0, 1);
+    ask_pair(81, 5, starts, path_rows, 4, 2);
+    ask_pair(81, 5, starts, path_rows, 4, 0);
+    ask_pair(81, 5, starts, path_rows, 3, 3);
+    for (size_t j = 1; j < 5; j++) ask_column(82, 5, starts, path_rows, j);
+    ask_column(83, 5, starts, path_rows, 5);
+    ask_pair(83, 5, starts, path_rows, 5, 5);
+    ask_pair(83, 5, starts, path_rows, 0, 5);
+    ask_pair(83, 5, starts, path_rows, 5, 0);
+}
+
+/* Layouts that are unsound, or look so. */
+static void telling_questions(void) {
+    List32 starts = LIST32(0, 1, 2, 4, 5, 5);
+    List16 path_rows = LIST16(1, 4, 3, 4, 4);
+    ask_pair(84, 5, LIST32(0, 1, 2, 4, 5, 5, 5), path_rows, 0, 1);
+    ask_column(84, 5, LIST32(0, 1, 2, 4, 5, 5, 5), path_rows, 2);
+    ask_pair(85, 5, starts, LIST16(1, 4, 3, 5, 4), 0, 1);
+    ask_column(85, 5, starts, LIST16(1, 4, 3, 5, 4), 0);
+    ask_pair(86, 5, starts, LIST16(2, 4, 3, 4, 4), 0, 2);
+    ask_pair(87, 5, starts, LIST16(1, 4, 3, 4, 4, 0, 9, 0), 4, 3);
+    ask_column(87, 5, starts, LIST16(1, 4, 3, 4, 4, 0, 9, 0), 3);
+    ask_pair(88, 0, EMPTY32, EMPTY16, 0, 0);
+    ask_pair(88, 4097, EMPTY32, EMPTY16, 0, 0);
+    ask_column(88, 0, LIST32(0), EMPTY16, 0);
+    ask_pair(89, 5, starts, LIST16(1, 4, 3, 4), 9, 9);
+    ask_column(89, 5, LIST32(0, 1, 2, 4, 3, 5), path_rows, 9);
+}
+
+/* Numbers at both ends of each family, and just outside. */
+static void families(void) {
+    static const char *const names[] = {"none", "mesh", "file", "program", "question"};
+    static const uint32_t numbers[] = {0, 1, 9, 10, 19, 20, 21, 22, 23};
+    printf("case 91\n");
+    for (size_t k = 0; k < sizeof numbers / sizeof *numbers; k++) printf("%u %s\n", numbers[k], names[plain_family(numbers[k])]);
+}
+
+int main(void) {
+    worked_meshes();
+    telling_meshes();
+    worked_files();
+    telling_files();
+    writings();
+    answered_questions();
+    telling_questions();
+    families();
+    return 0;
+}
