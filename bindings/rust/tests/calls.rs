@@ -2,21 +2,21 @@
 //! answer, the memory that was written and the input are compared with what is expected.
 
 use crate::guarded::Guarded;
-use crate::independent::{self, FileParts, MeshLists, PairAnswer, Planned, Room};
 use ndplan::ffi::{self, NdpPlan, NdpRows, NdpSlot, NdpWritten};
 use ndplan::{Buffers, Counts, Layout, Mesh, Pair, PlanView, Refusal};
+use plain::{FileParts, MeshLists, PairAnswer, Planned, Room};
 
 /// What is expected: a plan, or the number of a refusal.
 pub type Expected = Result<Planned, u32>;
 
 /// Room for exactly a plan of n nodes and so many slots.
 pub fn exact_room(n: usize, slots: usize) -> Room {
-    Room { order: n, places: n, sizes: n, fathers: n, column_starts: n + 1, rows: slots }
+    Room { order: n, positions: n, sizes: n, parents: n, column_starts: n + 1, rows: slots }
 }
 
 /// More room than needed, by another number of entries in each buffer.
 pub fn longer_room(n: usize, slots: usize) -> Room {
-    Room { order: n + 3, places: n + 1, sizes: n + 6, fathers: n + 2, column_starts: n + 6, rows: slots + 7 }
+    Room { order: n + 3, positions: n + 1, sizes: n + 6, parents: n + 2, column_starts: n + 6, rows: slots + 7 }
 }
 
 /// Room for every plan of n nodes, or of the most nodes where n is larger.
@@ -28,9 +28,9 @@ pub fn ample_room(n: usize) -> Room {
 /// The six lent results.
 struct Lent {
     order: Guarded<u16>,
-    places: Guarded<u16>,
+    positions: Guarded<u16>,
     sizes: Guarded<u16>,
-    fathers: Guarded<u16>,
+    parents: Guarded<u16>,
     column_starts: Guarded<u32>,
     rows: Guarded<u16>,
 }
@@ -39,9 +39,9 @@ impl Lent {
     fn of(room: &Room) -> Lent {
         Lent {
             order: Guarded::room(room.order),
-            places: Guarded::room(room.places),
+            positions: Guarded::room(room.positions),
             sizes: Guarded::room(room.sizes),
-            fathers: Guarded::room(room.fathers),
+            parents: Guarded::room(room.parents),
             column_starts: Guarded::room(room.column_starts),
             rows: Guarded::room(room.rows),
         }
@@ -50,9 +50,9 @@ impl Lent {
     fn buffers(&mut self) -> Buffers<'_> {
         Buffers {
             order: self.order.lent(),
-            positions: self.places.lent(),
+            positions: self.positions.lent(),
             sizes: self.sizes.lent(),
-            parents: self.fathers.lent(),
+            parents: self.parents.lent(),
             column_starts: self.column_starts.lent(),
             rows: self.rows.lent(),
         }
@@ -63,17 +63,17 @@ impl Lent {
         let nothing = Planned::default();
         let front = expected.as_ref().unwrap_or(&nothing);
         self.order.check(&front.order, "order");
-        self.places.check(&front.places, "positions");
+        self.positions.check(&front.positions, "positions");
         self.sizes.check(&front.sizes, "sizes");
-        self.fathers.check(&front.fathers, "parents");
+        self.parents.check(&front.parents, "parents");
         self.column_starts.check(&front.column_starts, "column starts");
         self.rows.check(&front.rows, "rows");
     }
 }
 
-/// Plans a mesh and compares with the independent planner, whose answer is given back.
+/// Plans a mesh and compares with the plain planner, whose answer is given back.
 pub fn plan(mesh: &MeshLists, room: &Room) -> Expected {
-    let expected = independent::plan(mesh, room);
+    let expected = plain::plan(mesh, room);
     plan_expecting(mesh, room, &expected);
     expected
 }
@@ -107,12 +107,12 @@ fn raw_plan(n: usize, starts: &mut Guarded<u32>, neighbours: &mut Guarded<u16>, 
             neighbours.len(),
             lent.order.pointer(),
             lent.order.len(),
-            lent.places.pointer(),
-            lent.places.len(),
+            lent.positions.pointer(),
+            lent.positions.len(),
             lent.sizes.pointer(),
             lent.sizes.len(),
-            lent.fathers.pointer(),
-            lent.fathers.len(),
+            lent.parents.pointer(),
+            lent.parents.len(),
             lent.column_starts.pointer(),
             lent.column_starts.len(),
             lent.rows.pointer(),
@@ -121,9 +121,9 @@ fn raw_plan(n: usize, starts: &mut Guarded<u32>, neighbours: &mut Guarded<u16>, 
     }
 }
 
-/// Reads a file and compares with the independent reader, whose answer is given back.
+/// Reads a file and compares with the plain reader, whose answer is given back.
 pub fn read(file: &[u8], room: &Room) -> Expected {
-    let expected = independent::read(file, room);
+    let expected = plain::read(file, room);
     read_expecting(file, room, &expected);
     expected
 }
@@ -151,12 +151,12 @@ fn raw_read(bytes: &mut Guarded<u8>, lent: &mut Lent) -> NdpPlan {
             bytes.len(),
             lent.order.pointer(),
             lent.order.len(),
-            lent.places.pointer(),
-            lent.places.len(),
+            lent.positions.pointer(),
+            lent.positions.len(),
             lent.sizes.pointer(),
             lent.sizes.len(),
-            lent.fathers.pointer(),
-            lent.fathers.len(),
+            lent.parents.pointer(),
+            lent.parents.len(),
             lent.column_starts.pointer(),
             lent.column_starts.len(),
             lent.rows.pointer(),
@@ -192,9 +192,9 @@ fn plan_reply(expected: &Expected) -> NdpPlan {
     }
 }
 
-/// Writes into an output of this length and compares with the independent writer, whose answer is given back.
+/// Writes into an output of this length and compares with the plain writer, whose answer is given back.
 pub fn write(lent: &FileParts, room: usize) -> Result<Vec<u8>, u32> {
-    let expected = independent::write(lent, room);
+    let expected = plain::write(lent, room);
     write_expecting(lent, room, &expected);
     expected
 }
@@ -220,7 +220,7 @@ pub fn write_expecting(parts: &FileParts, room: usize, expected: &Result<Vec<u8>
 struct LentPlan {
     order: Guarded<u16>,
     sizes: Guarded<u16>,
-    fathers: Guarded<u16>,
+    parents: Guarded<u16>,
     column_starts: Guarded<u32>,
     rows: Guarded<u16>,
 }
@@ -230,7 +230,7 @@ impl LentPlan {
         LentPlan {
             order: Guarded::holding(&parts.order),
             sizes: Guarded::holding(&parts.sizes),
-            fathers: Guarded::holding(&parts.fathers),
+            parents: Guarded::holding(&parts.parents),
             column_starts: Guarded::holding(&parts.column_starts),
             rows: Guarded::holding(&parts.rows),
         }
@@ -243,7 +243,7 @@ impl LentPlan {
             slots: parts.s,
             order: self.order.shown(),
             sizes: self.sizes.shown(),
-            parents: self.fathers.shown(),
+            parents: self.parents.shown(),
             column_starts: self.column_starts.shown(),
             rows: self.rows.shown(),
         }
@@ -260,8 +260,8 @@ impl LentPlan {
                 self.order.len(),
                 self.sizes.pointer(),
                 self.sizes.len(),
-                self.fathers.pointer(),
-                self.fathers.len(),
+                self.parents.pointer(),
+                self.parents.len(),
                 self.column_starts.pointer(),
                 self.column_starts.len(),
                 self.rows.pointer(),
@@ -275,7 +275,7 @@ impl LentPlan {
     fn check(&self, parts: &FileParts) {
         self.order.check(&parts.order, "lent order");
         self.sizes.check(&parts.sizes, "lent sizes");
-        self.fathers.check(&parts.fathers, "lent parents");
+        self.parents.check(&parts.parents, "lent parents");
         self.column_starts.check(&parts.column_starts, "lent column starts");
         self.rows.check(&parts.rows, "lent rows");
     }
@@ -297,10 +297,10 @@ impl LentLayout {
         Layout { nodes: self.n, column_starts: self.starts.shown(), rows: self.rows.shown() }
     }
 
-    /// Asks for a pair and compares with the independent answer, which is given back.
+    /// Asks for a pair and compares with the plain program's answer, which is given back.
     pub fn pair(&mut self, a: usize, b: usize) -> Result<PairAnswer, u32> {
         let (starts, rows) = (self.starts.shown().to_vec(), self.rows.shown().to_vec());
-        let expected = independent::pair(self.n, &starts, &rows, a, b);
+        let expected = plain::pair(self.n, &starts, &rows, a, b);
         let (answer, reply) = match expected {
             Err(number) => (Err(Refusal(number)), NdpSlot { refusal: number, kind: 0, slot: 0 }),
             Ok(PairAnswer::Slot(slot)) => (Ok(Pair::Slot(slot)), NdpSlot { refusal: 0, kind: 1, slot }),
@@ -318,11 +318,11 @@ impl LentLayout {
         expected
     }
 
-    /// Asks for a column's rows and compares with the independent answer, which is given back. The slice that the wrapper
+    /// Asks for a column's rows and compares with the plain program's answer, which is given back. The slice that the wrapper
     /// shows is a part of the lent rows, at the column's own start.
     pub fn column(&mut self, j: usize) -> Result<(u32, u32), u32> {
         let (starts, rows) = (self.starts.shown().to_vec(), self.rows.shown().to_vec());
-        let expected = independent::column(self.n, &starts, &rows, j);
+        let expected = plain::column(self.n, &starts, &rows, j);
         let shown = ndplan::rows(&self.layout(), j);
         let first = self.rows.shown().as_ptr();
         let span = shown.map(|part| ((part.as_ptr() as usize - first as usize) as u32 / 2, part.len() as u32));
@@ -351,7 +351,7 @@ pub fn parts_of(plan: &Planned) -> FileParts {
         s: plan.rows.len(),
         order: plan.order.clone(),
         sizes: plan.sizes.clone(),
-        fathers: plan.fathers.clone(),
+        parents: plan.parents.clone(),
         column_starts: plan.column_starts.clone(),
         rows: plan.rows.clone(),
     }
@@ -362,8 +362,8 @@ pub fn owned_expecting(owned: &Result<ndplan::Plan, Refusal>, expected: &Expecte
     match (owned, expected) {
         (Ok(owned), Ok(plan)) => {
             assert_eq!(Ok(owned.counts()), counts_of(expected));
-            assert!(owned.order() == plan.order && owned.positions() == plan.places, "owned order or positions");
-            assert!(owned.sizes() == plan.sizes && owned.parents() == plan.fathers, "owned sizes or parents");
+            assert!(owned.order() == plan.order && owned.positions() == plan.positions, "owned order or positions");
+            assert!(owned.sizes() == plan.sizes && owned.parents() == plan.parents, "owned sizes or parents");
             assert!(owned.column_starts() == plan.column_starts && owned.rows() == plan.rows, "owned layout");
         }
         _ => assert_eq!(owned.as_ref().err(), expected.as_ref().err().map(|number| Refusal(*number)).as_ref()),

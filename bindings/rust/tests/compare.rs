@@ -1,11 +1,11 @@
-//! Compares the library, through the wrapper and through the C interface, with a planner written apart from it
-//! (`independent`) and with the numbers of document 01. Every function gets valid and damaged input, and all lent memory is
+//! Compares the library, through the wrapper and through the C interface, with a planner written apart from it,
+//! the plain C program of `bench/` (the package `plain`), and with the numbers of document 01. Every function gets valid and damaged input, and all lent memory is
 //! compared after every call.
 
 mod calls;
 mod guarded;
-mod independent;
 mod meshes;
+mod paths;
 mod random;
 
 mod damaged_files;

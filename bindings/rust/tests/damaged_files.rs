@@ -1,21 +1,22 @@
 //! Damaged files: bytes, words, fields, lengths and versions.
 
 use crate::calls::{self, ample_room, exact_room, longer_room, owned_expecting, parts_of};
-use crate::independent::{self, eliminate, MeshLists, Planned, Room};
 use crate::meshes;
+use crate::paths::reached_through_earlier;
 use crate::random::Random;
 use ndplan::Plan;
+use plain::{MeshLists, Planned, Room};
 use std::collections::BTreeSet;
 
 /// A plan that is sound and that no dissection gives: a mesh eliminated in a random order, in one part or in a chain of parts.
 pub fn other_plan(mesh: &MeshLists, random: &mut Random) -> Planned {
     let mut order: Vec<u16> = (0..mesh.n as u16).collect();
     random.shuffle(&mut order);
-    let mut places = vec![0; mesh.n];
+    let mut positions = vec![0; mesh.n];
     for (position, node) in order.iter().enumerate() {
-        places[*node as usize] = position as u16;
+        positions[*node as usize] = position as u16;
     }
-    let columns = eliminate(mesh, &order, &places);
+    let columns: Vec<Vec<u16>> = (0..mesh.n).map(|j| reached_through_earlier(mesh, &order, &positions, j)).collect();
     let mut column_starts = vec![0];
     for column in &columns {
         column_starts.push(column_starts[column_starts.len() - 1] + column.len() as u32);
@@ -28,14 +29,15 @@ pub fn other_plan(mesh: &MeshLists, random: &mut Random) -> Planned {
         }
     }
     let last = sizes.len() as u16 - 1;
-    let fathers = (0..=last).map(|part| if part == last { 65535 } else { part + 1 }).collect();
+    let parents = (0..=last).map(|part| if part == last { 65535 } else { part + 1 }).collect();
     let multiplications = columns.iter().map(|rows| (rows.len() * (rows.len() + 3) / 2) as u64).sum();
-    Planned { order, places, sizes, fathers, column_starts, rows: columns.concat(), multiplications }
+    Planned { order, positions, sizes, parents, column_starts, rows: columns.concat(), multiplications }
 }
 
-/// The file of a plan, by the independent writer.
+/// The file of a plan, by the plain writer.
 fn file_of(plan: &Planned) -> Vec<u8> {
-    independent::write(&parts_of(plan), usize::MAX).unwrap()
+    let length = 17 + 4 * plan.order.len() + 4 * plan.sizes.len() + 2 * plan.rows.len();
+    plain::write(&parts_of(plan), length).unwrap()
 }
 
 /// Small files of both kinds of plan.
@@ -66,7 +68,8 @@ fn compare(file: &[u8], [n, _, s]: [usize; 3], random: &mut Random, met: &mut BT
         _ => Room { sizes: n - 1, ..exact },
     };
     met.extend(calls::read(file, &room).err());
-    owned_expecting(&Plan::read(file), &independent::read(file, &ample_room(4096)));
+    // No file has more nodes or slots than bytes.
+    owned_expecting(&Plan::read(file), &plain::read(file, &longer_room(file.len(), file.len())));
 }
 
 /// Every length below the file's own, and a few above it.

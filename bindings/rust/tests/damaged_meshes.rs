@@ -1,10 +1,10 @@
 //! Damaged meshes and short buffers.
 
 use crate::calls::{self, ample_room, exact_room, longer_room, owned_expecting};
-use crate::independent::{self, MeshLists, Room};
 use crate::meshes::{self, from_lists, lists_of};
 use crate::random::Random;
 use ndplan::{Mesh, Plan};
+use plain::{MeshLists, Room};
 use std::collections::BTreeSet;
 
 /// A mesh with one damage, which the check of this number finds and no earlier one does. The mesh has an edge, and damages
@@ -64,9 +64,9 @@ fn room_for(checks: [u32; 2], n: usize, slots: usize, random: &mut Random) -> Ro
         let short = random.below(n);
         match random.below(5) {
             0 => room.order = short,
-            1 => room.places = short,
+            1 => room.positions = short,
             2 => room.sizes = short,
-            3 => room.fathers = short,
+            3 => room.parents = short,
             _ => room.column_starts = random.pick(&[short, n]),
         }
     }
@@ -139,7 +139,7 @@ fn random_lists() {
         let room = room_for([0, random.pick(&[0, 0, 8])], n, 10, &mut random);
         met.extend(calls::plan(&mesh, &room).err());
         let owned = Plan::of(&Mesh { nodes: mesh.n, starts: &mesh.starts, neighbours: &mesh.neighbours });
-        owned_expecting(&owned, &independent::plan(&mesh, &ample_room(n)));
+        owned_expecting(&owned, &plain::plan(&mesh, &ample_room(n)));
     }
     assert_eq!(met, BTreeSet::from([2, 4, 5, 6, 7, 8]));
 }

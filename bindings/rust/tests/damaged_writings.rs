@@ -2,9 +2,9 @@
 
 use crate::calls::{self, ample_room, parts_of};
 use crate::damaged_files::{border, other_plan};
-use crate::independent::FileParts;
 use crate::meshes;
 use crate::random::Random;
+use plain::FileParts;
 use std::collections::BTreeSet;
 
 fn plans(count: usize, size: usize, random: &mut Random) -> Vec<FileParts> {
@@ -29,7 +29,7 @@ fn change_an_entry(plan: &mut FileParts, random: &mut Random) {
     let list = match random.below(5) {
         0 => &mut plan.order,
         1 => &mut plan.sizes,
-        2 => &mut plan.fathers,
+        2 => &mut plan.parents,
         3 if s > 0 => &mut plan.rows,
         _ => {
             let at = random.below(n + 1);
@@ -45,7 +45,7 @@ fn change_an_entry(plan: &mut FileParts, random: &mut Random) {
 
 /// Slices longer than their counts, with numbers behind that would be refused.
 fn lengthen(plan: &mut FileParts, random: &mut Random) {
-    for list in [&mut plan.order, &mut plan.sizes, &mut plan.fathers, &mut plan.rows] {
+    for list in [&mut plan.order, &mut plan.sizes, &mut plan.parents, &mut plan.rows] {
         list.extend((0..random.below(4)).map(|_| 65000));
     }
     plan.column_starts.extend((0..random.below(4)).map(|_| u32::MAX));
@@ -56,7 +56,7 @@ fn shorten(plan: &mut FileParts, random: &mut Random) {
     let list = match random.below(5) {
         0 => &mut plan.order,
         1 => &mut plan.sizes,
-        2 => &mut plan.fathers,
+        2 => &mut plan.parents,
         3 => &mut plan.rows,
         _ => return plan.column_starts.truncate(random.below(plan.n + 1)),
     };

@@ -1,13 +1,12 @@
 //! The family of a number.
 
-use crate::independent;
 use ndplan::{ffi, Family, Refusal};
 
 #[test]
 fn families() {
     let large = [255, 256, 256 + 5, 65535, 65536, 65536 + 15, 1 << 31, u32::MAX - 1, u32::MAX];
     for number in (0..=30).chain(large) {
-        let expected = independent::family(number);
+        let expected = plain::family(number);
         // SAFETY: the function takes every number.
         assert_eq!(unsafe { ffi::ndp_family(number) }, expected, "family of {number}");
         let named = [Family::None, Family::Mesh, Family::File, Family::Program, Family::Question][expected as usize];

@@ -1,10 +1,10 @@
 //! Meshes and files at the limits.
 
 use crate::calls::{self, ample_room, exact_room, longer_room, parts_of, read_expecting, write_expecting};
-use crate::independent::{components, MeshLists, Planned};
 use crate::meshes;
 use crate::plans::{compare_paths, compare_round_trip};
 use crate::random::Random;
+use plain::{MeshLists, Planned};
 
 fn compare(mesh: &MeshLists) -> Planned {
     let planned = calls::plan(mesh, &ample_room(mesh.n)).unwrap();
@@ -35,8 +35,8 @@ fn many_components() {
     let mesh = meshes::side_by_side(&(1..=90).map(meshes::path).collect::<Vec<_>>());
     assert_eq!(mesh.n, 4095);
     let planned = compare(&mesh);
-    let trees = planned.fathers.iter().filter(|father| **father == 65535).count();
-    assert_eq!((trees, components(&mesh, &(0..4095).collect::<Vec<_>>()).len()), (90, 90));
+    let trees = planned.parents.iter().filter(|parent| **parent == 65535).count();
+    assert_eq!(trees, 90);
 }
 
 /// A mesh with exactly 65,536 entries is accepted; with one pair more, it is refused with 3.
@@ -64,9 +64,9 @@ fn every_slot_of_4096_nodes() {
     let numbers: Vec<u16> = (0..n as u16).collect();
     let planned = Planned {
         order: numbers.clone(),
-        places: numbers,
+        positions: numbers,
         sizes: vec![n as u16],
-        fathers: vec![65535],
+        parents: vec![65535],
         column_starts: (0..=n).map(|j| (j * (2 * n - 1 - j) / 2) as u32).collect(),
         rows: (0..n as u16).flat_map(|j| j + 1..n as u16).collect(),
         multiplications: 11_461_632_000,
@@ -85,6 +85,6 @@ fn header(n: usize, p: usize, s: usize) -> Vec<u8> {
 /// The words of a plan with one part.
 fn contents(planned: &Planned) -> Vec<u8> {
     let counts: Vec<u16> = planned.column_starts.windows(2).map(|pair| (pair[1] - pair[0]) as u16).collect();
-    let words = [&planned.order[..], &planned.sizes, &planned.fathers, &counts, &planned.rows].concat();
+    let words = [&planned.order[..], &planned.sizes, &planned.parents, &counts, &planned.rows].concat();
     words.iter().flat_map(|word| word.to_le_bytes()).collect()
 }

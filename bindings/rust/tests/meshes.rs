@@ -1,7 +1,7 @@
 //! Generated meshes.
 
-use crate::independent::MeshLists;
 use crate::random::Random;
+use plain::MeshLists;
 use std::collections::BTreeSet;
 
 /// The mesh with these lists, whether or not they are in order.

@@ -1,14 +1,15 @@
 //! Generated meshes: planned, written, read back and asked about.
 
 use crate::calls::{self, ample_room, exact_room, longer_room, owned_expecting, parts_of, Expected, LentLayout};
-use crate::independent::{self, reached_through_earlier, MeshLists, Planned, Room};
 use crate::meshes;
+use crate::paths::reached_through_earlier;
 use crate::random::Random;
 use ndplan::{Mesh, Plan};
+use plain::{MeshLists, Planned, Room};
 
 /// Plans an accepted mesh in exact and in longer buffers, and refuses buffers that are one entry too short.
 fn compare_planning(mesh: &MeshLists) -> Planned {
-    let expected = independent::plan(mesh, &ample_room(mesh.n));
+    let expected = plain::plan(mesh, &ample_room(mesh.n));
     let planned = expected.clone().unwrap();
     let (n, slots) = (mesh.n, planned.rows.len());
     for room in [exact_room(n, slots), longer_room(n, slots)] {
@@ -27,9 +28,9 @@ fn short_rooms(n: usize, slots: usize) -> Vec<(Room, u32)> {
     let exact = exact_room(n, slots);
     let mut short = vec![
         (Room { order: n - 1, ..exact }, 8),
-        (Room { places: n - 1, ..exact }, 8),
+        (Room { positions: n - 1, ..exact }, 8),
         (Room { sizes: n - 1, ..exact }, 8),
-        (Room { fathers: n - 1, rows: 0, ..exact }, 8),
+        (Room { parents: n - 1, rows: 0, ..exact }, 8),
         (Room { column_starts: n, ..longer_room(n, slots) }, 8),
     ];
     if slots > 0 {
@@ -42,7 +43,7 @@ fn short_rooms(n: usize, slots: usize) -> Vec<(Room, u32)> {
 pub fn compare_paths(mesh: &MeshLists, planned: &Planned) {
     for j in 0..mesh.n {
         let rows = &planned.rows[planned.column_starts[j] as usize..planned.column_starts[j + 1] as usize];
-        assert!(rows == reached_through_earlier(mesh, &planned.order, &planned.places, j), "column {j} by paths");
+        assert!(rows == reached_through_earlier(mesh, &planned.order, &planned.positions, j), "column {j} by paths");
     }
 }
 
@@ -112,7 +113,7 @@ fn all_small_meshes() {
 #[test]
 fn generated_meshes() {
     let mut random = Random(2);
-    for (count, size) in [(3000, 24), (500, 120), (100, 400), (30, 900)] {
+    for (count, size) in [(6000, 24), (1000, 120), (200, 400), (60, 900)] {
         for _ in 0..count {
             let mesh = meshes::any(size, &mut random);
             compare_all(&mesh, &mut random);

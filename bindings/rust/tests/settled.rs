@@ -1,9 +1,9 @@
 //! Inputs on which other readings of document 01 differ, with the answers of the reading taken (docs/DECISIONS.md). The
-//! numbers stand here by themselves, so that they do not depend on the independent planner's reading.
+//! numbers stand here by themselves, so that they do not depend on the plain planner's reading.
 
 use crate::calls::{ample_room, plan, plan_expecting, read_expecting, write_expecting, LentLayout};
-use crate::independent::{FileParts, MeshLists, PairAnswer};
 use crate::meshes::{from_edges, from_lists};
+use plain::{FileParts, MeshLists, PairAnswer};
 
 /// The mesh whose edges are pairs of digits.
 fn mesh(n: usize, edges: &[&str]) -> MeshLists {
@@ -123,14 +123,14 @@ fn the_writer_needs_each_slice() {
         s: 1,
         order: vec![1, 0],
         sizes: vec![2],
-        fathers: vec![65535],
+        parents: vec![65535],
         column_starts: vec![0, 1, 1],
         rows: vec![1],
     };
     let refused = |parts: FileParts| write_expecting(&parts, 100, &Err(13));
     refused(FileParts { order: vec![1], ..one.clone() });
     refused(FileParts { sizes: vec![], ..one.clone() });
-    refused(FileParts { fathers: vec![], ..one.clone() });
+    refused(FileParts { parents: vec![], ..one.clone() });
     refused(FileParts { column_starts: vec![0, 1], ..one.clone() });
     refused(FileParts { rows: vec![], ..one.clone() });
     refused(FileParts { s: 2, rows: vec![1, 1], ..one.clone() });

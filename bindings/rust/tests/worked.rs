@@ -1,8 +1,8 @@
 //! The meshes worked through in document 01, with its numbers.
 
 use crate::calls::{exact_room, longer_room, parts_of, plan_expecting, read_expecting, write_expecting, LentLayout};
-use crate::independent::{FileParts, MeshLists, PairAnswer, Planned, Room};
 use crate::meshes::{clique, from_edges, from_lists, path, ring, star};
+use plain::{FileParts, MeshLists, PairAnswer, Planned, Room};
 
 const NONE: u16 = 65535;
 
@@ -23,8 +23,8 @@ fn expect_plan(mesh: &MeshLists, plan: &Planned) {
 /// The bytes of a file, field after field.
 fn file_bytes(plan: &FileParts) -> Vec<u8> {
     let mut words: Vec<u16> = plan.order.clone();
-    for (size, father) in plan.sizes.iter().zip(&plan.fathers) {
-        words.extend([*size, *father]);
+    for (size, parent) in plan.sizes.iter().zip(&plan.parents) {
+        words.extend([*size, *parent]);
     }
     words.extend(plan.column_starts.windows(2).map(|pair| (pair[1] - pair[0]) as u16));
     words.extend(&plan.rows);
@@ -34,7 +34,7 @@ fn file_bytes(plan: &FileParts) -> Vec<u8> {
 
 fn planned(
     order: &[u16],
-    places: &[u16],
+    positions: &[u16],
     parts: &[(u16, u16)],
     starts: &[u32],
     rows: &[u16],
@@ -42,9 +42,9 @@ fn planned(
 ) -> Planned {
     Planned {
         order: order.to_vec(),
-        places: places.to_vec(),
+        positions: positions.to_vec(),
         sizes: parts.iter().map(|part| part.0).collect(),
-        fathers: parts.iter().map(|part| part.1).collect(),
+        parents: parts.iter().map(|part| part.1).collect(),
         column_starts: starts.to_vec(),
         rows: rows.to_vec(),
         multiplications,
@@ -145,11 +145,11 @@ fn expect_contents_refused(parts: FileParts, number: u32) {
 fn meshes_11_and_12_are_refused() {
     let order = |n| (0..n).collect();
     let (n, p, s) = (3, 1, 2);
-    let (sizes, fathers, column_starts, rows) = (vec![3], vec![NONE], vec![0, 2, 2, 2], vec![1, 2]);
-    expect_contents_refused(FileParts { n, p, s, order: order(3), sizes, fathers, column_starts, rows }, 19);
+    let (sizes, parents, column_starts, rows) = (vec![3], vec![NONE], vec![0, 2, 2, 2], vec![1, 2]);
+    expect_contents_refused(FileParts { n, p, s, order: order(3), sizes, parents, column_starts, rows }, 19);
     let (n, p, s) = (2, 2, 1);
-    let (sizes, fathers, column_starts, rows) = (vec![1, 1], vec![NONE, NONE], vec![0, 1, 1], vec![1]);
-    expect_contents_refused(FileParts { n, p, s, order: order(2), sizes, fathers, column_starts, rows }, 18);
+    let (sizes, parents, column_starts, rows) = (vec![1, 1], vec![NONE, NONE], vec![0, 1, 1], vec![1]);
+    expect_contents_refused(FileParts { n, p, s, order: order(2), sizes, parents, column_starts, rows }, 18);
 }
 
 #[test]
@@ -167,9 +167,9 @@ fn short_buffers_of_mesh_4() {
     let exact = exact_room(5, 5);
     let short = [
         (Room { order: 4, ..exact }, 8),
-        (Room { places: 4, ..exact }, 8),
+        (Room { positions: 4, ..exact }, 8),
         (Room { sizes: 4, ..exact }, 8),
-        (Room { fathers: 4, ..exact }, 8),
+        (Room { parents: 4, ..exact }, 8),
         (Room { column_starts: 5, ..exact }, 8),
         (Room { rows: 4, ..exact }, 9),
         (Room { rows: 4, sizes: 3, ..exact }, 8),

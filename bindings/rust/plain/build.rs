@@ -1,0 +1,34 @@
+//! Compiles the plain C program of `bench/` into an archive of its own.
+use std::path::{Path, PathBuf};
+use std::process::Command;
+use std::{env, fs};
+
+const SOURCES: [&str; 2] = ["bench/plain_plan.c", "bench/plain_file.c"];
+const HEADERS: [&str; 2] = ["bench/plain.h", "include/ndplan.h"];
+
+fn main() {
+    let root = Path::new(&env::var("CARGO_MANIFEST_DIR").unwrap()).join("../../..");
+    let out = PathBuf::from(env::var("OUT_DIR").unwrap());
+    for file in SOURCES.iter().chain(&HEADERS) {
+        println!("cargo:rerun-if-changed={}", root.join(file).display());
+    }
+    let objects: Vec<PathBuf> = SOURCES.iter().map(|source| compiled(&root, &out, source)).collect();
+    let archive = out.join("libplain_c.a");
+    let _ = fs::remove_file(&archive);
+    run(Command::new("ar").arg("rcs").arg(&archive).args(&objects));
+    println!("cargo:rustc-link-search=native={}", out.display());
+    println!("cargo:rustc-link-lib=static=plain_c");
+}
+
+fn compiled(root: &Path, out: &Path, source: &str) -> PathBuf {
+    let object = out.join(Path::new(source).with_extension("o").file_name().unwrap());
+    let mut command = Command::new(env::var("CC").unwrap_or("cc".into()));
+    command.args(["-c", "-std=c11", "-O2", "-Wall", "-Wextra"]).arg(root.join(source)).arg("-o").arg(&object);
+    run(command.arg("-I").arg(root.join("include")).arg("-I").arg(root.join("bench")));
+    object
+}
+
+fn run(command: &mut Command) {
+    let status = command.status().unwrap_or_else(|error| panic!("{command:?}: {error}"));
+    assert!(status.success(), "{command:?}: {status}");
+}

@@ -1,0 +1,108 @@
+//! The plain C program's functions, as `bench/plain.h` declares them, with the library's replies.
+
+#[repr(C)]
+pub struct NdpPlan {
+    pub refusal: u32,
+    pub nodes: u32,
+    pub parts: u32,
+    pub slots: u32,
+    pub multiplications: u64,
+}
+
+#[repr(C)]
+pub struct NdpWritten {
+    pub refusal: u32,
+    pub length: u64,
+}
+
+#[repr(C)]
+pub struct NdpSlot {
+    pub refusal: u32,
+    pub kind: u32,
+    pub slot: u32,
+}
+
+#[repr(C)]
+pub struct NdpRows {
+    pub refusal: u32,
+    pub start: u32,
+    pub count: u32,
+}
+
+extern "C" {
+    pub fn plain_plan(
+        n: usize,
+        starts: *const u32,
+        starts_length: usize,
+        neighbours: *const u16,
+        neighbours_length: usize,
+        order: *mut u16,
+        order_length: usize,
+        positions: *mut u16,
+        positions_length: usize,
+        sizes: *mut u16,
+        sizes_length: usize,
+        parents: *mut u16,
+        parents_length: usize,
+        column_starts: *mut u32,
+        column_starts_length: usize,
+        rows: *mut u16,
+        rows_length: usize,
+    ) -> NdpPlan;
+
+    pub fn plain_read(
+        file: *const u8,
+        file_length: usize,
+        order: *mut u16,
+        order_length: usize,
+        positions: *mut u16,
+        positions_length: usize,
+        sizes: *mut u16,
+        sizes_length: usize,
+        parents: *mut u16,
+        parents_length: usize,
+        column_starts: *mut u32,
+        column_starts_length: usize,
+        rows: *mut u16,
+        rows_length: usize,
+    ) -> NdpPlan;
+
+    pub fn plain_write(
+        n: usize,
+        p: usize,
+        s: usize,
+        order: *const u16,
+        order_length: usize,
+        sizes: *const u16,
+        sizes_length: usize,
+        parents: *const u16,
+        parents_length: usize,
+        column_starts: *const u32,
+        column_starts_length: usize,
+        rows: *const u16,
+        rows_length: usize,
+        file: *mut u8,
+        file_length: usize,
+    ) -> NdpWritten;
+
+    pub fn plain_slot(
+        n: usize,
+        column_starts: *const u32,
+        column_starts_length: usize,
+        rows: *const u16,
+        rows_length: usize,
+        a: usize,
+        b: usize,
+    ) -> NdpSlot;
+
+    pub fn plain_rows(
+        n: usize,
+        column_starts: *const u32,
+        column_starts_length: usize,
+        rows: *const u16,
+        rows_length: usize,
+        j: usize,
+    ) -> NdpRows;
+
+    pub fn plain_family(number: u32) -> u32;
+}
