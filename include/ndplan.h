@@ -1,18 +1,38 @@
-/* The planner's C interface, in libndplan.a (`rt staticlib ndplan`).
+/* The planner's C interface, in libndplan.a (`rt staticlib ndplan`, for x86-64). It cuts a mesh into parts by nested dissection, numbers the nodes
+ * in the order of their elimination, lays out the triangular factor slot by slot, and writes and reads plan files.
  *
- * A slice is a pointer and a length in entries, aligned as its type asks. A pointer may be null only where its length is 0, and no slice that is
- * written may overlap another. Every function takes every number and every content of its slices. It answers with the first refusal that it finds, or
- * with 0 and its values; where it refuses, every other field of the reply is 0 and every slice is as it was. Entries past those used stay as they were.
+ * THE MESH has n nodes, 0 to n - 1, with n from 1 to NDP_MAX_NODES. `starts` has n + 1 entries: starts[0] is 0, they never fall, and starts[n] is
+ * the length of `neighbours`, at most NDP_MAX_ENTRIES. The neighbours of node v are neighbours[starts[v]] up to, not including,
+ * neighbours[starts[v + 1]]. They ascend strictly and never hold v itself, and w is a neighbour of v exactly when v is one of w. A node may have no
+ * neighbour.
  *
- * Refusals, in the order of the checks (reading looks at 8 and 9 last, writing at 8 last; a question checks 1, 22, then 21).
- * Mesh: 1 n is 0 or above 4,096; 2 the starts are not n + 1 long, the first is not 0, they fall, or the last is not the neighbours' length;
- * 3 more than 65,536 entries; 4 a neighbour is n or more; 5 a node lists itself; 6 a list is not strictly ascending; 7 an entry is one-sided, w in v's
- * list and v not in w's; 8 a lent result other than the rows, or the writer's output, is too short; 9 the rows are shorter than the slots.
- * File: 10 fewer than 17 bytes; 11 the first three are not NDP; 12 the version is not 1; 13 n, parts or slots are out of their limits, or a slice lent to the
- * writer is too short; 14 another length than the counts say; 15 the order does not hold each node once; 16 the sizes or the parents make no tree of
- * parts; 17 the row counts do not sum to the slots, or a column's rows do not ascend between the column and n; 18 a row lies outside its column's part and
- * the ancestors of it; 19 a column's rows after the first are not all rows of the first row's column.
- * 20 belongs to the listing program. Questions: 21 a position is n or more; 22 the column starts and rows are no layout. */
+ * THE PLAN of n nodes, p parts and s slots stands at the front of six buffers; p is 1 to n, and s is n (n - 1) / 2 at most. Positions, rows and
+ * columns are places in the order of elimination, 0 to n - 1, and not numbers of nodes.
+ *   order          n entries      order[i] is the node at position i.
+ *   positions      n entries      positions[v] is the position of node v.
+ *   sizes          p entries      sizes[q] is the number of nodes of part q, at least 1; together they are n. Parts take the positions in turn:
+ *                                 those of part q are the sizes[q] positions from sizes[0] + .. + sizes[q - 1] on.
+ *   parents        p entries      parents[q] is the part whose cut left the region of part q, a later part: above q and below p. It is
+ *                                 NDP_NO_PARENT where there is none. A part's ancestors are its parent and its parent's ancestors.
+ *   column_starts  n + 1 entries  column_starts[0] is 0, they never fall, and column_starts[n] is s, the number of all slots.
+ *   rows           s entries      the rows of column j are rows[column_starts[j]] up to, not including, rows[column_starts[j + 1]]: strictly
+ *                                 ascending, above j and below n.
+ * Slots are numbered from 0, column after column: slot k is the factor's entry in row rows[k] of the column j with column_starts[j] <= k and
+ * k < column_starts[j + 1]. The diagonal has no slot; every other entry without one is zero in the factor. The stiffness between two nodes v and w
+ * goes to the slot of positions[v] and positions[w], in the column of the smaller. So a solver keeps s numbers for the slots and n for the diagonal.
+ *
+ * THE FILE, little-endian: bytes 0 to 2 are the letters NDP, 3 and 4 the version, 5 to 8 n, 9 to 12 p, 13 to 16 s. Numbers of 2 bytes follow: the
+ * order, n of them; a size and a parent for each of the p parts; the number of rows for each of the n columns; the s rows.
+ *
+ * THE CALLS. A buffer is a pointer and a length in entries. The caller sees to it that a pointer is valid for its length and aligned as its type
+ * asks, that it is null only where the length is 0, and that no buffer that is written overlaps another. Beyond that every function takes every
+ * number and every content of its buffers, and ends. Where it refuses, the reply's other fields are 0 and every buffer is as it was; where it
+ * accepts, entries past those used are as they were. Nothing is allocated and there is no static state: threads may call at once, each with result
+ * buffers of its own. ndp_plan needs less than 100 KB of stack, every other function less than 80 KB.
+ *
+ * REFUSALS. A reply has the number of the first check that fails, or 0; ndp_refusal_text, at the end, says what each number means. Planning checks
+ * 1 to 9, reading 10 to 19, then 8 and 9, writing 13, 15 to 19, then 8, a question 1, 22, then 21, in this order. Each check covers the whole input
+ * before the next begins. */
 #ifndef NDPLAN_H
 #define NDPLAN_H
 #include <stddef.h>
@@ -22,10 +42,19 @@
 extern "C" {
 #endif
 
-/* Limits of a mesh, the most slots of a plan, and the parent of a part that has none. */
-enum { NDP_MAX_NODES = 4096, NDP_MAX_ENTRIES = 65536, NDP_MAX_SLOTS = 8386560, NDP_NO_PARENT = 65535 };
+/* The most nodes and neighbour entries of a mesh, the most slots of a plan, and the parent of a part that has none. */
+#define NDP_MAX_NODES 4096
+#define NDP_MAX_ENTRIES 65536
+#define NDP_MAX_SLOTS 8386560
+#define NDP_NO_PARENT 65535
 
-/* Planning and reading. */
+/* The version of the files that are written and read, the bytes before a file's order, and the bytes of a whole file. */
+#define NDP_FILE_VERSION 1
+#define NDP_FILE_HEADER 17
+#define NDP_FILE_LENGTH(n, p, s) (NDP_FILE_HEADER + 4 * (size_t)(n) + 4 * (size_t)(p) + 2 * (size_t)(s))
+
+/* Planning and reading: n, p and s, and the multiplications of a factorization: the sum over the columns of c (c + 3) / 2, c being the number of
+ * the column's rows. */
 typedef struct {
     uint32_t refusal, nodes, parts, slots;
     uint64_t multiplications;
@@ -43,43 +72,72 @@ typedef struct {
     uint32_t refusal, kind, slot;
 } NdpSlot;
 
-/* Where the rows of a column stand in the rows slice. */
+/* Where the rows of a column stand in `rows`. */
 typedef struct {
     uint32_t refusal, start, count;
 } NdpRows;
 
-/* Plans a mesh of n nodes. `starts` has n + 1 entries; the neighbours of node v are those from starts[v] up to, not including, starts[v + 1].
- * The plan goes to the front of the other slices: `order` (position to node), `positions` (node to position), `sizes` and `parents` (one entry for each
- * part) have room for n entries each, `column_starts` for n + 1, and `rows` for as many as there are slots; n (n - 1) / 2
- * always suffice, and a refusal 9 does not tell how many are needed.
- * Refuses with 1 to 9; a rows slice that is too short is 9. It needs less than 100 KB of stack. */
+/* Plans a mesh of n nodes. `order`, `positions`, `sizes` and `parents` need room for n entries each, though only p of the sizes and parents are
+ * written, `column_starts` for n + 1, and `rows` for as many as there are slots; n (n - 1) / 2 always suffice, and a refusal 9 does not tell how many
+ * are needed. Refuses with 1 to 9. */
 NdpPlan ndp_plan(size_t n, const uint32_t *starts, size_t starts_length, const uint16_t *neighbours, size_t neighbours_length,
                  uint16_t *order, size_t order_length, uint16_t *positions, size_t positions_length, uint16_t *sizes, size_t sizes_length,
                  uint16_t *parents, size_t parents_length, uint32_t *column_starts, size_t column_starts_length, uint16_t *rows, size_t rows_length);
 
-/* Reads a plan file into slices such as ndp_plan's. The length of the file is file_length: bytes behind the plan are refused.
- * Its n stands in bytes 5 to 8 and its slots in bytes 13 to 16, little-endian; room for NDP_MAX_NODES and NDP_MAX_SLOTS always suffices.
- * Refuses with 10 to 19, 8 and 9; a version other than 1 is 12. It needs less than 80 KB of stack, as the functions below do. */
+/* Reads a plan file into buffers such as ndp_plan's. The file is `file_length` bytes long: bytes behind the plan are refused. Room for NDP_MAX_NODES
+ * and NDP_MAX_SLOTS always suffices. Refuses with 10 to 19, 8 and 9; another version than NDP_FILE_VERSION is 12. */
 NdpPlan ndp_read(const uint8_t *file, size_t file_length, uint16_t *order, size_t order_length, uint16_t *positions, size_t positions_length,
                  uint16_t *sizes, size_t sizes_length, uint16_t *parents, size_t parents_length, uint32_t *column_starts, size_t column_starts_length,
                  uint16_t *rows, size_t rows_length);
 
-/* Writes the plan of n nodes, p parts and s slots to the front of `file`, 17 + 4n + 4p + 2s bytes. The slices may be longer than their counts say.
- * Refuses with 13, 15 to 19, and 8 where `file` is too short. */
+/* Writes the plan of n nodes, p parts and s slots to the front of `file`, NDP_FILE_LENGTH(n, p, s) bytes. `order` has n entries, `sizes` and
+ * `parents` p each, `column_starts` n + 1 and `rows` s; they may be longer. Refuses with 13, 15 to 19, and 8 where `file` is too short. */
 NdpWritten ndp_write(size_t n, size_t p, size_t s, const uint16_t *order, size_t order_length, const uint16_t *sizes, size_t sizes_length,
                      const uint16_t *parents, size_t parents_length, const uint32_t *column_starts, size_t column_starts_length, const uint16_t *rows,
                      size_t rows_length, uint8_t *file, size_t file_length);
 
-/* The slot of positions a and b, in either order. `column_starts_length` is n + 1 here; `rows` may be longer than the slots.
- * Refuses with 1, 22 and 21. It looks at the whole layout, as ndp_rows does. */
+/* The slot of positions a and b, in either order. `column_starts_length` is n + 1, and no more; `rows` may be longer than the slots.
+ * Refuses with 1, 22 and 21. It looks at the whole layout each time, as ndp_rows does. */
 NdpSlot ndp_slot(size_t n, const uint32_t *column_starts, size_t column_starts_length, const uint16_t *rows, size_t rows_length, size_t a, size_t b);
 
-/* The rows of column j: rows[start] up to, not including, rows[start + count]. Refuses with 1, 22 and 21. */
+/* The rows of column j: rows[start] up to, not including, rows[start + count]. The lengths are as in ndp_slot. Refuses with 1, 22 and 21. */
 NdpRows ndp_rows(size_t n, const uint32_t *column_starts, size_t column_starts_length, const uint16_t *rows, size_t rows_length, size_t j);
 
-/* The family of a refusal's number. */
+/* What a refusal's number is about: a mesh 1 to 9, a file 10 to 19, the listing program 20, a question 21 and 22, and none of these any other. */
 enum { NDP_NONE = 0, NDP_MESH = 1, NDP_FILE = 2, NDP_PROGRAM = 3, NDP_QUESTION = 4 };
 uint32_t ndp_family(uint32_t number);
+
+/* What a refusal's number means. 8 is about the five other results of planning and reading, or about the writer's file. In 17 the column starts fit
+ * where they begin at 0, never fall and end at s; in 22 where they are n + 1 exactly, begin at 0, never fall and end at the length of `rows` or
+ * below. 20 comes from the listing program only. */
+static inline const char *ndp_refusal_text(uint32_t number) {
+    static const char *const texts[] = {
+        /*  0 */ "accepted",
+        /*  1 */ "the number of nodes is not 1 to 4096",
+        /*  2 */ "there is not one start more than nodes, or the starts do not begin at 0, fall, or do not end at the number of neighbour entries",
+        /*  3 */ "there are more than 65536 neighbour entries",
+        /*  4 */ "a neighbour is not below the number of nodes",
+        /*  5 */ "a node lists itself as a neighbour",
+        /*  6 */ "a node's neighbours are not strictly ascending",
+        /*  7 */ "an edge is listed by one of its two nodes only",
+        /*  8 */ "a result buffer other than the rows is too short",
+        /*  9 */ "the rows buffer is shorter than the slots",
+        /* 10 */ "the file has fewer than 17 bytes",
+        /* 11 */ "the file does not begin with the letters NDP",
+        /* 12 */ "the file's version is not 1",
+        /* 13 */ "the nodes n are not 1 to 4096, the parts not 1 to n, the slots above n(n - 1)/2, or a list to be written is too short for these",
+        /* 14 */ "the file's length is not 17 + 4 nodes + 4 parts + 2 slots",
+        /* 15 */ "the order does not hold each node once",
+        /* 16 */ "a part's size is 0, the sizes do not sum to the nodes, or a parent is neither 65535 (none) nor the number of a later part",
+        /* 17 */ "the column starts or row counts do not fit the slots, or a column's rows are not strictly ascending, above it and below the nodes",
+        /* 18 */ "a row lies outside its column's part and the ancestors of that part",
+        /* 19 */ "a column's rows after its first are not all rows of the first row's column",
+        /* 20 */ "the input of the listing program is cut short or over its size",
+        /* 21 */ "a position is not below the number of nodes",
+        /* 22 */ "the column starts do not fit the nodes and the rows, or a column's rows are not strictly ascending, above it and below the nodes",
+    };
+    return number < sizeof texts / sizeof *texts ? texts[number] : "unknown refusal";
+}
 
 #ifdef __cplusplus
 }

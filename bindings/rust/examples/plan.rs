@@ -30,7 +30,7 @@ fn main() -> Result<(), Refusal> {
         Pair::NoSlot => println!("positions 8 and 7 have no slot"),
     }
     if let Err(refusal) = again.column(9) {
-        println!("column 9: {refusal}, family {:?}", refusal.family());
+        println!("column 9, family {:?}: {refusal}", refusal.family());
     }
     Ok(())
 }

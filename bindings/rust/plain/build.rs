@@ -1,9 +1,9 @@
-//! Compiles the plain C program of `bench/` into an archive of its own.
+//! Compiles the plain C program of `bench/`, and the C interface's text of a refusal, into an archive of their own.
 use std::path::{Path, PathBuf};
 use std::process::Command;
 use std::{env, fs};
 
-const SOURCES: [&str; 2] = ["bench/plain_plan.c", "bench/plain_file.c"];
+const SOURCES: [&str; 3] = ["bench/plain_plan.c", "bench/plain_file.c", "bindings/rust/plain/src/text.c"];
 const HEADERS: [&str; 2] = ["bench/plain.h", "include/ndplan.h"];
 
 fn main() {

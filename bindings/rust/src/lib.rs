@@ -2,7 +2,7 @@
 //!
 //! A mesh is lent as neighbour lists. Its plan is an order of the nodes, a tree of parts, and the layout of the factor:
 //! for each column the rows that have a slot. The functions of this module work on the caller's memory and allocate
-//! nothing; [`Plan`] owns its memory. Refusals have the numbers of document 01's table.
+//! nothing; [`Plan`] owns its memory. A [`Refusal`] has a number and says what it means.
 //!
 //! ```
 //! use ndplan::{Mesh, Pair, Plan, Refusal};

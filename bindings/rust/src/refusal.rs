@@ -3,7 +3,7 @@
 use crate::ffi;
 use std::fmt;
 
-/// A refusal, by its number; `include/ndplan.h` says what each means. Every refusal leaves the lent memory as found.
+/// A refusal, by its number. Every refusal leaves the lent memory as found.
 #[derive(Clone, Copy, Debug, PartialEq, Eq, Hash)]
 pub struct Refusal(pub u32);
 
@@ -29,7 +29,39 @@ pub fn family(number: u32) -> Family {
     }
 }
 
+/// What each number means, from 0 on, in the words of `include/ndplan.h`.
+const TEXTS: [&str; 23] = [
+    "accepted",
+    "the number of nodes is not 1 to 4096",
+    "there is not one start more than nodes, or the starts do not begin at 0, fall, or do not end at the number of neighbour entries",
+    "there are more than 65536 neighbour entries",
+    "a neighbour is not below the number of nodes",
+    "a node lists itself as a neighbour",
+    "a node's neighbours are not strictly ascending",
+    "an edge is listed by one of its two nodes only",
+    "a result buffer other than the rows is too short",
+    "the rows buffer is shorter than the slots",
+    "the file has fewer than 17 bytes",
+    "the file does not begin with the letters NDP",
+    "the file's version is not 1",
+    "the nodes n are not 1 to 4096, the parts not 1 to n, the slots above n(n - 1)/2, or a list to be written is too short for these",
+    "the file's length is not 17 + 4 nodes + 4 parts + 2 slots",
+    "the order does not hold each node once",
+    "a part's size is 0, the sizes do not sum to the nodes, or a parent is neither 65535 (none) nor the number of a later part",
+    "the column starts or row counts do not fit the slots, or a column's rows are not strictly ascending, above it and below the nodes",
+    "a row lies outside its column's part and the ancestors of that part",
+    "a column's rows after its first are not all rows of the first row's column",
+    "the input of the listing program is cut short or over its size",
+    "a position is not below the number of nodes",
+    "the column starts do not fit the nodes and the rows, or a column's rows are not strictly ascending, above it and below the nodes",
+];
+
 impl Refusal {
+    /// What this refusal's number means.
+    pub fn text(self) -> &'static str {
+        TEXTS.get(self.0 as usize).unwrap_or(&"unknown refusal")
+    }
+
     /// The family of this refusal's number.
     pub fn family(self) -> Family {
         family(self.0)
@@ -38,7 +70,7 @@ impl Refusal {
 
 impl fmt::Display for Refusal {
     fn fmt(&self, f: &mut fmt::Formatter<'_>) -> fmt::Result {
-        write!(f, "refused {}", self.0)
+        write!(f, "refused {}: {}", self.0, self.text())
     }
 }
 

@@ -1,4 +1,4 @@
-//! The family of a number.
+//! The family of a number, and what it means.
 
 use ndplan::{ffi, Family, Refusal};
 
@@ -19,9 +19,19 @@ fn families() {
 }
 
 #[test]
-fn a_refusal_is_an_error_with_its_number() {
-    let error: Box<dyn std::error::Error> = Box::new(Refusal(17));
-    assert_eq!(error.to_string(), "refused 17");
+fn a_refusal_is_an_error_with_its_number_and_meaning() {
+    let error: Box<dyn std::error::Error> = Box::new(Refusal(7));
+    assert_eq!(error.to_string(), "refused 7: an edge is listed by one of its two nodes only");
+}
+
+/// The texts are those of the C interface's header.
+#[test]
+fn texts() {
+    for number in (0..=40).chain([65536 + 7, u32::MAX]) {
+        assert_eq!(Refusal(number).text(), plain::header_text(number), "text of {number}");
+    }
+    let ends = [0, 1, 22, 23].map(|number| Refusal(number).text() == "unknown refusal");
+    assert_eq!(ends, [false, false, false, true]);
 }
 
 /// The limits are those of document 01.

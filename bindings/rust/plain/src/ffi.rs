@@ -105,4 +105,7 @@ extern "C" {
     ) -> NdpRows;
 
     pub fn plain_family(number: u32) -> u32;
+
+    /// From `src/text.c`.
+    pub fn header_refusal_text(number: u32) -> *const std::ffi::c_char;
 }

@@ -4,6 +4,7 @@
 mod ffi;
 
 use ffi::{NdpPlan, NdpRows, NdpSlot, NdpWritten};
+use std::ffi::CStr;
 use std::sync::{Mutex, MutexGuard, PoisonError};
 
 /// A mesh as lent.
@@ -219,4 +220,11 @@ pub fn column(n: usize, starts: &[u32], rows: &[u16], j: usize) -> Result<(u32, 
 pub fn family(number: u32) -> u32 {
     // SAFETY: the function takes every number.
     unsafe { ffi::plain_family(number) }
+}
+
+/// What `include/ndplan.h` says of a refusal's number.
+pub fn header_text(number: u32) -> &'static str {
+    // SAFETY: the function takes every number and gives a text that is static and ends with a zero.
+    let text = unsafe { CStr::from_ptr(ffi::header_refusal_text(number)) };
+    text.to_str().unwrap()
 }
