@@ -1,18 +1,20 @@
--- Bisection: where x would stand in an ascending list.
-use mathlib.Core.Path.{_≡_, sym, _∙_}
+-- Bisection: how many elements of an ascending list are less than x, and so where x would stand in it.
+use mathlib.Core.Path.{_≡_, sym, ap, _∙_}
 use mathlib.Core.Logic.{inl, inr, _≢_}
-use mathlib.Core.Bool.{true, false}
-use mathlib.Core.List.{List}
-use Prim.Native.Nat.{ℕ, _+_, _≤_, _<_}
+use mathlib.Core.Bool.{Bool, true, false}
+use mathlib.Core.List.{List, [], _∷_}
+use Prim.Native.Nat.{ℕ, zero, suc, _+_, _≤_, _<_}
 use native.Mathlib.Omega.{arith}
-use lib.Dec.{eqb}
+use lib.Dec.{eqb, ltb}
 use lib.ListN.{length, getD}
-use borrow.Author.Tests.{eq-eqb, ne-eqb}
+use borrow.Author.Tests.{eq-eqb, ne-eqb, lt-ltb, le-ltb}
 use Rattle.plan.specs.Lists.{isIn, indexOf, below, ascending}
 use Rattle.theory.proofs.Bools.{eq-or-ne, lt-or-le}
 use Rattle.theory.proofs.Lists.{none-exists, getD-indexOf, indexOf-le}
 use Rattle.theory.proofs.Ranges.{isIn-below}
-use Rattle.theory.proofs.Ascending.{ascending-getD}
+use Rattle.theory.proofs.Ascending.{ascending-tail, ascending-lt, ascending-getD}
+use Rattle.theory.specs.Counting.{count}
+use Rattle.theory.proofs.Counting.{unit, count-cons, count-none}
 use Rattle.mesh.specs.Lists.{LowerBound}
 use Rattle.theory.proofs.Scans.{elementAt, found-in, none-in}
 
@@ -53,9 +55,62 @@ module _ (l : List ℕ) (x low high middle : ℕ) (h : ascending l ≡ true) (b 
     notLess = λ i s t. omega (arith, no-greater l h middle i s t);
   }
 
--- where the two have met: the place
-pub bracket-met : (l : List ℕ) (x low high : ℕ) → Bracket l x low high → high ≤ low → LowerBound l x low
-bracket-met l x low high b met = record { within = omega (arith, b .ordered, b .within); before = b .less; from = b .notLess low met }
+-- the first k elements are less, and the others are not: k are less
+less-count : (l : List ℕ) (x k : ℕ) → k ≤ length l → ((i : ℕ) → i < k → getD l i 0 < x) → ((i : ℕ) → k ≤ i → i < length l → x ≤ getD l i 0) → k ≡ count (λ y. ltb y x) l
+less-count [] x k h f g = omega arith
+less-count (y ∷ l) x zero h f g =
+    omega (
+      arith,
+      count-cons (λ y. ltb y x) y l,
+      ap unit (le-ltb y x (g 0 (omega arith) (omega arith))),
+      less-count l x 0 (omega arith) (λ i s. absurd (omega arith)) (λ i s t. g (suc i) (omega arith) (omega arith)),
+    )
+less-count (y ∷ l) x (suc k) h f g =
+    omega (
+      arith,
+      count-cons (λ y. ltb y x) y l,
+      ap unit (lt-ltb y x (f 0 (omega arith))),
+      less-count l x k (omega arith) (λ i s. f (suc i) (omega arith)) (λ i s t. g (suc i) (omega arith) (omega arith)),
+    )
+
+-- where the two have met, so many are less
+pub bracket-met : (l : List ℕ) (x low high : ℕ) → Bracket l x low high → high ≤ low → low ≡ count (λ y. ltb y x) l
+bracket-met l x low high b met = less-count l x low (omega (arith, b .ordered, b .within)) (b .less) (λ i s t. b .notLess i (omega arith) t)
+
+-- an ascending list has those that are less in front: their number is the place
+counted-bound : (l : List ℕ) (x : ℕ) → ascending l ≡ true → LowerBound l x (count (λ y. ltb y x) l)
+counted-bound [] x h = record { within = omega arith; before = λ i s. absurd (omega arith); from = λ s. absurd (omega arith) }
+counted-bound (y ∷ l) x h = elim (lt-or-le y x) [
+  | inl s ↦ more s (counted-bound l x (ascending-tail y l h))
+  | inr s ↦ none s
+]
+  where
+    p : ℕ → Bool
+    p z = ltb z x
+
+    more : y < x → LowerBound l x (count p l) → LowerBound (y ∷ l) x (count p (y ∷ l))
+    more s b =
+        let e : count p (y ∷ l) ≡ suc (count p l) = omega (arith, count-cons p y l, ap unit (lt-ltb y x s)) in
+        rw e (record { within = omega (arith, b .within); before = earlier; from = λ t. b .from (omega arith) })
+      where
+        earlier : (i : ℕ) → i < suc (count p l) → getD (y ∷ l) i 0 < x
+        earlier zero t = s
+        earlier (suc i) t = b .before i (omega arith)
+
+    none : x ≤ y → LowerBound (y ∷ l) x (count p (y ∷ l))
+    none s =
+        let e : count p (y ∷ l) ≡ 0 =
+        omega (
+          arith,
+          count-cons p y l,
+          ap unit (le-ltb y x s),
+          count-none p l (λ z m. le-ltb z x (omega (arith, ascending-lt y l h z m))),
+        ) in
+        rw e (record { within = omega arith; before = λ i t. absurd (omega arith); from = λ t. s })
+
+-- what `lower_bound` promises
+pub less-bound : (l : List ℕ) (x k : ℕ) → ascending l ≡ true → k ≡ count (λ y. ltb y x) l → LowerBound l x k
+less-bound l x k h e = rw e (counted-bound l x h)
 
 module _ (l : List ℕ) (x k : ℕ) (h : ascending l ≡ true) (b : LowerBound l x k) where
   -- where x is not at its place, it is nowhere

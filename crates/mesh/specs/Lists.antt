@@ -1,9 +1,13 @@
--- Lists that stand one after the other, by their starts: one that lies within the entries, and the place of a number in an ascending one; and
--- what working arrays begin with.
+-- Lists that stand one after the other, by their starts: one that lies within the entries, a rule of each, and the place of a number in an ascending
+-- one; and what working arrays begin with.
+use mathlib.Core.Bool.{Bool, not}
 use mathlib.Core.List.{List}
 use Prim.Native.Nat.{ℕ, _+_, _≤_, _<_}
 use lib.ListN.{length, getD, replicate}
-use Rattle.plan.specs.Mesh.{maxNodes}
+use Rattle.plan.specs.Lists.{exists, below, isIn, ascending}
+use Rattle.plan.specs.Mesh.{maxNodes, Mesh, neighboursOf}
+use Rattle.mesh.specs.declared.ListRule.{ListRule}
+use Rattle.mesh.specs.declared.ListRule.the-variants.{NotItself, Ascending}
 
 -- the number that is no node, position or part
 abbrev pub none : ℕ
@@ -18,6 +22,15 @@ pub record ListWithin (starts entries : List ℕ) (v : ℕ) : Type 0 where
   pub started : v + 1 < length starts
   pub ordered : getD starts v 0 ≤ getD starts (v + 1) 0
   pub ended : getD starts (v + 1) 0 ≤ length entries
+
+-- whether list v breaks a rule
+abbrev pub breaksRule : ListRule → ℕ → List ℕ → Bool
+breaksRule NotItself v entries = isIn v entries
+breaksRule Ascending v entries = not (ascending entries)
+
+-- whether some node's list does
+unfoldable pub someListBreaks : ListRule → Mesh → Bool
+someListBreaks rule m = exists (λ v. breaksRule rule v (neighboursOf m v)) (below (m .nodes))
 
 -- the first place k of a list whose entry is not less than x; the list's length where every entry is less
 pub record LowerBound (entries : List ℕ) (x k : ℕ) : Type 0 where

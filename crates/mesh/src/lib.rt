@@ -4,11 +4,13 @@ ghost use mathlib.Core.Path.{_≡_};
 ghost use mathlib.Core.Bool.{true, false};
 ghost use mathlib.Core.List.{List};
 ghost use Prim.Native.Nat.{ℕ};
+ghost use lib.Dec.{ltb};
 ghost use lib.ListN.{length};
 ghost use Rattle.plan.specs.Lists.{isIn, listAt, ascending, falls};
 ghost use Rattle.plan.specs.Refusals.{firstFault};
-ghost use Rattle.plan.specs.Mesh.{maxNodes, lent, badNodeCount, badStarts, badMeshStarts, tooManyEntries, neighbourOutside, listsItself, notAscending, oneSided, meshChecks};
-ghost use Rattle.mesh.specs.Lists.{filledWith, ListWithin, LowerBound};
+ghost use Rattle.plan.specs.Mesh.{maxNodes, lent, badNodeCount, badStarts, badMeshStarts, tooManyEntries, neighbourOutside, notAscending, oneSided, meshChecks};
+ghost use Rattle.theory.specs.Counting.{count};
+ghost use Rattle.mesh.specs.Lists.{filledWith, breaksRule, someListBreaks, ListWithin};
 
 // no node, position or part
 pub const NONE: u16 = 65535;
@@ -53,12 +55,15 @@ fn falling(numbers: &[u32]) -> bool
     false
 }
 
-// The first part of check 2: there are not n + 1 starts, the first is not 0, or they fall. O(n).
+// The first part of check 2: there are not n + 1 starts, the first is not 0, or they fall. n may be any number, also the greatest, to which
+// no 1 can be added. O(n).
 pub fn bad_starts(n: usize, starts: &[u32]) -> bool
-    requires { ⌜ badNodeCount n ≡ false ⌝ }
     ensures { λ r. ⌜ r ≡ badStarts n (now (starts .entry)) ⌝ }
 {
-    if starts.len() != n + 1 {
+    if starts.len() == 0 {
+        return true;
+    }
+    if starts.len() - 1 != n {
         return true;
     }
     if starts[0] != 0 {
@@ -69,7 +74,6 @@ pub fn bad_starts(n: usize, starts: &[u32]) -> bool
 
 // Check 2: bad starts, or the last is not the number of entries. O(n).
 fn bad_mesh_starts(n: usize, starts: &[u32], neighbours: &[u16]) -> bool
-    requires { ⌜ badNodeCount n ≡ false ⌝ }
     ensures { λ r. ⌜ r ≡ badMeshStarts (lent n (now (starts .entry)) (now (neighbours .entry))) ⌝ }
 {
     if bad_starts(n, starts) {
@@ -119,19 +123,6 @@ pub fn contains(entries: &[u16], x: usize) -> bool
     false
 }
 
-// Check 5: a node stands in its own list. O(n + entries).
-fn lists_itself(n: usize, starts: &[u32], neighbours: &[u16]) -> bool
-    requires { ⌜ badMeshStarts (lent n (now starts) (now neighbours)) ≡ false ⌝ }
-    ensures { λ r. ⌜ r ≡ listsItself (lent n (now (starts .entry)) (now (neighbours .entry))) ⌝ }
-{
-    for v in 0..n {
-        if contains(list(starts, neighbours, v), v) {
-            return true;
-        }
-    }
-    false
-}
-
 // Whether each entry of a list is greater than the one before it. O(length).
 fn ascends(entries: &[u16]) -> bool
     ensures { λ r. ⌜ r ≡ ascending (now (entries .entry)) ⌝ }
@@ -144,24 +135,40 @@ fn ascends(entries: &[u16]) -> bool
     true
 }
 
-// Check 6: a list is not strictly ascending. O(n + entries).
-fn not_ascending(n: usize, starts: &[u32], neighbours: &[u16]) -> bool
+// The rule of a node's list that check 5 or 6 is about.
+enum ListRule {
+    NotItself,
+    Ascending,
+}
+
+// Whether node v's list breaks the rule. O(length).
+fn breaks(rule: ListRule, v: usize, entries: &[u16]) -> bool
+    ensures { λ r. ⌜ r ≡ breaksRule rule v (now (entries .entry)) ⌝ }
+{
+    match rule {
+        ListRule::NotItself => contains(entries, v),
+        ListRule::Ascending => !ascends(entries),
+    }
+}
+
+// Checks 5 and 6: some node's list breaks the rule. O(n + entries).
+fn some_list_breaks(rule: ListRule, n: usize, starts: &[u32], neighbours: &[u16]) -> bool
     requires { ⌜ badMeshStarts (lent n (now starts) (now neighbours)) ≡ false ⌝ }
-    ensures { λ r. ⌜ r ≡ notAscending (lent n (now (starts .entry)) (now (neighbours .entry))) ⌝ }
+    ensures { λ r. ⌜ r ≡ someListBreaks rule (lent n (now (starts .entry)) (now (neighbours .entry))) ⌝ }
 {
     for v in 0..n {
-        if !ascends(list(starts, neighbours, v)) {
+        if breaks(rule, v, list(starts, neighbours, v)) {
             return true;
         }
     }
     false
 }
 
-// The first place of an ascending list whose entry is not less than x, the list's length where every entry is less: by bisection, each entry before
-// `low` is less than x, and none from `high` on is. O(log length).
+// The number of entries of an ascending list that are less than x, and so the first place whose entry is not: by bisection, each entry before `low`
+// is less than x, and none from `high` on is. O(log length).
 pub fn lower_bound(entries: &[u16], x: usize) -> usize
     requires { ⌜ ascending (now entries) ≡ true ⌝ }
-    ensures { λ r. ⌜ LowerBound (now (entries .entry)) x r ⌝ }
+    ensures { λ r. ⌜ r ≡ count (λ y. ltb y x) (now (entries .entry)) ⌝ }
 {
     let mut low: usize = 0;
     let mut high = entries.len();
@@ -226,10 +233,10 @@ pub fn check(n: usize, starts: &[u32], neighbours: &[u16]) -> u32
     if neighbour_outside(n, neighbours) {
         return 4;
     }
-    if lists_itself(n, starts, neighbours) {
+    if some_list_breaks(ListRule::NotItself, n, starts, neighbours) {
         return 5;
     }
-    if not_ascending(n, starts, neighbours) {
+    if some_list_breaks(ListRule::Ascending, n, starts, neighbours) {
         return 6;
     }
     if one_sided(n, starts, neighbours) {

@@ -1,17 +1,28 @@
 -- `mesh::check` meets its contract: behind each check that finds no fault, the first fault is that of the checks to come.
-use mathlib.Core.Path.{_≡_, sym, _∙_}
+use mathlib.Core.Path.{_≡_, refl, sym, _∙_}
 use mathlib.Core.Bool.{Bool, false}
 use lib.ListN.{drop}
 use borrow.Author.Needs.{needs}
 use Rattle.plan.specs.Refusals.{firstFault}
-use Rattle.plan.specs.Mesh.{Mesh, lent, badNodeCount, badMeshStarts, tooManyEntries, neighbourOutside, listsItself, notAscending, oneSided, meshChecks}
+use Rattle.plan.specs.Mesh.{Mesh, lent, adjacent, badNodeCount, badMeshStarts, tooManyEntries, neighbourOutside, listsItself, notAscending, oneSided, meshChecks}
 use Rattle.theory.proofs.Refusals.{fault-here, fault-later}
+use Rattle.mesh.specs.declared.ListRule.the-variants.{NotItself, Ascending}
+use Rattle.mesh.specs.Lists.{someListBreaks}
 use Rattle.mesh.proofs.check.Statement.{statement}
 use Rattle.mesh.proofs.check.Tie as tie
 
 -- what a function answered is what its test found
 answered : {a b d : Bool} → a ≡ b → a ≡ d → b ≡ d
 answered p q = sym p ∙ q
+
+-- the rules of checks 5 and 6
+rule5 : (m : Mesh) → someListBreaks NotItself m ≡ listsItself m
+unfolding someListBreaks listsItself adjacent
+rule5 m = refl
+
+rule6 : (m : Mesh) → someListBreaks Ascending m ≡ notAscending m
+unfolding someListBreaks notAscending
+rule6 m = refl
 
 -- the mesh
 abbrev mesh : tie.Start → Mesh
@@ -53,10 +64,10 @@ clear4 : (c : tie.Else4) → neighbourOutside (mesh4 c) ≡ false
 clear4 c = answered (c .before .neighbour-outside .ensures (mesh4 c .starts)) (c .if4 .left)
 
 clear5 : (c : tie.Else5) → listsItself (mesh5 c) ≡ false
-clear5 c = search answered
+clear5 c = sym (rule5 (mesh5 c)) ∙ search answered
 
 clear6 : (c : tie.Else6) → notAscending (mesh6 c) ≡ false
-clear6 c = search answered
+clear6 c = sym (rule6 (mesh6 c)) ∙ search answered
 
 clear7 : (c : tie.Else7) → oneSided (mesh7 c) ≡ false
 clear7 c = search answered
@@ -94,9 +105,6 @@ returns : tie.Need-returns
 unfolding meshChecks
 returns c = let m = mesh (c .before .before .before .before) in sym (fault-here 1 (badNodeCount (m .nodes)) _ (search answered))
 
-bad-mesh-starts-requires : tie.Need-bad-mesh-starts-requires
-bad-mesh-starts-requires c κs = clear1 c
-
 returns-2 : tie.Need-returns-2
 unfolding meshChecks
 returns-2 c = let m = mesh1 (c .before .before) in sym (later1 (c .before .before) ∙ fault-here 2 (badMeshStarts m) _ (search answered))
@@ -109,19 +117,19 @@ returns-4 : tie.Need-returns-4
 unfolding meshChecks
 returns-4 c = let m = mesh3 (c .before .before) in sym (later3 (c .before .before) ∙ fault-here 4 (neighbourOutside m) _ (answered (c .before .neighbour-outside .ensures (m .starts)) (c .if4 .taken)))
 
-lists-itself-requires : tie.Need-lists-itself-requires
-lists-itself-requires c κs = clear2 (c .before .before .before .before)
+some-list-breaks-requires : tie.Need-some-list-breaks-requires
+some-list-breaks-requires c κs = clear2 (c .before .before .before .before)
 
 returns-5 : tie.Need-returns-5
 unfolding meshChecks
-returns-5 c = let m = mesh4 (c .before .before) in sym (later4 (c .before .before) ∙ fault-here 5 (listsItself m) _ (search answered))
+returns-5 c = let m = mesh4 (c .before .before) in sym (later4 (c .before .before) ∙ fault-here 5 (listsItself m) _ (sym (rule5 m) ∙ search answered))
 
-not-ascending-requires : tie.Need-not-ascending-requires
-not-ascending-requires c κs = clear2 (c .before .before .before .before .before .before)
+some-list-breaks-requires-2 : tie.Need-some-list-breaks-requires-2
+some-list-breaks-requires-2 c κs = clear2 (c .before .before .before .before .before .before)
 
 returns-6 : tie.Need-returns-6
 unfolding meshChecks
-returns-6 c = let m = mesh5 (c .before .before) in sym (later5 (c .before .before) ∙ fault-here 6 (notAscending m) _ (search answered))
+returns-6 c = let m = mesh5 (c .before .before) in sym (later5 (c .before .before) ∙ fault-here 6 (notAscending m) _ (sym (rule6 m) ∙ search answered))
 
 one-sided-requires : tie.Need-one-sided-requires
 one-sided-requires c κs = (clear2 (c .before .before .before .before .before .before .before .before), (clear4 (c .before .before .before .before), clear6 c))
@@ -135,4 +143,4 @@ unfolding meshChecks firstFault
 returns-8 c = sym (later7 c)
 
 pub check-spec : {M : Type 1} → statement M
-check-spec = tie.close (tie.spec (λ c κs. search needs) returns bad-mesh-starts-requires returns-2 (λ c κs. search needs) returns-3 (λ c κs. search needs) returns-4 lists-itself-requires returns-5 not-ascending-requires returns-6 one-sided-requires returns-7 returns-8)
+check-spec = tie.close (tie.spec (λ c κs. search needs) returns (λ c κs. search needs) returns-2 (λ c κs. search needs) returns-3 (λ c κs. search needs) returns-4 some-list-breaks-requires returns-5 some-list-breaks-requires-2 returns-6 one-sided-requires returns-7 returns-8)

@@ -5,7 +5,6 @@ use Rattle.mesh.proofs.Lists.{filled-length}
 use Rattle.mesh.proofs.filled.Statement.{statement}
 use Rattle.mesh.proofs.filled.Tie as tie
 
--- src/lib.rt:19:1
 returns : tie.Need-returns
 unfolding filledWith
 returns c = (refl, filled-length (c .args .x))

@@ -1,0 +1,12 @@
+-- `mesh::breaks` meets its contract: each rule has its test.
+use borrow.Author.Needs.{needs}
+use Rattle.mesh.proofs.breaks.Statement.{statement}
+use Rattle.mesh.proofs.breaks.Tie as tie
+
+returns : tie.Need-returns
+returns c = rw (c .before .enum-told .given .1) (c .contains .ensures)
+
+pub breaks-spec : {M : Type 1} → statement M
+breaks-spec =
+    tie.close
+    (tie.spec (λ c. search needs) (λ c κs. search needs) (λ c. search needs) (λ c κs. search needs) returns (λ c. search needs))
