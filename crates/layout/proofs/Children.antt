@@ -14,7 +14,8 @@ use Rattle.plan.specs.Lists.{exists, upFrom, below, isIn}
 use Rattle.theory.proofs.Bools.{or-cases, or-left, or-right, and-left, and-right, and-both, iff-eq, cond-true, cond-false, eq-or-ne, lt-or-le}
 use Rattle.theory.proofs.Lists.{exists-isIn, isIn-exists}
 use Rattle.theory.proofs.Ranges.{isIn-upFrom, upFrom-isIn}
-use Rattle.layout.specs.Arrays.{none, childBelow, Children, Marked}
+use Rattle.mesh.specs.Lists.{none}
+use Rattle.layout.specs.Arrays.{childBelow, Children, Marked}
 use Rattle.layout.proofs.Stores.{getD-set-cases}
 use Rattle.layout.proofs.Marks.{marked-as, marked-both}
 

@@ -1,40 +1,41 @@
--- The laws of counting by climbing: one row's marks from the first neighbour to the last, and one row after the other.
+-- The laws of counting by climbing: one row's marks from the first neighbour to the last.
 use mathlib.Core.Path.{_≡_, refl, sym, ap, _∙_}
 use mathlib.Core.Logic.{_≢_, inl, inr}
 use mathlib.Core.Bool.{Bool, true, false, cond, _&&_}
-use mathlib.Core.List.{List, [], _∷_, map}
+use mathlib.Core.List.{List, [], _∷_}
 use Prim.Native.Nat.{ℕ, _+_, _≤_, _<_}
 use native.Mathlib.Numerals.{add-one}
 use native.Mathlib.Omega.{arith}
 use lib.Dec.{ltb, eqb}
-use lib.ListN.{length, take, getD, set, length-map, List·getD-map}
-use lib.Seq.{length-take-le, getD-set-same, getD-set-other, getD-take, ext-getD}
+use lib.ListN.{length, drop, getD, set}
+use lib.Seq.{getD-set-same, getD-set-other, drop-set-lt}
 use borrow.Author.Tests.{ltb-true, lt-ltb, le-ltb, eqb-true, eqb-false, eq-eqb, ne-eqb}
 use Rattle.plan.specs.Lists.{below, upFrom, indexOf}
 use Rattle.plan.specs.Mesh.{Mesh, neighboursOf, adjacent}
-use Rattle.plan.specs.Elimination.{column, columns}
 use Rattle.theory.specs.Counting.{count}
 use Rattle.theory.specs.Checked.{Symmetric}
 use Rattle.theory.specs.Rows.{edgeAt, isRow, firstRow}
 use Rattle.theory.proofs.Bools.{tested, eq-or-ne, lt-or-le, refuted, clash, and-left, and-right, and-both, cond-true, cond-false}
 use Rattle.theory.proofs.Lists.{isIn-getD, getD-indexOf, indexOf-lt}
-use Rattle.theory.proofs.Ranges.{upFrom-snoc, length-upFrom, getD-map-below, length-map-upFrom}
+use Rattle.theory.proofs.Ranges.{upFrom-snoc, length-upFrom}
 use Rattle.theory.proofs.Counting.{unit, count-append, count-cons, count-le}
-use Rattle.theory.proofs.Columns.{column-keep}
 use Rattle.mesh.proofs.Lists.{entry-node}
 use Rattle.theory.proofs.EliminationTree.{first-is-row, row-neighbour, row-range, row-of-first, row-closure, first-le, first-later}
-use Rattle.layout.specs.Arrays.{none, Ordered, Unmarked, parentBelow, rowCountBelow, CountedBelow}
+use Rattle.mesh.specs.Lists.{none}
+use Rattle.layout.specs.Arrays.{Ordered, Unmarked, parentBelow, rowCountBelow, CountedBelow}
 use Rattle.layout.specs.Climbing.{countedUpTo, Climbing, Climbed}
 use Rattle.layout.proofs.Stores.{getD-set-cases}
 use Rattle.layout.proofs.Inverse.{order-of-inverse, inverse-of-order}
 
 -- On the way up from column `start`: k is next to be looked at.
-pub record Way (m : Mesh) (order : List ℕ) (i start : ℕ) (found tree marks counts : List ℕ) (k : ℕ) : Type 0 where
+pub record Way (m : Mesh) (order : List ℕ) (i start : ℕ) (tree₀ marks₀ counts₀ tree marks counts : List ℕ) (k : ℕ) : Type 0 where
   pub climbing : Climbing m order i k tree marks counts
   pub low : k ≤ i
   pub row : k < i → isRow m order i k ≡ true
   pub reached : start ≢ k → getD marks start 0 ≡ i
-  pub kept : (x : ℕ) → getD found x 0 ≡ i → getD marks x 0 ≡ i
+  pub kept : (x : ℕ) → getD marks₀ x 0 ≡ i → getD marks x 0 ≡ i
+  pub restTree : drop (m .nodes) tree ≡ drop (m .nodes) tree₀
+  pub restCounts : drop (m .nodes) counts ≡ drop (m .nodes) counts₀
 
 module _ (m : Mesh) (order : List ℕ) where
   -- ---- rows below i, and below i + 1
@@ -183,19 +184,21 @@ module _ (m : Mesh) (order : List ℕ) where
 
     -- ---- one way up
 
-    module _ (start : ℕ) (found : List ℕ) where
+    module _ (start : ℕ) (tree₀ marks₀ counts₀ : List ℕ) where
       -- the way begins
-      pub way-start : (tree counts : List ℕ) → start ≤ i → (start < i → isRow m order i start ≡ true)
-          → Climbing m order i i tree found counts → Way m order i start found tree found counts start
-      way-start tree counts low row c = record {
-        climbing = climbing-next i start tree found counts (λ l. absurd (omega arith)) c;
+      pub way-start : start ≤ i → (start < i → isRow m order i start ≡ true)
+          → Climbing m order i i tree₀ marks₀ counts₀ → Way m order i start tree₀ marks₀ counts₀ tree₀ marks₀ counts₀ start
+      way-start low row c = record {
+        climbing = climbing-next i start tree₀ marks₀ counts₀ (λ l. absurd (omega arith)) c;
         low = low;
         row = row;
         reached = λ ne. absurd (ne refl);
         kept = λ x e. e;
+        restTree = refl;
+        restCounts = refl;
       }
 
-      module _ (tree marks counts : List ℕ) (k : ℕ) (way : Way m order i start found tree marks counts k) where
+      module _ (tree marks counts : List ℕ) (k : ℕ) (way : Way m order i start tree₀ marks₀ counts₀ tree marks counts k) where
         -- a column without the mark is before i
         unmarked-before : getD marks k 0 ≢ i → k < i
         unmarked-before ne = elim (eq-or-ne k i) [ inl e ↦ absurd (ne (rw e (way .climbing .self))) | inr e ↦ omega (arith, e, way .low) ]
@@ -210,7 +213,7 @@ module _ (m : Mesh) (order : List ℕ) where
         -- one step up, to the parent p
         pub way-step : (p : ℕ) → k < length tree → k < length marks → k < length counts → i < none → getD marks k 0 ≢ i
             → p ≡ cond (eqb (getD tree k 0) none) i (getD tree k 0)
-            → (k < p) × Way m order i start found (set tree k p) (set marks k i) (set counts k (getD counts k 0 + 1)) p
+            → (k < p) × Way m order i start tree₀ marks₀ counts₀ (set tree k p) (set marks k i) (set counts k (getD counts k 0 + 1)) p
         way-step p rt rm rc few ne e = rw (e ∙ way-parent few ne) (
           first-later m order k (omega (arith, first-le m order i k row)),
           record {
@@ -219,18 +222,25 @@ module _ (m : Mesh) (order : List ℕ) where
             row = λ l. row-of-first m order i k row l;
             reached = λ n. getD-set-cases (λ y. y ≡ i) marks k i start rm (λ q. refl) (way .reached);
             kept = λ x h. getD-set-cases (λ y. y ≡ i) marks k i x rm (λ q. refl) (λ q. way .kept x h);
+            restTree = drop-set-lt (m .nodes) tree k (firstRow m order k) inside ∙ way .restTree;
+            restCounts = drop-set-lt (m .nodes) counts k (getD counts k 0 + 1) inside ∙ way .restCounts;
           },
         )
           where
             row : isRow m order i k ≡ true
             row = way .row (unmarked-before ne)
 
+            inside : k < m .nodes
+            inside = omega (arith, unmarked-before ne)
+
         -- the way ends
-        pub way-end : getD marks k 0 ≡ i → Climbed m order i start found tree marks counts
+        pub way-end : getD marks k 0 ≡ i → Climbed m order i start tree₀ marks₀ counts₀ tree marks counts
         way-end e = record {
           climbing = climbing-next k i tree marks counts (λ l. e) (way .climbing);
           reached = λ l. elim (eq-or-ne start k) [ inl q ↦ rw q e | inr q ↦ way .reached q ];
           kept = way .kept;
+          restTree = way .restTree;
+          restCounts = way .restCounts;
         }
 
     -- the row ends: with its earlier neighbours all columns that have it are counted
@@ -291,33 +301,3 @@ module _ (m : Mesh) (order : List ℕ) where
         let le : indexOf w near < length near = indexOf-lt near w edge in
         let is : getD inverse (getD near (indexOf w near) 0) 0 ≡ k = ap (λ (x : ℕ). getD inverse x 0) (getD-indexOf near w 0 le) ∙ inverse-of-order m order inverse h k (omega arith) in
         rw is at (f (indexOf w near) le (omega arith))
-
-  -- ---- all rows
-
-  -- no row is counted
-  pub counted-none : (tree counts : List ℕ) → ((k : ℕ) → k < m .nodes → getD tree k 0 ≡ none) → ((k : ℕ) → k < m .nodes → getD counts k 0 ≡ 0)
-      → CountedBelow m order 0 tree counts
-  counted-none tree counts f g = record {
-    parent = λ k l. f k l ∙ sym (cond-false (ltb (firstRow m order k) 0) (firstRow m order k) none (le-ltb (firstRow m order k) 0 (omega arith)));
-    rows = g;
-  }
-
-  -- all rows are counted
-  pub counted-all : (tree counts : List ℕ) → m .nodes ≤ length counts → CountedBelow m order (m .nodes) tree counts
-      → take (m .nodes) counts ≡ map length (columns m order)
-  unfolding columns
-  counted-all tree counts room c =
-      ext-getD 0 (take (m .nodes) counts) (map length (columns m order)) (long ∙ sym many) each
-    where
-      long : length (take (m .nodes) counts) ≡ m .nodes
-      long = length-take-le (m .nodes) counts room
-
-      many : length (map length (columns m order)) ≡ m .nodes
-      many = length-map (columns m order) length ∙ length-map-upFrom (column m order) (m .nodes) 0
-
-      each : (k : ℕ) → k < length (take (m .nodes) counts) → getD (take (m .nodes) counts) k 0 ≡ getD (map length (columns m order)) k 0
-      each k l =
-          let lk : k < m .nodes = omega (arith, long) in
-          getD-take (m .nodes) counts k 0 lk ∙ c .rows k lk ∙ ap length (sym (column-keep m order k))
-          ∙ ap length (sym (getD-map-below (column m order) [] (m .nodes) k lk))
-          ∙ sym (List·getD-map length (columns m order) k [])

@@ -7,18 +7,20 @@ use Prim.Native.Nat.{ℕ, suc, _+_, _-_, _≤_, _<_}
 use native.Mathlib.Nat.{zero-add}
 use native.Mathlib.Omega.{arith}
 use lib.Dec.{ltb, eqb}
-use lib.ListN.{length, set, getD, length-append}
+use lib.ListN.{length, take, drop, set, getD, length-append, length-set}
+use lib.Seq.{take-set-le, drop-set-lt, getD-set-same}
 use borrow.Author.Tests.{eqb-true, ltb-true, lt-ltb, le-ltb}
 use Rattle.plan.specs.Lists.{keep, upFrom, below, written}
 use Rattle.plan.specs.Mesh.{Mesh}
 use Rattle.theory.specs.Rows.{isRow, firstRow}
 use Rattle.theory.proofs.Bools.{and-left, and-right, tested, cond-true, cond-false, lt-or-le}
-use Rattle.theory.proofs.Lists.{isIn-none, of-keep, keep-append, exists-isIn}
+use Rattle.theory.proofs.Lists.{take-more, isIn-none, of-keep, keep-append, exists-isIn}
 use Rattle.theory.proofs.Ranges.{isIn-upFrom, upFrom-add, upFrom-snoc}
 use Rattle.theory.proofs.Counting.{count-exists}
 use Rattle.theory.proofs.EliminationTree.{Above, self as above-self, parent as above-parent, first-later, parent-at-most}
-use Rattle.layout.specs.Arrays.{none, Tree, Rising, markedBelow, Ancestor, self, parent, Meets}
-use Rattle.theory.proofs.Written.{written-push}
+use Rattle.mesh.specs.Lists.{none}
+use Rattle.layout.specs.Arrays.{Tree, Rising, markedBelow, Ancestor, self, parent, Meets}
+use Rattle.layout.proofs.Stores.{written-parts}
 
 -- ---- lists
 
@@ -91,18 +93,20 @@ module _ (marks : List ℕ) (j : ℕ) where
 
 -- ---- the way up
 
--- the way up from j has come to k, and the marked positions up to k are written
+-- the way up from j has come to k: the marked positions up to k are at the front of the rows, and behind the places of all of them the rows are as
+-- found
 pub record Ascent (n j : ℕ) (tree marks found rows : List ℕ) (k at : ℕ) : Type 0 where
   pub known : k < n
   pub later : j ≤ k
   pub above : Ancestor tree j k
   pub many : at ≡ length (markedBelow marks j (k + 1))
-  pub so : rows ≡ written (markedBelow marks j (k + 1)) found
+  pub front : take at rows ≡ markedBelow marks j (k + 1)
+  pub behind : drop (length (markedBelow marks j n)) rows ≡ drop (length (markedBelow marks j n)) found
 
 module _ (n j : ℕ) (tree marks found : List ℕ) (small : n ≤ none) (h : Meets n j tree marks) where
   -- nothing is written
   pub ascent-start : j < n → Ascent n j tree marks found found j 0
-  ascent-start lt = record { known = lt; later = omega arith; above = self; many = rw (marked-none marks j); so = rw (marked-none marks j) }
+  ascent-start lt = record { known = lt; later = omega arith; above = self; many = rw (marked-none marks j); front = sym (marked-none marks j); behind = refl }
 
   module _ (rows : List ℕ) (k at : ℕ) (c : Ascent n j tree marks found rows k at) where
     -- where not all are written there is a parent
@@ -112,53 +116,69 @@ module _ (n j : ℕ) (tree marks found : List ℕ) (small : n ≤ none) (h : Mee
         let le = h .met k (i .0) (c .above) (omega (arith, i .1)) (i .2) (i .3) in
         h .rising k (c .known) (omega (arith, le, i .2))
 
-    -- it is written if it has the mark
-    pub ascent-more : (rows′ : List ℕ) (at′ : ℕ) → at < length (markedBelow marks j n) → at < length found
-        → at′ ≡ cond (eqb (getD marks (getD tree k 0) 0) j) (at + 1) at
-        → rows′ ≡ cond (eqb (getD marks (getD tree k 0) 0) j) (set rows at (getD tree k 0)) rows
+    -- it is written, and the place moves on if it has the mark
+    pub ascent-more : (rows′ : List ℕ) (at′ : ℕ) → at < length (markedBelow marks j n) → at < length rows
+        → at′ ≡ at + cond (eqb (getD marks (getD tree k 0) 0) j) 1 0
+        → rows′ ≡ set rows at (getD tree k 0)
         → Ascent n j tree marks found rows′ (getD tree k 0) at′
-    ascent-more rows′ at′ lt room e f = go (tested (eqb (getD marks (getD tree k 0) 0) j))
+    ascent-more rows′ at′ lt room e f = go (tested (eqb (getD marks p 0) j))
       where
-        up : (k < getD tree k 0) × (getD tree k 0 < n)
+        p : ℕ
+        p = getD tree k 0
+
+        up : (k < p) × (p < n)
         up = ascent-parent lt
 
-        some : getD tree k 0 ≢ none
+        some : p ≢ none
         some q = omega (arith, up .1)
 
-        next : markedBelow marks j (getD tree k 0 + 1) ≡ markedBelow marks j (k + 1) ++ cond (eqb (getD marks (getD tree k 0) 0) j) (getD tree k 0 ∷ []) []
-        next = marked-next marks j (k + 1) (getD tree k 0) (omega (arith, up .0)) (omega (arith, up .0, c .later))
+        next : markedBelow marks j (p + 1) ≡ markedBelow marks j (k + 1) ++ cond (eqb (getD marks p 0) j) (p ∷ []) []
+        next = marked-next marks j (k + 1) p (omega (arith, up .0)) (omega (arith, up .0, c .later))
             (λ i le li m. absurd (omega (arith, h .met k i (c .above) (omega arith) (omega (arith, up .1)) m)))
 
-        taken : eqb (getD marks (getD tree k 0) 0) j ≡ true → markedBelow marks j (getD tree k 0 + 1) ≡ markedBelow marks j (k + 1) ++ (getD tree k 0 ∷ [])
-        taken t = next ∙ ap (λ (l : List ℕ). markedBelow marks j (k + 1) ++ l) (cond-true _ (getD tree k 0 ∷ []) [] t)
+        taken : eqb (getD marks p 0) j ≡ true → markedBelow marks j (p + 1) ≡ markedBelow marks j (k + 1) ++ (p ∷ [])
+        taken t = next ∙ ap (λ (l : List ℕ). markedBelow marks j (k + 1) ++ l) (cond-true _ (p ∷ []) [] t)
 
-        passed : eqb (getD marks (getD tree k 0) 0) j ≡ false → markedBelow marks j (getD tree k 0 + 1) ≡ markedBelow marks j (k + 1)
-        passed t = next ∙ ap (λ (l : List ℕ). markedBelow marks j (k + 1) ++ l) (cond-false _ (getD tree k 0 ∷ []) [] t) ∙ append-nil (markedBelow marks j (k + 1))
+        passed : eqb (getD marks p 0) j ≡ false → markedBelow marks j (p + 1) ≡ markedBelow marks j (k + 1)
+        passed t = next ∙ ap (λ (l : List ℕ). markedBelow marks j (k + 1) ++ l) (cond-false _ (p ∷ []) [] t) ∙ append-nil (markedBelow marks j (k + 1))
 
-        go : (eqb (getD marks (getD tree k 0) 0) j ≡ true) ⊎ (eqb (getD marks (getD tree k 0) 0) j ≡ false) → Ascent n j tree marks found rows′ (getD tree k 0) at′
-        go (inl t) = record {
-          known = up .1;
-          later = omega (arith, up .0, c .later);
-          above = parent (c .above) some;
-          many = e ∙ cond-true _ (at + 1) at t ∙ ap (λ (x : ℕ). x + 1) (c .many) ∙ sym (ap length (taken t) ∙ length-append (markedBelow marks j (k + 1)) (getD tree k 0 ∷ []));
-          so =
-              f ∙ cond-true _ (set rows at (getD tree k 0)) rows t
-              ∙ ap (λ (r : List ℕ). set r at (getD tree k 0)) (c .so)
-              ∙ written-push (markedBelow marks j (k + 1)) found at (getD tree k 0) (sym (c .many)) room
-              ∙ sym (ap (λ (l : List ℕ). written l found) (taken t));
-        }
-        go (inr t) = record {
-          known = up .1;
-          later = omega (arith, up .0, c .later);
-          above = parent (c .above) some;
-          many = e ∙ cond-false _ (at + 1) at t ∙ c .many ∙ sym (ap length (passed t));
-          so = f ∙ cond-false _ (set rows at (getD tree k 0)) rows t ∙ c .so ∙ sym (ap (λ (l : List ℕ). written l found) (passed t));
-        }
+        -- the rows before the place are as before, and the position is at it
+        before : take at (set rows at p) ≡ markedBelow marks j (k + 1)
+        before = take-set-le at rows at p (omega arith) ∙ c .front
+
+        there : take (at + 1) (set rows at p) ≡ markedBelow marks j (k + 1) ++ (p ∷ [])
+        there = take-more (set rows at p) at 0 (omega (arith, length-set rows at p, room)) ∙ rw (before, getD-set-same rows at p 0 room)
+
+        left : drop (length (markedBelow marks j n)) rows′ ≡ drop (length (markedBelow marks j n)) found
+        left = ap (drop (length (markedBelow marks j n))) f ∙ drop-set-lt (length (markedBelow marks j n)) rows at p lt ∙ c .behind
+
+        go : (eqb (getD marks p 0) j ≡ true) ⊎ (eqb (getD marks p 0) j ≡ false) → Ascent n j tree marks found rows′ p at′
+        go (inl t) =
+            let place : at′ ≡ at + 1 = e ∙ ap (λ (x : ℕ). at + x) (cond-true _ 1 0 t) in
+            record {
+              known = up .1;
+              later = omega (arith, up .0, c .later);
+              above = parent (c .above) some;
+              many = place ∙ ap (λ (x : ℕ). x + 1) (c .many) ∙ sym (ap length (taken t) ∙ length-append (markedBelow marks j (k + 1)) (p ∷ []));
+              front = rw (place, f) (there ∙ sym (taken t));
+              behind = left;
+            }
+        go (inr t) =
+            let place : at′ ≡ at = omega (arith, e, cond-false {A = ℕ} (eqb (getD marks p 0) j) 1 0 t) in
+            record {
+              known = up .1;
+              later = omega (arith, up .0, c .later);
+              above = parent (c .above) some;
+              many = place ∙ c .many ∙ sym (ap length (passed t));
+              front = rw (place, f) (before ∙ sym (passed t));
+              behind = left;
+            }
 
     -- all are written
     pub ascent-end : length (markedBelow marks j n) ≤ at → rows ≡ written (markedBelow marks j n) found
     ascent-end le =
-        c .so ∙ ap (λ (l : List ℕ). written l found) (marked-all marks j (k + 1) n (omega (arith, c .known)) (omega (arith, c .many)))
+        let all : markedBelow marks j (k + 1) ≡ markedBelow marks j n = marked-all marks j (k + 1) n (omega (arith, c .known)) (omega (arith, c .many)) in
+        written-parts at (markedBelow marks j n) found rows (c .many ∙ ap length all) (c .front ∙ all) (c .behind)
 
 -- ---- the elimination tree of a mesh
 

@@ -1,6 +1,7 @@
 pub mod Stores
 pub mod Inverse
 pub mod Climbing
+pub mod Counted
 pub mod Totals
 pub mod Marks
 pub mod Children
@@ -10,3 +11,4 @@ pub mod Rows
 pub mod ColumnScan
 pub mod Asked
 pub mod Answered
+pub mod Ended

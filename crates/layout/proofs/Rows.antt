@@ -17,7 +17,8 @@ use Rattle.theory.proofs.Lists.{exists-isIn, isIn-exists, keep-ext}
 use Rattle.theory.proofs.Ranges.{isIn-below, below-isIn}
 use Rattle.theory.proofs.Columns.{column-keep}
 use Rattle.theory.proofs.EliminationTree.{row-range, row-children, first-later}
-use Rattle.layout.specs.Arrays.{none, Ordered, Tree, Marked, Unmarked, neighbourPosition, childRow, markedBelow, Meets}
+use Rattle.mesh.specs.Lists.{none}
+use Rattle.layout.specs.Arrays.{Ordered, Tree, Marked, Unmarked, neighbourPosition, childRow, markedBelow, Meets}
 use Rattle.layout.proofs.Marks.{marked-both, neighbour-edge}
 use Rattle.layout.proofs.Climbs.{tree-first, first-tree, tree-meets}
 

@@ -1,10 +1,11 @@
--- What stands in a list after a store.
-use mathlib.Core.Path.{_≡_, sym, ap, subst, _∙_}
+-- What stands in a list after a store, and after stores in its front alone.
+use mathlib.Core.Path.{_≡_, sym, ap, ap₂, subst, _∙_}
 use mathlib.Core.Logic.{_≢_, inl, inr}
-use mathlib.Core.List.{List}
+use mathlib.Core.List.{List, _++_}
 use Prim.Native.Nat.{ℕ, _<_}
-use lib.ListN.{length, getD, set}
+use lib.ListN.{length, take, drop, getD, set, take-append-drop}
 use lib.Seq.{getD-set-same, getD-set-other}
+use Rattle.plan.specs.Lists.{written}
 use Rattle.theory.proofs.Bools.{eq-or-ne}
 
 -- what is so of the number that is stored, and of those that stood at the other places, is so of each place after the store
@@ -13,3 +14,8 @@ getD-set-cases P l k x i lt here there = elim (eq-or-ne i k) [
   | inl e ↦ subst P (sym (ap (λ (j : ℕ). getD (set l k x) j 0) e ∙ getD-set-same l k x 0 lt)) (here e)
   | inr e ↦ subst P (sym (getD-set-other l k i x 0 e)) (there e)
 ]
+
+-- a list with k entries at its front, and as found behind their places
+pub written-parts : (k : ℕ) (entries found left : List ℕ) → k ≡ length entries → take k left ≡ entries → drop (length entries) left ≡ drop (length entries) found → left ≡ written entries found
+written-parts k entries found left many front behind =
+    sym (take-append-drop k left) ∙ ap₂ (λ (a b : List ℕ). a ++ b) front (ap (λ (i : ℕ). drop i left) many ∙ behind)

@@ -12,10 +12,7 @@ use Rattle.plan.specs.Elimination.{column}
 use Rattle.theory.specs.Counting.{count, Order}
 use Rattle.theory.specs.Checked.{Checked}
 use Rattle.theory.specs.Rows.{isRow, firstRow}
-
--- no position
-abbrev pub none : ℕ
-none = 65535
+use Rattle.mesh.specs.Lists.{none}
 
 -- a mesh that passed checks 1 to 7, an order of its nodes, and the position of each node
 pub record Ordered (m : Mesh) (order positions : List ℕ) : Type 0 where
@@ -40,6 +37,10 @@ pub record CountedBelow (m : Mesh) (order : List ℕ) (i : ℕ) (tree counts : L
 -- the elimination tree: each column's parent is its first row; none where it has no row
 abbrev pub Tree : Mesh → List ℕ → List ℕ → Type 0
 Tree m order tree = (k : ℕ) → k < m .nodes → getD tree k 0 ≡ parentBelow m order (m .nodes) k
+
+-- the same as a list
+unfoldable pub treeOf : Mesh → List ℕ → List ℕ
+treeOf m order = map (parentBelow m order (m .nodes)) (below (m .nodes))
 
 -- each column's parent is a later column, or none
 abbrev pub Rising : ℕ → List ℕ → Type 0

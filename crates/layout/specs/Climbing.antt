@@ -5,7 +5,7 @@ use mathlib.Core.Bool.{true, cond}
 use mathlib.Core.List.{List}
 use Prim.Native.Nat.{ℕ, _+_, _≤_, _<_}
 use lib.Dec.{eqb}
-use lib.ListN.{length, getD}
+use lib.ListN.{length, drop, getD}
 use Rattle.plan.specs.Mesh.{Mesh, maxNodes}
 use Rattle.theory.specs.Rows.{isRow, firstRow}
 use Rattle.layout.specs.Arrays.{Unmarked, parentBelow, rowCountBelow}
@@ -36,8 +36,10 @@ pub record Climbable (i start : ℕ) (tree marks counts : List ℕ) : Type 0 whe
   pub climbing : Climbing mesh order i i tree marks counts
   pub row : start < i → isRow mesh order i start ≡ true
 
--- what it leaves: the column is marked, and so are those that were
-pub record Climbed (m : Mesh) (order : List ℕ) (i start : ℕ) (found tree marks counts : List ℕ) : Type 0 where
+-- what it leaves: the column is marked, and so are those that were; and behind the columns the tree and the counts are as found
+pub record Climbed (m : Mesh) (order : List ℕ) (i start : ℕ) (tree₀ marks₀ counts₀ tree marks counts : List ℕ) : Type 0 where
   pub climbing : Climbing m order i i tree marks counts
   pub reached : start < i → getD marks start 0 ≡ i
-  pub kept : (k : ℕ) → getD found k 0 ≡ i → getD marks k 0 ≡ i
+  pub kept : (k : ℕ) → getD marks₀ k 0 ≡ i → getD marks k 0 ≡ i
+  pub restTree : drop (m .nodes) tree ≡ drop (m .nodes) tree₀
+  pub restCounts : drop (m .nodes) counts ≡ drop (m .nodes) counts₀

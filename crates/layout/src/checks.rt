@@ -1,4 +1,6 @@
-// Checks that several entry points make: 8, of the lent results, and 17's rule of the columns of a layout.
+// Checks that several entry points make: 8, of the lent results, 17's rule of a column's rows, and 22, of a layout.
+use mesh::bad_starts;
+use mesh::index;
 use mesh::list;
 use mesh::wide;
 ghost use mathlib.Core.Path.{_≡_};
@@ -8,6 +10,7 @@ ghost use lib.ListN.{length, getD};
 ghost use Rattle.plan.specs.Mesh.{badStarts};
 ghost use Rattle.plan.specs.Planning.{buffersTooShort, lengths};
 ghost use Rattle.plan.specs.File.{badColumn, badColumns};
+ghost use Rattle.plan.specs.Questions.{badLayout};
 
 // Check 8: a lent result other than the rows is too short. O(1).
 pub fn buffers_too_short(
@@ -54,7 +57,7 @@ pub fn bad_column(n: usize, j: usize, column: &[u16]) -> bool
 }
 
 // Whether some column breaks 17's rule. O(n + slots).
-pub fn bad_columns(n: usize, columnStarts: &[u32], rows: &[u16]) -> bool
+fn bad_columns(n: usize, columnStarts: &[u32], rows: &[u16]) -> bool
     requires { ⌜ (badStarts n (now columnStarts) ≡ false) × (getD (now columnStarts) n 0 ≤ length (now rows)) ⌝ }
     ensures { λ r. ⌜ r ≡ badColumns n (now (columnStarts .entry)) (now (rows .entry)) ⌝ }
 {
@@ -64,4 +67,17 @@ pub fn bad_columns(n: usize, columnStarts: &[u32], rows: &[u16]) -> bool
         }
     }
     false
+}
+
+// Check 22: the starts are not those of n columns, the last is above the rows' length, or a column breaks 17's rule. O(n + slots).
+pub fn bad_layout(n: usize, columnStarts: &[u32], rows: &[u16]) -> bool
+    ensures { λ r. ⌜ r ≡ badLayout n (now (columnStarts .entry)) (now (rows .entry)) ⌝ }
+{
+    if bad_starts(n, columnStarts) {
+        return true;
+    }
+    if rows.len() < index(columnStarts[n]) {
+        return true;
+    }
+    bad_columns(n, columnStarts, rows)
 }

@@ -1,5 +1,6 @@
 // The rows of the columns, each column written at its start in the lent rows.
-use crate::positions::NONE;
+use mesh::NONE;
+use mesh::filled;
 use mesh::index;
 use mesh::list;
 use mesh::wide;
@@ -10,14 +11,14 @@ ghost use Prim.Native.Nat.{ℕ, _+_, _≤_, _<_};
 ghost use lib.Dec.{eqb};
 ghost use lib.ListN.{length, take, set, getD};
 ghost use Rattle.plan.specs.Lists.{written, isIn, listAt};
-ghost use Rattle.plan.specs.Mesh.{lent};
+ghost use Rattle.plan.specs.Mesh.{maxNodes, lent};
 ghost use Rattle.plan.specs.Elimination.{columns, startsOf};
-ghost use Rattle.mesh.specs.Lists.{ListWithin};
-ghost use Rattle.layout.specs.Arrays.{none, Ordered, Tree, Rising, Children, Marked, Unmarked, neighbourPosition, childRow, markedBelow, Meets, rowsBefore};
+ghost use Rattle.mesh.specs.Lists.{none, ListWithin};
+ghost use Rattle.layout.specs.Arrays.{Ordered, Tree, Rising, Children, Marked, Unmarked, neighbourPosition, childRow, markedBelow, Meets, rowsBefore};
 
 // Column c is put before the children of its parent, where it has one. `n` is for the contract alone. O(1).
 fn link(n: usize, c: usize, tree: &[u16], first: &mut [u16], next: &mut [u16])
-    requires { ⌜ (n ≤ 4096) × (n ≤ length (now tree)) × Rising n (now tree) × (c < n) × Children n (now tree) c (now first) (now next) ⌝ }
+    requires { ⌜ (n ≤ maxNodes) × (n ≤ length (now tree)) × Rising n (now tree) × (c < n) × Children n (now tree) c (now first) (now next) ⌝ }
     ensures { λ _. ⌜ Children n (now (tree .entry)) (c + 1) (now (first .exit)) (now (next .exit)) ⌝ }
 {
     let p = tree[c];
@@ -30,7 +31,7 @@ fn link(n: usize, c: usize, tree: &[u16], first: &mut [u16], next: &mut [u16])
 
 // The children of each column in the elimination tree, the greatest first. `first` is lent with none at every place. O(n).
 fn link_children(n: usize, tree: &[u16], first: &mut [u16], next: &mut [u16])
-    requires { ⌜ (n ≤ 4096) × (n ≤ length (now tree)) × Rising n (now tree) × (n ≤ length (now first)) × (n ≤ length (now next)) ⌝ }
+    requires { ⌜ (n ≤ maxNodes) × (n ≤ length (now tree)) × Rising n (now tree) × (n ≤ length (now first)) × (n ≤ length (now next)) ⌝ }
     requires { ⌜ ((p : ℕ) → p < n → getD (now first) p 0 ≡ none) ⌝ }
     ensures { λ _. ⌜ Children n (now (tree .entry)) n (now (first .exit)) (now (next .exit)) ⌝ }
 {
@@ -79,7 +80,7 @@ fn mark_children(
     j: usize,
     marks: &mut [u16],
 )
-    requires { ⌜ (n ≤ 4096) × Children n (now tree) n (now first) (now next) × (j < n) ⌝ }
+    requires { ⌜ (n ≤ maxNodes) × Children n (now tree) n (now first) (now next) × (j < n) ⌝ }
     requires { ⌜ ((c : ℕ) → c < n → getD (now tree) c 0 ≡ j → ListWithin (now columnStarts) (now rows) c × ((i : ℕ) → isIn i (listAt (now columnStarts) (now rows) c) ≡ true → i < length (now marks))) ⌝ }
     ensures { λ _. ⌜ Marked j (childRow n (now (tree .entry)) (now (columnStarts .entry)) (now (rows .entry)) j) (now (marks .entry)) (now (marks .exit)) ⌝ }
 {
@@ -90,22 +91,31 @@ fn mark_children(
     }
 }
 
-// Position k is written at place `at` if it has the mark j. O(1).
+// 1 for a position that has the mark j, 0 for one that has another. O(1).
+fn marked(mark: u16, j: u16) -> usize
+    ensures { λ r. ⌜ r ≡ cond (eqb mark j) 1 0 ⌝ }
+{
+    if mark == j {
+        return 1;
+    }
+    0
+}
+
+// Position k is written at place `at`, and the place moves on if k has the mark j. If not, the next position is written over it: a store
+// costs less than a branch that nothing predicts. O(1).
 fn put(k: u16, j: u16, marks: &[u16], at: usize, rows: &mut [u16]) -> usize
     requires { ⌜ (k < length (now marks)) × (at < length (now rows)) ⌝ }
-    ensures { λ r. ⌜ (r ≡ cond (eqb (getD (now (marks .entry)) k 0) j) (at + 1) at) × (now (rows .exit) ≡ cond (eqb (getD (now (marks .entry)) k 0) j) (set (now (rows .entry)) at k) (now (rows .entry))) ⌝ }
+    ensures { λ r. ⌜ (r ≡ at + cond (eqb (getD (now (marks .entry)) k 0) j) 1 0) × (now (rows .exit) ≡ set (now (rows .entry)) at k) ⌝ }
 {
-    if marks[wide(k)] != j {
-        return at;
-    }
     rows[at] = k;
-    at + 1
+    at + marked(marks[wide(k)], j)
 }
 
 // One column's rows are written at the front of a part of the rows: up the elimination tree from column j, each marked position is one,
-// and they come ascending. `n` is for the contract alone. O(the way to the last row).
+// and they come ascending. `count` of them end the way, so that nothing is written behind their places. `n` is for the contract alone.
+// O(the way to the last row).
 fn write_column(n: usize, j: u16, count: usize, tree: &[u16], marks: &[u16], rows: &mut [u16])
-    requires { ⌜ (n ≤ 4096) × (j < n) × (n ≤ length (now tree)) × (n ≤ length (now marks)) × Meets n j (now tree) (now marks) ⌝ }
+    requires { ⌜ (n ≤ maxNodes) × (j < n) × (n ≤ length (now tree)) × (n ≤ length (now marks)) × Meets n j (now tree) (now marks) ⌝ }
     requires { ⌜ (count ≡ length (markedBelow (now marks) j n)) × (count ≤ length (now rows)) ⌝ }
     ensures { λ _. ⌜ now (rows .exit) ≡ written (markedBelow (now (marks .entry)) j n) (now (rows .entry)) ⌝ }
 {
@@ -145,13 +155,6 @@ fn add_column(
     write_column(n, j as u16, e - a, tree, marks, &mut rows[a..]);
 }
 
-// 4,096 times no position. O(4,096).
-fn no_positions() -> [u16; 4096]
-    ensures { λ r. ⌜ (length r ≡ 4096) × ((k : ℕ) → k < 4096 → getD r k 0 ≡ none) ⌝ }
-{
-    [NONE; 4096]
-}
-
 // The rows of all columns. O(4,096 + slots + entries + the ways up the tree).
 pub fn write_columns(
     n: usize,
@@ -167,9 +170,9 @@ pub fn write_columns(
     requires { ⌜ (take (n + 1) (now columnStarts) ≡ startsOf (columns (lent n (now starts) (now neighbours)) (now order))) × (length (flatten (columns (lent n (now starts) (now neighbours)) (now order))) ≤ length (now rows)) ⌝ }
     ensures { λ _. ⌜ now (rows .exit) ≡ written (flatten (columns (lent n (now (starts .entry)) (now (neighbours .entry))) (now (order .entry)))) (now (rows .entry)) ⌝ }
 {
-    let mut first = no_positions();
-    let mut next = no_positions();
-    let mut marks = no_positions();
+    let mut first = filled(NONE);
+    let mut next = filled(NONE);
+    let mut marks = filled(NONE);
     link_children(n, tree, &mut first, &mut next);
     for j in 0..n {
         add_column(

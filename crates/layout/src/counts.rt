@@ -1,18 +1,20 @@
 // The elimination tree and the column counts, without storing a row: for each row the columns that have it are those met by climbing from
 // its earlier neighbours.
-use crate::positions::NONE;
+use mesh::NONE;
+use mesh::filled;
 use mesh::list;
 use mesh::wide;
 ghost use mathlib.Core.Path.{_≡_};
 ghost use mathlib.Core.Bool.{cond};
 ghost use mathlib.Core.List.{map};
-ghost use Prim.Native.Nat.{ℕ, _+_, _≤_, _<_};
+ghost use Prim.Native.Nat.{_+_, _≤_, _<_};
 ghost use lib.Dec.{eqb};
-ghost use lib.ListN.{length, take, getD};
+ghost use lib.ListN.{length, take, drop, replicate};
 ghost use Rattle.plan.specs.Lists.{total, runningSums, written};
-ghost use Rattle.plan.specs.Mesh.{lent};
+ghost use Rattle.plan.specs.Mesh.{maxNodes, lent};
 ghost use Rattle.plan.specs.Elimination.{columns, multiplications};
-ghost use Rattle.layout.specs.Arrays.{none, Ordered, CountedBelow, Tree, Unmarked};
+ghost use Rattle.mesh.specs.Lists.{none};
+ghost use Rattle.layout.specs.Arrays.{Ordered, CountedBelow, treeOf, Unmarked};
 ghost use Rattle.layout.specs.Climbing.{Climbable, Climbed};
 
 // A column's parent once row i has touched it: i, unless an earlier row did. O(1).
@@ -29,7 +31,7 @@ fn parent_of(parent: u16, i: u16) -> u16
 // of i itself ends the way. O(columns marked + 1).
 fn climb(i: u16, start: u16, tree: &mut [u16], marks: &mut [u16], counts: &mut [u16])
     requires { ⌜ Climbable i start (now tree) (now marks) (now counts) ⌝ }
-    ensures { λ _. ⌜ ((w : Climbable i start (now (tree .entry)) (now (marks .entry)) (now (counts .entry))) → Climbed (w .mesh) (w .order) i start (now (marks .entry)) (now (tree .exit)) (now (marks .exit)) (now (counts .exit))) ⌝ }
+    ensures { λ _. ⌜ ((w : Climbable i start (now (tree .entry)) (now (marks .entry)) (now (counts .entry))) → Climbed (w .mesh) (w .order) i start (now (tree .entry)) (now (marks .entry)) (now (counts .entry)) (now (tree .exit)) (now (marks .exit)) (now (counts .exit))) ⌝ }
 {
     if start > i {
         return;
@@ -59,6 +61,7 @@ fn count_row(
     requires { ⌜ Ordered (lent n (now starts) (now neighbours)) (now order) (now positions) × (i < n) × (n ≤ length (now tree)) × (n ≤ length (now marks)) × (n ≤ length (now counts)) ⌝ }
     requires { ⌜ CountedBelow (lent n (now starts) (now neighbours)) (now order) i (now tree) (now counts) × Unmarked n i (now marks) ⌝ }
     ensures { λ _. ⌜ CountedBelow (lent n (now (starts .entry)) (now (neighbours .entry))) (now (order .entry)) (i + 1) (now (tree .exit)) (now (counts .exit)) × Unmarked n (i + 1) (now (marks .exit)) ⌝ }
+    ensures { λ _. ⌜ (drop n (now (tree .exit)) ≡ drop n (now (tree .entry))) × (drop n (now (counts .exit)) ≡ drop n (now (counts .entry))) ⌝ }
 {
     marks[i] = i as u16;
     let entries = list(starts, neighbours, wide(order[i]));
@@ -70,14 +73,14 @@ fn count_row(
 // The first n numbers are set to x. O(n).
 fn reset(n: usize, x: u16, numbers: &mut [u16])
     requires { ⌜ n ≤ length (now numbers) ⌝ }
-    ensures { λ _. ⌜ ((k : ℕ) → k < n → getD (now (numbers .exit)) k 0 ≡ x) ⌝ }
+    ensures { λ _. ⌜ now (numbers .exit) ≡ written (replicate n x) (now (numbers .entry)) ⌝ }
 {
     for k in 0..n {
         numbers[k] = x;
     }
 }
 
-// The elimination tree and the number of rows of each column. O(n + slots + entries) time, and no memory but the lent arrays.
+// The elimination tree and the number of rows of each column. O(4,096 + slots + entries).
 pub fn count_rows(
     n: usize,
     starts: &[u32],
@@ -85,14 +88,14 @@ pub fn count_rows(
     order: &[u16],
     positions: &[u16],
     tree: &mut [u16],
-    marks: &mut [u16],
     counts: &mut [u16],
 )
-    requires { ⌜ Ordered (lent n (now starts) (now neighbours)) (now order) (now positions) × (n ≤ length (now tree)) × (n ≤ length (now marks)) × (n ≤ length (now counts)) ⌝ }
-    ensures { λ _. ⌜ (take n (now (counts .exit)) ≡ map length (columns (lent n (now (starts .entry)) (now (neighbours .entry))) (now (order .entry)))) × Tree (lent n (now (starts .entry)) (now (neighbours .entry))) (now (order .entry)) (now (tree .exit)) ⌝ }
+    requires { ⌜ Ordered (lent n (now starts) (now neighbours)) (now order) (now positions) × (n ≤ length (now tree)) × (n ≤ length (now counts)) ⌝ }
+    ensures { λ _. ⌜ now (tree .exit) ≡ written (treeOf (lent n (now (starts .entry)) (now (neighbours .entry))) (now (order .entry))) (now (tree .entry)) ⌝ }
+    ensures { λ _. ⌜ now (counts .exit) ≡ written (map length (columns (lent n (now (starts .entry)) (now (neighbours .entry))) (now (order .entry)))) (now (counts .entry)) ⌝ }
 {
+    let mut marks = filled(NONE);
     reset(n, NONE, tree);
-    reset(n, NONE, marks);
     reset(n, 0, counts);
     for i in 0..n {
         count_row(
@@ -103,7 +106,7 @@ pub fn count_rows(
             positions,
             i,
             tree,
-            marks,
+            &mut marks,
             counts,
         );
     }
@@ -117,7 +120,7 @@ pub struct Totals {
 
 // The sums over the columns. O(n).
 pub fn sum(n: usize, counts: &[u16]) -> Totals
-    requires { ⌜ (n ≤ 4096) × (n ≤ length (now counts)) ⌝ }
+    requires { ⌜ (n ≤ maxNodes) × (n ≤ length (now counts)) ⌝ }
     ensures { λ r. ⌜ (r .slots ≡ total (take n (now (counts .entry)))) × (r .multiplications ≡ multiplications (take n (now (counts .entry)))) ⌝ }
 {
     let mut slots: u32 = 0;
@@ -135,7 +138,7 @@ pub fn sum(n: usize, counts: &[u16]) -> Totals
 
 // Where each column's rows start, and behind the last one the number of all slots. O(n).
 pub fn write_starts(n: usize, counts: &[u16], columnStarts: &mut [u32])
-    requires { ⌜ (n ≤ 4096) × (n ≤ length (now counts)) × (n < length (now columnStarts)) ⌝ }
+    requires { ⌜ (n ≤ maxNodes) × (n ≤ length (now counts)) × (n < length (now columnStarts)) ⌝ }
     ensures { λ _. ⌜ now (columnStarts .exit) ≡ written (runningSums 0 (take n (now (counts .entry)))) (now (columnStarts .entry)) ⌝ }
 {
     let mut start: u32 = 0;

@@ -7,7 +7,7 @@ mod positions;
 mod questions;
 
 pub use checks::bad_column;
-pub use checks::bad_columns;
+pub use checks::bad_layout;
 pub use checks::buffers_too_short;
 pub use columns::write_columns;
 pub use counts::Totals;

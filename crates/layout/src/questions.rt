@@ -1,8 +1,7 @@
 // "Two questions over a layout (n, column starts, rows)": the slot of a pair of positions, and a column's rows. Each looks at the whole
 // layout first.
-use crate::checks::bad_columns;
+use crate::checks::bad_layout;
 use mesh::bad_node_count;
-use mesh::bad_starts;
 use mesh::index;
 use mesh::list;
 use mesh::lower_bound;
@@ -10,27 +9,12 @@ use mesh::wide;
 use plan::PairAnswer;
 use plan::Span;
 ghost use mathlib.Core.Path.{_≡_};
-ghost use mathlib.Core.Bool.{true, false};
+ghost use mathlib.Core.Bool.{true};
 ghost use Rattle.plan.specs.Lists.{ascending, listAt};
 ghost use Rattle.plan.specs.Refusals.{firstFault};
 ghost use Rattle.plan.specs.Answers.{accepted, pairReply};
-ghost use Rattle.plan.specs.Mesh.{badNodeCount};
-ghost use Rattle.plan.specs.Questions.{badLayout, layoutChecks, slotOf, pairQuestion, columnRefusal, columnSpan, columnRows};
+ghost use Rattle.plan.specs.Questions.{layoutChecks, slotOf, pairQuestion, columnRefusal, columnSpan, columnRows};
 ghost use Rattle.mesh.specs.Lists.{ListWithin};
-
-// Check 22: the starts are not those of n columns, the last is above the rows' length, or a column breaks 17's rule. O(n + slots).
-fn bad_layout(n: usize, columnStarts: &[u32], rows: &[u16]) -> bool
-    requires { ⌜ badNodeCount n ≡ false ⌝ }
-    ensures { λ r. ⌜ r ≡ badLayout n (now (columnStarts .entry)) (now (rows .entry)) ⌝ }
-{
-    if bad_starts(n, columnStarts) {
-        return true;
-    }
-    if rows.len() < index(columnStarts[n]) {
-        return true;
-    }
-    bad_columns(n, columnStarts, rows)
-}
 
 // The first refusal of checks 1 and 22, 0 for none. O(n + slots).
 fn layout_refusal(n: usize, columnStarts: &[u32], rows: &[u16]) -> u32

@@ -7,7 +7,7 @@ use native.Mathlib.Omega.{arith}
 use borrow.Author.Needs.{needs}
 use lib.ListN.{length, take, drop, getD, length-take, length-drop}
 use Rattle.plan.specs.Lists.{isIn, listAt, written}
-use Rattle.plan.specs.Mesh.{Mesh, lent}
+use Rattle.plan.specs.Mesh.{maxNodes, Mesh, lent}
 use Rattle.plan.specs.Elimination.{column}
 use Rattle.theory.specs.Rows.{isRow}
 use Rattle.theory.proofs.EliminationTree.{row-range}
@@ -30,7 +30,7 @@ listed s c lt = column-found (mesh s) (s .args .order .now) (s .args .columnStar
 bounds : (s : tie.Start) →
     let a : ℕ = getD (s .args .columnStarts .now) (s .args .j) 0 in
     let e : ℕ = getD (s .args .columnStarts .now) (s .args .j + 1) 0 in
-    (s .args .n ≤ 4096) × (s .args .n < length (s .args .columnStarts .now)) × (a ≡ length (rowsBefore (mesh s) (s .args .order .now) (s .args .j))) × (e ≡ a + length (column (mesh s) (s .args .order .now) (s .args .j))) × (e ≤ length (s .args .rows .now))
+    (s .args .n ≤ maxNodes) × (s .args .n < length (s .args .columnStarts .now)) × (a ≡ length (rowsBefore (mesh s) (s .args .order .now) (s .args .j))) × (e ≡ a + length (column (mesh s) (s .args .order .now) (s .args .j))) × (e ≤ length (s .args .rows .now))
 bounds s =
     let m = mesh s in
     let order = s .args .order .now in

@@ -1,26 +1,38 @@
 -- `layout::columns::put` meets its contract.
 use mathlib.Core.Path.{refl}
+use mathlib.Core.Bool.{Bool, true, false, cond}
+use Prim.Native.Nat.{ℕ, _≤_}
+use native.Mathlib.Omega.{arith}
+use lib.Dec.{eqb}
+use lib.ListN.{getD}
 use borrow.Author.Needs.{needs}
-use borrow.Author.Tests.{eq-eqb, ne-eqb}
 use Rattle.layout.proofs.columns.put.Statement.{statement}
 use Rattle.layout.proofs.columns.put.Tie as tie
 
-returns : tie.Need-returns
-returns c = rw (ne-eqb _ _ (rw (c .before .before .wide .ensures) at (c .if1 .taken))) (refl, refl)
+-- the place moves on by no more than 1
+few : (b : Bool) → cond {A = ℕ} b 1 0 ≤ 1
+few true = omega arith
+few false = omega arith
 
-returns-2 : tie.Need-returns-2
-returns-2 c = rw (eq-eqb _ _ (rw (c .before .before .wide .ensures) at (c .if1 .left))) (refl, refl)
+add-result : tie.Need-add-result
+add-result c =
+    let w = c .before .before in
+    let a = w .before .before .before .args in
+    omega (arith, c .marked .ensures, few (eqb (getD (a .marks .now) (w .wide .result) 0) (a .j)))
+
+returns : tie.Need-returns
+returns c = rw (c .marked .ensures, c .before .before .wide .ensures) (refl, refl)
 
 pub put-spec : {M : Type 1} → statement M
 put-spec =
     tie.close
     (tie.spec
+    (λ c. search needs)
+    (λ c. search needs)
     (λ c κs. search needs)
     (λ c. search needs)
     (λ c. search needs)
-    returns
+    (λ c κs. search needs)
+    add-result
     (λ c. search needs)
-    (λ c. search needs)
-    (λ c. search needs)
-    (λ c. search needs)
-    returns-2)
+    returns)

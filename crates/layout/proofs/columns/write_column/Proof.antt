@@ -53,7 +53,7 @@ loop-again c =
       p .put .kept .1 .1 .1 .1 .0 ∙ l .loop .inv .0,
       rw here
           (ascent-more (s .args .n) (s .args .j) (s .args .tree .now) (s .args .marks .now) (s .args .rows .now) (omega arith) (s .pre .0 .4) (l .loop .rows) (l .loop .k) (l .loop .at) (l .loop .inv .1)
-          (p .put .last .1 .1 .1 .1 .0) (p .put .result) (omega (arith, k .loop-test .taken, s .pre .1 .0)) (omega (arith, k .loop-test .taken, s .pre .1 .1))
+          (p .put .last .1 .1 .1 .1 .0) (p .put .result) (omega (arith, k .loop-test .taken, s .pre .1 .0)) (omega (arith, k .loop-test .taken, s .pre .1 .1, l .loop .inv .0))
           (rw here at (p .put .ensures .0)) (rw here at (p .put .ensures .1))),
     )
 

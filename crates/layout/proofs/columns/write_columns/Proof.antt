@@ -4,10 +4,12 @@ use mathlib.Core.List.{List}
 use Prim.Native.Nat.{ℕ, _+_, _-_, _≤_, _<_}
 use native.Mathlib.Omega.{arith}
 use borrow.Author.Needs.{needs}
-use lib.ListN.{length}
+use lib.ListN.{length, getD}
 use Rattle.plan.specs.Lists.{written}
-use Rattle.plan.specs.Mesh.{Mesh, lent}
+use Rattle.plan.specs.Mesh.{maxNodes, Mesh, lent}
 use Rattle.plan.specs.Elimination.{column}
+use Rattle.mesh.specs.Lists.{none}
+use Rattle.mesh.proofs.Lists.{filled-at}
 use Rattle.layout.specs.Arrays.{Unmarked, rowsBefore}
 use Rattle.theory.proofs.Written.{written-again, written-over}
 use Rattle.layout.proofs.Grown.{rows-none, rows-more, rows-all}
@@ -17,7 +19,7 @@ use Rattle.layout.proofs.columns.write_columns.Tie as tie
 
 abbrev Inv-loop : tie.InvT-loop
 Inv-loop n starts neighbours order positions tree columnStarts rows₀ first next marks₀ j₀ rows marks j =
-    (j ≤ n) × (length rows ≡ length rows₀) × (length marks ≡ 4096) × Unmarked n j marks × (rows ≡ written (rowsBefore (lent n starts neighbours) order j) rows₀)
+    (j ≤ n) × (length rows ≡ length rows₀) × (length marks ≡ maxNodes) × Unmarked n j marks × (rows ≡ written (rowsBefore (lent n starts neighbours) order j) rows₀)
 
 abbrev μ-loop : tie.MeasureT-loop
 μ-loop n starts neighbours order positions tree columnStarts rows₀ first next marks₀ j₀ rows marks j = n - j
@@ -27,10 +29,10 @@ abbrev mesh : tie.Start Inv-loop μ-loop → Mesh
 mesh s = lent (s .args .n) (s .args .starts .now) (s .args .neighbours .now)
 
 -- where the working arrays were made, and the function's start
-abbrev made : tie.At-loop Inv-loop μ-loop → tie.After-no-positions3 Inv-loop μ-loop
+abbrev made : tie.At-loop Inv-loop μ-loop → tie.After-filled3 Inv-loop μ-loop
 made l = l .before .before .before .before .before .before
 
-abbrev start : tie.After-no-positions3 Inv-loop μ-loop → tie.Start Inv-loop μ-loop
+abbrev start : tie.After-filled3 Inv-loop μ-loop → tie.Start Inv-loop μ-loop
 start p = p .before .before .before .before .before .before .before .before .before .before
 
 link-children-requires : tie.Need-link-children-requires Inv-loop μ-loop
@@ -38,15 +40,15 @@ link-children-requires c κs =
     let p = c .before .before in
     let s = start p in
     let few = s .pre .0 .0 .checked .few in
-    let clear = p .before .before .no-positions .ensures in (
+    let first = p .before .before .filled .ensures in (
       (
         few,
         s .pre .0 .1,
         tree-rising (mesh s) (s .args .order .now) (s .args .tree .now) (s .pre .0 .2),
-        omega (arith, few, clear .0),
-        omega (arith, few, p .before .no-positions2 .ensures .0),
+        omega (arith, few, first .1),
+        omega (arith, few, p .before .filled2 .ensures .1),
       ),
-      λ k lt. clear .1 k (omega (arith, few)),
+      λ k lt. ap (λ (l : List ℕ). getD l k 0) (first .0) ∙ filled-at none k (omega (arith, few)),
     )
 
 loop-holds : tie.Need-loop-holds Inv-loop μ-loop
@@ -54,8 +56,9 @@ loop-holds c =
     let p = c .before .before .before .before .before in
     let s = start p in
     let few = s .pre .0 .0 .checked .few in
-    let clear = p .no-positions3 .ensures in
-    (omega arith, refl, clear .0, λ i r li le lr e. omega (arith, few, clear .1 i (omega (arith, few))), rw (rows-none (mesh s) (s .args .order .now)))
+    let marks = p .filled3 .ensures in
+    let clear : (i : ℕ) → i < s .args .n → getD (p .filled3 .result) i 0 ≡ none = λ i l. ap (λ (m : List ℕ). getD m i 0) (marks .0) ∙ filled-at none i (omega (arith, few)) in
+    (omega arith, refl, marks .1, λ i r li le lr e. omega (arith, few, clear i li), rw (rows-none (mesh s) (s .args .order .now)))
 
 add-column-requires : tie.Need-add-column-requires Inv-loop μ-loop
 add-column-requires c κs =

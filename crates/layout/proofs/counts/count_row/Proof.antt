@@ -7,7 +7,7 @@ use mathlib.Core.List.{List}
 use Prim.Native.Nat.{ℕ, _-_, _≤_, _<_}
 use native.Mathlib.Omega.{arith}
 use borrow.Author.Needs.{needs}
-use lib.ListN.{length, getD, length-set}
+use lib.ListN.{length, drop, getD, length-set}
 use Rattle.plan.specs.Lists.{listAt}
 use Rattle.plan.specs.Mesh.{Mesh, lent, neighboursOf}
 use Rattle.theory.specs.Rows.{isRow}
@@ -28,6 +28,8 @@ record Inv (m : Mesh) (order positions : List ℕ) (i : ℕ) (entries tree₀ ma
   longTree : length tree ≡ length tree₀
   longMarks : length marks ≡ length marks₀
   longCounts : length counts ≡ length counts₀
+  restTree : drop (m .nodes) tree ≡ drop (m .nodes) tree₀
+  restCounts : drop (m .nodes) counts ≡ drop (m .nodes) counts₀
 
 abbrev Inv-loop : tie.InvT-loop
 Inv-loop n starts neighbours order positions i tree₀ marks₀ counts₀ entries e₀ e-end tree marks counts e =
@@ -68,6 +70,8 @@ loop-holds c =
       longTree = refl;
       longMarks = refl;
       longCounts = refl;
+      restTree = refl;
+      restCounts = refl;
     }
 
 -- what a neighbour's position is
@@ -139,6 +143,8 @@ loop-again c =
       longTree = d .climb .kept .1 .1 .0 ∙ l .inv .longTree;
       longMarks = d .climb .kept .1 .1 .1 .0 ∙ l .inv .longMarks;
       longCounts = d .climb .kept .1 .1 .1 .1 .0 ∙ l .inv .longCounts;
+      restTree = t .restTree ∙ l .inv .restTree;
+      restCounts = t .restCounts ∙ l .inv .restCounts;
     }
 
 returns : tie.Need-returns Inv-loop μ-loop
@@ -146,10 +152,13 @@ returns c =
     let l = c .before .loop in
     let s = start (c .before .before .before) in
     let a = s .args in (
-      climbing-end (mesh s) (a .order .now) (a .i) (s .pre .0 .1) (l .tree) (l .marks) (l .counts) (s .pre .0 .0 .checked .symmetric) (l .inv .climbing)
-          (entries-all (mesh s) (a .order .now) (a .positions .now) (s .pre .0 .0) (a .i) (s .pre .0 .1) (l .marks)
-          (rw (← l .inv .near) (λ p h. l .inv .reached p (omega arith)))),
-      l .inv .climbing .unmarked,
+      (
+        climbing-end (mesh s) (a .order .now) (a .i) (s .pre .0 .1) (l .tree) (l .marks) (l .counts) (s .pre .0 .0 .checked .symmetric) (l .inv .climbing)
+            (entries-all (mesh s) (a .order .now) (a .positions .now) (s .pre .0 .0) (a .i) (s .pre .0 .1) (l .marks)
+            (rw (← l .inv .near) (λ p h. l .inv .reached p (omega arith)))),
+        l .inv .climbing .unmarked,
+      ),
+      (l .inv .restTree, l .inv .restCounts),
     )
 
 same-length-2 : tie.Need-same-length-2 Inv-loop μ-loop

@@ -25,4 +25,4 @@ unfolding layoutChecks firstFault
 returns-3 c = rw (counted (c .before .before), sym (c .before .bad-layout .ensures) ∙ c .if2 .left)
 
 pub layout-refusal-spec : {M : Type 1} → statement M
-layout-refusal-spec = tie.close (tie.spec (λ c κs. search needs) returns (λ c κs. counted c) returns-2 returns-3)
+layout-refusal-spec = tie.close (tie.spec (λ c κs. search needs) returns (λ c κs. search needs) returns-2 returns-3)

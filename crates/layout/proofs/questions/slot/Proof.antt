@@ -12,7 +12,7 @@ use Rattle.plan.specs.Lists.{isIn, listAt, ascending}
 use Rattle.plan.specs.Answers.{accepted, noSlotCase}
 use Rattle.plan.specs.Questions.{slotOf}
 use Rattle.mesh.specs.Lists.{LowerBound}
-use Rattle.mesh.proofs.Bisection.{place-none, place-in, place-first}
+use Rattle.mesh.proofs.Bisection.{less-bound, place-none, place-in, place-first}
 use Rattle.mesh.proofs.Lists.{list-long}
 use Rattle.layout.proofs.Answered.{slot-none, slot-found}
 use Rattle.layout.proofs.questions.slot.Statement.{statement}
@@ -24,7 +24,9 @@ column s = listAt (s .args .columnStarts .now) (s .args .rows .now) (s .args .j)
 
 -- the place found is row i's place in it
 placed : (c : tie.After-lower-bound) → let s = c .before .before .before .before in LowerBound (column s) (s .args .i) (c .lower-bound .result)
-placed c = rw (c .before .list .ensures) at (c .lower-bound .ensures)
+placed c =
+    let s = c .before .before .before .before in
+    less-bound (column s) (s .args .i) (c .lower-bound .result) (s .pre .1) (rw (c .before .list .ensures) at (c .lower-bound .ensures))
 
 lower-bound-requires : tie.Need-lower-bound-requires
 lower-bound-requires c κs = ap ascending (c .list .ensures) ∙ c .before .before .before .pre .1
@@ -77,8 +79,8 @@ slot-spec =
     (λ c κs. search needs)
     lower-bound-requires
     returns
-    (λ c. search needs)
-    (λ c. search needs)
+    (λ c. omega (arith, inside c, ap length (c .before .before .list .ensures)))
+    (λ c. omega (arith, inside (c .before), ap length (c .before .before .before .list .ensures)))
     (λ c κs. search needs)
     returns-2
     (λ c. search needs)

@@ -1,14 +1,16 @@
--- `layout::questions::bad_layout` meets its contract: the three tests are those of `badLayout`.
+-- `layout::checks::bad_layout` meets its contract: the three tests are those of `badLayout`.
 use mathlib.Core.Path.{_≡_, sym, _∙_}
 use mathlib.Core.Bool.{false}
+use Prim.Native.Nat.{_+_}
 use native.Mathlib.Omega.{arith}
+use lib.ListN.{length}
 use borrow.Author.Tests.{lt-ltb, le-ltb}
 use borrow.Author.Needs.{needs}
 use Rattle.plan.specs.Mesh.{badStarts}
 use Rattle.plan.specs.Questions.{badLayout}
-use Rattle.theory.proofs.Checked.{node-count, good-starts}
-use Rattle.layout.proofs.questions.bad_layout.Statement.{statement}
-use Rattle.layout.proofs.questions.bad_layout.Tie as tie
+use Rattle.theory.proofs.Checked.{good-starts}
+use Rattle.layout.proofs.checks.bad_layout.Statement.{statement}
+use Rattle.layout.proofs.checks.bad_layout.Tie as tie
 
 -- the starts have no fault
 started : (c : tie.Else1) → let a = c .before .before .before .before .args in badStarts (a .n) (a .columnStarts .now) ≡ false
@@ -18,14 +20,9 @@ returns : tie.Need-returns
 unfolding badLayout
 returns c = rw (sym (c .before .bad-starts .ensures) ∙ c .if1 .taken)
 
-mul-index : tie.Need-mul-index
-mul-index c = let s = c .before .before .before .before in omega (arith, node-count (s .args .n) (s .pre))
-
-shared-slice-read-index : tie.Need-shared-slice-read-index
-shared-slice-read-index c =
-    let e = c .before in
-    let a = e .before .before .before .before .args in
-    omega (arith, good-starts (a .n) (a .columnStarts .now) (started e) .many)
+-- so they are n + 1
+many : (c : tie.Else1) → let a = c .before .before .before .before .args in length (a .columnStarts .now) ≡ a .n + 1
+many c = let a = c .before .before .before .before .args in good-starts (a .n) (a .columnStarts .now) (started c) .many
 
 returns-2 : tie.Need-returns-2
 unfolding badLayout
@@ -52,8 +49,8 @@ bad-layout-spec =
     (tie.spec
     (λ c κs. search needs)
     returns
-    mul-index
-    shared-slice-read-index
+    (λ c. omega (arith, many c))
+    (λ c. omega (arith, many (c .before)))
     (λ c κs. search needs)
     returns-2
     bad-columns-requires
