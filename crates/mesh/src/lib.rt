@@ -55,8 +55,8 @@ fn falling(numbers: &[u32]) -> bool
     false
 }
 
-// The first part of check 2: there are not n + 1 starts, the first is not 0, or they fall. n may be any number, also the greatest, to which
-// no 1 can be added. O(n).
+// The first part of check 2: there are not n + 1 starts, the first is not 0, or they fall.
+// n may be any number, also the greatest, to which no 1 can be added. O(n).
 pub fn bad_starts(n: usize, starts: &[u32]) -> bool
     ensures { λ r. ⌜ r ≡ badStarts n (now (starts .entry)) ⌝ }
 {
@@ -164,8 +164,8 @@ fn some_list_breaks(rule: ListRule, n: usize, starts: &[u32], neighbours: &[u16]
     false
 }
 
-// The number of entries of an ascending list that are less than x, and so the first place whose entry is not: by bisection, each entry before `low`
-// is less than x, and none from `high` on is. O(log length).
+// The number of entries of an ascending list that are less than x, and so the first place whose entry is not less.
+// By bisection: each entry before `low` is less than x, and none from `high` on is. O(log length).
 pub fn lower_bound(entries: &[u16], x: usize) -> usize
     requires { ⌜ ascending (now entries) ≡ true ⌝ }
     ensures { λ r. ⌜ r ≡ count (λ y. ltb y x) (now (entries .entry)) ⌝ }
