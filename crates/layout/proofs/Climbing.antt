@@ -15,7 +15,7 @@ use Rattle.plan.specs.Mesh.{Mesh, neighboursOf, adjacent}
 use Rattle.theory.specs.Counting.{count}
 use Rattle.theory.specs.Checked.{Symmetric}
 use Rattle.theory.specs.Rows.{edgeAt, isRow, firstRow}
-use Rattle.theory.proofs.Bools.{tested, eq-or-ne, lt-or-le, refuted, clash, and-left, and-right, and-both, cond-true, cond-false}
+use Rattle.theory.proofs.Bools.{tested, eq-or-ne, lt-or-le, refuted, clash, and-left, and-right, and-both, cond-true}
 use Rattle.theory.proofs.Lists.{isIn-getD, getD-indexOf, indexOf-lt}
 use Rattle.theory.proofs.Ranges.{upFrom-snoc, length-upFrom}
 use Rattle.theory.proofs.Counting.{unit, count-append, count-cons, count-le}
@@ -95,10 +95,10 @@ module _ (m : Mesh) (order : List ℕ) where
     own-row : isRow m order i i ≡ false
     own-row = refuted (isRow m order i i) (λ h. omega (arith, row-range m order i i h))
 
-    -- the row begins: position i alone has the mark
-    pub climbing-start : (tree marks counts : List ℕ) → i < length marks → CountedBelow m order i tree counts → Unmarked (m .nodes) i marks
-        → Climbing m order i i tree (set marks i i) counts
-    climbing-start tree marks counts room c u = record {
+    -- the row begins: position i alone has the mark, which is i
+    pub climbing-start : (tree marks counts : List ℕ) (mark : ℕ) → mark ≡ i → i < length marks → CountedBelow m order i tree counts → Unmarked (m .nodes) i marks
+        → Climbing m order i i tree (set marks i mark) counts
+    climbing-start tree marks counts mark e room c u = rw e (record {
       parent = λ k l. c .parent k l ∙ elim (eq-or-ne k i) [
         | inl e ↦ rw (e, own, eq-eqb i i refl) (sym (parent-same i i li own-row))
         | inr e ↦ rw (other k e, fresh k l)
@@ -114,7 +114,7 @@ module _ (m : Mesh) (order : List ℕ) where
         | inr q ↦ absurd (u k i l (omega arith) li (sym (other k q) ∙ e))
       ];
       unmarked = λ k r l le lr. getD-set-cases (λ y. y ≢ r) marks i i k room (λ q. omega arith) (λ q. u k r l (omega arith) lr);
-    }
+    })
       where
         own : getD (set marks i i) i 0 ≡ i
         own = getD-set-same marks i i 0 room

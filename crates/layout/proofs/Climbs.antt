@@ -93,8 +93,8 @@ module _ (marks : List ℕ) (j : ℕ) where
 
 -- ---- the way up
 
--- the way up from j has come to k: the marked positions up to k are at the front of the rows, and behind the places of all of them the rows are as
--- found
+-- the way up from j has come to k: the marked positions up to k are at the front of the rows, and behind the places of all marked positions the
+-- rows are as found
 pub record Ascent (n j : ℕ) (tree marks found rows : List ℕ) (k at : ℕ) : Type 0 where
   pub known : k < n
   pub later : j ≤ k

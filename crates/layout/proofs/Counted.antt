@@ -7,7 +7,7 @@ use lib.Dec.{ltb}
 use lib.ListN.{length, take, drop, getD, replicate, length-map, length-replicate, getD-replicate, List·getD-map, List·getD-append}
 use lib.Seq.{length-take-le, getD-take, ext-getD, drop-append-seam}
 use borrow.Author.Tests.{le-ltb}
-use Rattle.plan.specs.Lists.{below, written}
+use Rattle.plan.specs.Lists.{written}
 use Rattle.plan.specs.Mesh.{Mesh}
 use Rattle.plan.specs.Elimination.{column, columns}
 use Rattle.theory.specs.Rows.{firstRow}

@@ -23,15 +23,15 @@ pub record Inverted (n : ℕ) (order : List ℕ) (i : ℕ) (found inverse : List
   pub rest : (v : ℕ) → n ≤ v → getD inverse v 0 ≡ getD found v 0
 
 module _ (n : ℕ) (order : List ℕ) (once : Order n order) (found inverse : List ℕ) (room : n ≤ length found) where
-  -- one more node
-  pub inverted-more : (i : ℕ) → i < n → Inverted n order i found inverse → Inverted n order (i + 1) found (set inverse (getD order i 0) i)
-  inverted-more i h t = record {
+  -- one more node, at whose place its position is stored
+  pub inverted-more : (i v x : ℕ) → i < n → v ≡ getD order i 0 → x ≡ i → Inverted n order i found inverse → Inverted n order (i + 1) found (set inverse v x)
+  inverted-more i v x h node position t = rw (node, position) (record {
     long = length-set inverse (getD order i 0) i ∙ t .long;
     placed = λ p l. getD-set-cases (λ x. x ≡ p) inverse (getD order i 0) i (getD order p 0) (omega (arith, t .long, order-inside n order once i h))
         (λ e. sym (order-distinct n order once p i (omega arith) h e))
         (λ e. t .placed p (let ne : p ≢ i = λ q. e (ap (λ (x : ℕ). getD order x 0) q) in omega arith));
     rest = λ v l. getD-set-other inverse (getD order i 0) v i 0 (λ q. omega (arith, order-inside n order once i h)) ∙ t .rest v l;
-  }
+  })
 
   -- all nodes
   pub inverted-all : (i : ℕ) → n ≤ i → Inverted n order i found inverse → inverse ≡ written (positions n order) found

@@ -101,8 +101,8 @@ fn marked(mark: u16, j: u16) -> usize
     0
 }
 
-// Position k is written at place `at`, and the place moves on if k has the mark j. If not, the next position is written over it: a store
-// costs less than a branch that nothing predicts. O(1).
+// Position k is written at place `at`, and the place moves on if k has the mark j; if not, the next position is written over k.
+// A store costs less here than a branch that nothing predicts. O(1).
 fn put(k: u16, j: u16, marks: &[u16], at: usize, rows: &mut [u16]) -> usize
     requires { ⌜ (k < length (now marks)) × (at < length (now rows)) ⌝ }
     ensures { λ r. ⌜ (r ≡ at + cond (eqb (getD (now (marks .entry)) k 0) j) 1 0) × (now (rows .exit) ≡ set (now (rows .entry)) at k) ⌝ }
@@ -111,9 +111,8 @@ fn put(k: u16, j: u16, marks: &[u16], at: usize, rows: &mut [u16]) -> usize
     at + marked(marks[wide(k)], j)
 }
 
-// One column's rows are written at the front of a part of the rows: up the elimination tree from column j, each marked position is one,
-// and they come ascending. `count` of them end the way, so that nothing is written behind their places. `n` is for the contract alone.
-// O(the way to the last row).
+// One column's rows, ascending, at the front of a part of the rows: up the elimination tree from column j, each position with the mark j is one.
+// The last of `count` rows ends the way, so that nothing is written behind them. `n` is for the contract alone. O(the way to the last row).
 fn write_column(n: usize, j: u16, count: usize, tree: &[u16], marks: &[u16], rows: &mut [u16])
     requires { ⌜ (n ≤ maxNodes) × (j < n) × (n ≤ length (now tree)) × (n ≤ length (now marks)) × Meets n j (now tree) (now marks) ⌝ }
     requires { ⌜ (count ≡ length (markedBelow (now marks) j n)) × (count ≤ length (now rows)) ⌝ }
@@ -127,8 +126,8 @@ fn write_column(n: usize, j: u16, count: usize, tree: &[u16], marks: &[u16], row
     }
 }
 
-// Column j: its later neighbours and the rows of its children, marked and written at the column's start. O(degree + rows of the children +
-// the way to the last row).
+// Column j: its later neighbours and the rows of its children, marked and written at the column's start.
+// O(degree + rows of the children + the way to the last row).
 fn add_column(
     n: usize,
     starts: &[u32],

@@ -1,5 +1,5 @@
-// The elimination tree and the column counts, without storing a row: for each row the columns that have it are those met by climbing from
-// its earlier neighbours.
+// The elimination tree and the column counts, without storing a row.
+// The columns that have a row are those met by climbing from its earlier neighbours.
 use mesh::NONE;
 use mesh::filled;
 use mesh::list;
@@ -27,8 +27,8 @@ fn parent_of(parent: u16, i: u16) -> u16
     parent
 }
 
-// From a neighbour's position up the elimination tree: each column that row i has not marked yet gets the mark and one row more. The mark
-// of i itself ends the way. O(columns marked + 1).
+// From a neighbour's position up the elimination tree: each column that row i has not marked yet gets the mark and one row more.
+// The mark of i itself ends the way. O(columns marked + 1).
 fn climb(i: u16, start: u16, tree: &mut [u16], marks: &mut [u16], counts: &mut [u16])
     requires { ⌜ Climbable i start (now tree) (now marks) (now counts) ⌝ }
     ensures { λ _. ⌜ ((w : Climbable i start (now (tree .entry)) (now (marks .entry)) (now (counts .entry))) → Climbed (w .mesh) (w .order) i start (now (tree .entry)) (now (marks .entry)) (now (counts .entry)) (now (tree .exit)) (now (marks .exit)) (now (counts .exit))) ⌝ }

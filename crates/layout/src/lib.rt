@@ -1,5 +1,5 @@
-// The layout of the triangular factor of a mesh in a given order: its elimination tree, its column counts, and the rows of its columns;
-// the questions over a layout; and the checks that several entry points share.
+// The layout of the triangular factor of a mesh in a given order: its elimination tree, its column counts, and the rows of its columns.
+// With it are the questions over a layout, and the checks that several entry points share.
 mod checks;
 mod columns;
 mod counts;

@@ -1,5 +1,5 @@
-// "Two questions over a layout (n, column starts, rows)": the slot of a pair of positions, and a column's rows. Each looks at the whole
-// layout first.
+// "Two questions over a layout (n, column starts, rows)": the slot of a pair of positions, and a column's rows.
+// Each looks at the whole layout first.
 use crate::checks::bad_layout;
 use mesh::bad_node_count;
 use mesh::index;

@@ -1,5 +1,5 @@
 -- `layout::checks::bad_columns` meets its contract: the loop tries each column.
-use mathlib.Core.Path.{_≡_, refl, sym, ap, _∙_}
+use mathlib.Core.Path.{_≡_, refl, sym, _∙_}
 use mathlib.Core.Bool.{Bool}
 use mathlib.Core.List.{List}
 use Prim.Native.Nat.{ℕ, _-_}
@@ -30,9 +30,7 @@ tests s = breaks (s .args .n) (s .args .columnStarts .now) (s .args .rows .now)
 answer : (c : tie.After-bad-column Inv-loop μ-loop) →
     let k = c .before .before .before in
     tests (k .before .before .before) (k .loop .j) ≡ c .bad-column .result
-answer c =
-    let k = c .before .before .before in
-    sym (c .bad-column .ensures ∙ ap (badColumn (k .before .before .before .args .n) (k .loop .j)) (c .before .list .ensures))
+answer c = rw (c .bad-column .ensures, c .before .list .ensures)
 
 list-requires : tie.Need-list-requires Inv-loop μ-loop
 list-requires c κs =

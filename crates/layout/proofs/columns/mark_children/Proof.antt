@@ -49,7 +49,7 @@ loop-holds : tie.Need-loop-holds Inv-loop μ-loop
 loop-holds c =
     let s = c .before .before .before .before .before .before .before in
     let a = s .args in
-    (refl, walked-start (a .n) (a .tree .now) (listAt (a .columnStarts .now) (a .rows .now)) (a .j) (a .marks .now) (getD (a .first .now) (a .j) 0) (s .pre .0 .1 .first (a .j) (s .pre .0 .2)))
+    (refl, walked-start (a .n) (a .tree .now) (listAt (a .columnStarts .now) (a .rows .now)) (a .j) (a .marks .now) _ (omega (arith, s .pre .0 .1 .first (a .j) (s .pre .0 .2))))
 
 list-requires : tie.Need-list-requires Inv-loop μ-loop
 list-requires c κs =

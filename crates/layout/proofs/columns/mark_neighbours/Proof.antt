@@ -49,7 +49,13 @@ known c =
     let lt = entry-node (mesh s) (s .pre .0 .checked) v (l .loop .e) (omega (arith, ap length (whole l), c .before .before .loop-test .taken)) in
     omega (arith, lt, c .wide2 .ensures, ap (λ (w : List ℕ). getD w (l .loop .e) 0) (whole l))
 
--- its position is a place of the marks
+-- its position is marked
+position : (c : tie.After-wide3 Inv-loop μ-loop) →
+    let l = c .before .before .before .before .before in
+    c .wide3 .result ≡ getD (start l .args .positions .now) (getD (l .before .list .result .now) (l .loop .e) 0) 0
+position c = rw (c .wide3 .ensures, c .before .before .wide2 .ensures)
+
+-- which is a place of the marks
 inside : (c : tie.After-wide3 Inv-loop μ-loop) → c .wide3 .result < length (c .before .before .before .before .before .loop .marks)
 inside c =
     let l = c .before .before .before .before .before in
@@ -66,7 +72,7 @@ loop-again : tie.Need-loop-again Inv-loop μ-loop
 loop-again c =
     let l = c .before .before .before .before .before in
     let s = start l in
-    let e : c .wide3 .result ≡ getD (s .args .positions .now) (getD (l .before .list .result .now) (l .loop .e) 0) 0 = c .wide3 .ensures ∙ ap (λ (x : ℕ). getD (s .args .positions .now) x 0) (c .before .before .wide2 .ensures) in (
+    let e = position c in (
       search needs,
       search needs,
       search needs,

@@ -21,7 +21,7 @@ add-result c =
     omega (arith, c .marked .ensures, few (eqb (getD (a .marks .now) (w .wide .result) 0) (a .j)))
 
 returns : tie.Need-returns
-returns c = rw (c .marked .ensures, c .before .before .wide .ensures) (refl, refl)
+returns c = (rw (c .marked .ensures, c .before .before .wide .ensures), refl)
 
 pub put-spec : {M : Type 1} → statement M
 put-spec =

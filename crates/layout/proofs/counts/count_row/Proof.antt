@@ -64,7 +64,7 @@ loop-holds c =
     let a = s .args in
     record {
       near = c .list .ensures ∙ ap (listAt (a .starts .now) (a .neighbours .now)) (c .before .wide .ensures);
-      climbing = climbing-start (mesh s) (a .order .now) (a .i) (s .pre .0 .1) (a .tree .now) (a .marks .now) (a .counts .now) (omega arith) (s .pre .1 .0) (s .pre .1 .1);
+      climbing = climbing-start (mesh s) (a .order .now) (a .i) (s .pre .0 .1) (a .tree .now) (a .marks .now) (a .counts .now) _ (omega arith) (omega arith) (s .pre .1 .0) (s .pre .1 .1);
       reached = λ p h. absurd (omega arith);
       low = search needs;
       longTree = refl;

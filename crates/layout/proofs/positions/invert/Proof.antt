@@ -38,8 +38,7 @@ loop-again c =
     let l = c .before .before .before in
     let s = l .before .before .before in (
       search needs,
-      rw (inside c .0)
-          (inverted-more (length (s .args .order .now)) (s .args .order .now) (s .pre .0) (s .args .positions .now) (l .loop .positions) (s .pre .2) (l .loop .i) (omega arith) (l .loop .inv .1)),
+      inverted-more (length (s .args .order .now)) (s .args .order .now) (s .pre .0) (s .args .positions .now) (l .loop .positions) (s .pre .2) (l .loop .i) _ _ (omega arith) (inside c .0) (omega arith) (l .loop .inv .1),
     )
 
 returns : tie.Need-returns Inv-loop μ-loop

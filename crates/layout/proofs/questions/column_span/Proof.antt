@@ -1,14 +1,19 @@
 -- `layout::questions::column_span` meets its contract: where the question is not refused, the column's two starts make up the span.
-use mathlib.Core.Path.{_≡_, sym, _∙_}
-use Prim.Native.Nat.{_<_}
+use mathlib.Core.Path.{_≡_, sym, ap₂, _∙_}
+use Prim.Native.Nat.{ℕ, _<_}
 use native.Mathlib.Omega.{arith}
 use borrow.Author.Needs.{needs}
+use Rattle.plan.specs.declared.Span.{Span}
 use Rattle.plan.specs.Mesh.{maxNodes}
 use Rattle.plan.specs.Questions.{columnRefusal}
 use Rattle.mesh.specs.Lists.{ListWithin}
 use Rattle.layout.proofs.Answered.{column-there, span-refused, span-found}
 use Rattle.layout.proofs.questions.column_span.Statement.{statement}
 use Rattle.layout.proofs.questions.column_span.Tie as tie
+
+-- a span by its two numbers
+abbrev span : ℕ → ℕ → Span
+span start count = record { start = start; count = count }
 
 -- the function's start, seen from the test of the refusal
 abbrev start : tie.Else1 → tie.Start
@@ -49,7 +54,8 @@ returns-2 : tie.Need-returns-2
 returns-2 c =
     let e = c .before .before .before .before in
     let s = start e .args in
-    rw (c .index2 .ensures, c .before .before .index .ensures, span-found (s .n) (s .columnStarts .now) (s .rows .now) (s .j) (answered e))
+    ap₂ span (c .before .before .index .ensures) (omega (arith, c .index2 .ensures, c .before .before .index .ensures))
+    ∙ sym (span-found (s .n) (s .columnStarts .now) (s .rows .now) (s .j) (answered e))
 
 pub column-span-spec : {M : Type 1} → statement M
 column-span-spec =
