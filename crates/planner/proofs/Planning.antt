@@ -84,11 +84,11 @@ starts-front m nodes found left e =
 -- ---- the dissection in its arrays
 
 -- the order at the front of its array holds each node once
-pub dissected-order : (m : Mesh) (held heads : List ℕ) (count : ℕ) → Dissected m held heads count → Order (m .nodes) (take (m .nodes) held)
+pub dissected-order : (m : Mesh) {left : ℕ} (held heads : List ℕ) (count : ℕ) → Dissected m held heads left count → Order (m .nodes) (take (m .nodes) held)
 dissected-order m held heads count d = rw (d .order) (order-count (adjacent m) (georgeLiu m) (georgeLiu-takes m) (m .nodes))
 
 -- and there are no more parts than nodes
-pub parts-within : (m : Mesh) (held heads : List ℕ) (count : ℕ) → Dissected m held heads count → count ≤ m .nodes
+pub parts-within : (m : Mesh) {left : ℕ} (held heads : List ℕ) (count : ℕ) → Dissected m held heads left count → count ≤ m .nodes
 parts-within m held heads count d = omega (arith, d .many, parts-few (adjacent m) (georgeLiu m) (georgeLiu-takes m) (m .nodes))
 
 -- the plan that the arrays give
@@ -107,7 +107,7 @@ heldPlan m held heads count =
     }
 
 -- it is the mesh's
-pub held-planned : (m : Mesh) → Checked m → (held heads : List ℕ) (count : ℕ) → Dissected m held heads count → heldPlan m held heads count ≡ planOf m
+pub held-planned : (m : Mesh) → Checked m → {left : ℕ} (held heads : List ℕ) (count : ℕ) → Dissected m held heads left count → heldPlan m held heads count ≡ planOf m
 unfolding heldPlan planOf planBy
 held-planned m good held heads count d =
     let f = dissected-parts m good held heads count d in
@@ -125,12 +125,12 @@ row-counts m held heads count =
 -- ---- what is handed out
 
 -- the slots of the order's columns are the plan's
-pub held-slots : (m : Mesh) → Checked m → (held heads : List ℕ) (count : ℕ) → Dissected m held heads count → length (flatten (columns m (take (m .nodes) held))) ≡ planOf m .slots
+pub held-slots : (m : Mesh) → Checked m → {left : ℕ} (held heads : List ℕ) (count : ℕ) → Dissected m held heads left count → length (flatten (columns m (take (m .nodes) held))) ≡ planOf m .slots
 unfolding heldPlan
 held-slots m good held heads count d = ap (λ (c : Contents). c .slots) (held-planned m good held heads count d)
 
 -- and so are those that are counted
-pub counted-slots : (m : Mesh) → Checked m → (held heads : List ℕ) (count : ℕ) → Dissected m held heads count → (counts : List ℕ)
+pub counted-slots : (m : Mesh) → Checked m → {left : ℕ} (held heads : List ℕ) (count : ℕ) → Dissected m held heads left count → (counts : List ℕ)
     → take (m .nodes) counts ≡ map length (columns m (take (m .nodes) held)) → total (take (m .nodes) counts) ≡ planOf m .slots
 counted-slots m good held heads count d counts same = ap total same ∙ total-lengths (columns m (take (m .nodes) held)) ∙ held-slots m good held heads count d
 
@@ -149,7 +149,7 @@ checked-refused m found short =
     rw (fault-here 9 (ltb (length (found .rows)) (planOf m .slots)) [] (lt-ltb (length (found .rows)) (planOf m .slots) short)) (filled-refused 9 (planOf m) found (λ e. omega arith))
 
 -- and else the plan of the arrays is handed out
-pub checked-accepted : (m : Mesh) → Checked m → (held heads : List ℕ) (count : ℕ) → Dissected m held heads count
+pub checked-accepted : (m : Mesh) → Checked m → {end : ℕ} (held heads : List ℕ) (count : ℕ) → Dissected m held heads end count
     → (answer : PlanAnswer) (found left : Buffers) → planOf m .slots ≤ length (found .rows) → Filled (handOut 0 (heldPlan m held heads count)) answer found left → FilledChecked m answer found left
 unfolding planningChecked rowsTooShort capacity firstFault
 checked-accepted m good held heads count d answer found left room h =

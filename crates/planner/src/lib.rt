@@ -9,6 +9,7 @@ use layout::sum;
 use layout::write_columns;
 use layout::write_starts;
 use mesh::check;
+use mesh::filled;
 use mesh::index;
 use plan::Plan;
 use plan::PlanAnswer;
@@ -51,13 +52,6 @@ fn refusal(
     0
 }
 
-// 4,096 zeros. O(4,096).
-fn zeros() -> [u16; 4096]
-    ensures { λ r. ⌜ length r ≡ 4096 ⌝ }
-{
-    [0; 4096]
-}
-
 // The elimination tree and the column counts of the order at the front of an array. `inverse` has the positions, since the lent buffers are not
 // written yet. O(4,096 + slots + entries).
 fn count_columns(
@@ -72,20 +66,10 @@ fn count_columns(
     requires { ⌜ (n ≤ length (now tree)) × (n ≤ length (now counts)) ⌝ }
     ensures { λ _. ⌜ (take n (now (counts .exit)) ≡ map length (columns (lent n (now (starts .entry)) (now (neighbours .entry))) (take n (now (held .entry))))) × Tree (lent n (now (starts .entry)) (now (neighbours .entry))) (take n (now (held .entry))) (now (tree .exit)) ⌝ }
 {
-    let mut inverse = zeros();
-    let mut marks = zeros();
+    let mut inverse = filled(0);
     let nodes = &held[..n];
     invert(nodes, &mut inverse);
-    count_rows(
-        n,
-        starts,
-        neighbours,
-        nodes,
-        &inverse,
-        tree,
-        &mut marks,
-        counts,
-    );
+    count_rows(n, starts, neighbours, nodes, &inverse, tree, counts);
 }
 
 // The layout of the order at the front of an array: positions, column starts and rows. O(4,096 + slots + entries + the ways up the elimination tree).
@@ -141,24 +125,23 @@ fn plan_checked(
         (buffers (now (order .entry)) (now (positions .entry)) (now (sizes .entry)) (now (parents .entry)) (now (columnStarts .entry)) (now (rows .entry)))
         (buffers (now (order .exit)) (now (positions .exit)) (now (sizes .exit)) (now (parents .exit)) (now (columnStarts .exit)) (now (rows .exit))) ⌝ }
 {
-    let mut held = zeros();
-    let d = dissect(n, starts, neighbours, &mut held);
-    let mut tree = zeros();
-    let mut counts = zeros();
-    count_columns(n, starts, neighbours, &held, &mut tree, &mut counts);
+    let d = dissect(n, starts, neighbours);
+    let mut tree = filled(0);
+    let mut counts = filled(0);
+    count_columns(n, starts, neighbours, &d.order, &mut tree, &mut counts);
     let totals = sum(n, &counts);
     let slots = totals.slots;
     if rows.len() < index(slots) {
         return PlanAnswer::Refused(9);
     }
     let count = d.parts;
-    write_order(n, &held, order);
+    write_order(n, &d.order, order);
     write_parts(n, &d.heads, count, sizes, parents);
     lay_out(
         n,
         starts,
         neighbours,
-        &held,
+        &d.order,
         &tree,
         &counts,
         positions,

@@ -10,13 +10,6 @@ ghost use Rattle.plan.specs.Mesh.{lent, meshChecks};
 ghost use Rattle.plan.specs.Dissection.{parts};
 ghost use Rattle.plan.specs.Planning.{dissectionOf};
 
-// 4,096 zeros. O(4,096).
-fn zeros() -> [u16; 4096]
-    ensures { λ r. ⌜ length r ≡ 4096 ⌝ }
-{
-    [0; 4096]
-}
-
 // Checks 1 to 7, then the dissection: the number of parts, 0 where a check refuses. O(entries · log degree + dissection).
 #[no_mangle]
 pub extern "C" fn stage_order(n: usize, starts: &[u32], neighbours: &[u16]) -> usize
@@ -26,7 +19,6 @@ pub extern "C" fn stage_order(n: usize, starts: &[u32], neighbours: &[u16]) -> u
     if check(n, starts, neighbours) != 0 {
         return 0;
     }
-    let mut order = zeros();
-    let d = dissect(n, starts, neighbours, &mut order);
+    let d = dissect(n, starts, neighbours);
     d.parts
 }

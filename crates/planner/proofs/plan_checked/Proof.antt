@@ -21,14 +21,14 @@ use Rattle.planner.proofs.plan_checked.Tie as tie
 
 -- where the function begins, and the mesh that is lent
 abbrev start : tie.After-dissect → tie.Start
-start d = d .before .before .before .before .before .before .before .before .before .before .before
+start d = d .before .before .before .before .before .before .before .before .before
 
 abbrev mesh : tie.After-dissect → Mesh
 mesh d = let a = start d .args in lent (a .n) (a .starts .now) (a .neighbours .now)
 
 -- the order and the heads in their arrays, and the number of parts
 abbrev held : tie.After-dissect → List ℕ
-held d = d .dissect .last .1 .1 .1 .0
+held d = d .dissect .result .order
 
 abbrev heads : tie.After-dissect → List ℕ
 heads d = d .dissect .result .heads
@@ -45,7 +45,7 @@ good : (d : tie.After-dissect) → Checked (mesh d)
 good d = start d .pre .0
 
 -- the arrays hold its dissection
-dissected : (d : tie.After-dissect) → Dissected (mesh d) (held d) (heads d) (count d)
+dissected : (d : tie.After-dissect) → Dissected (mesh d) (held d) (heads d) (d .dissect .result .left) (count d)
 dissected d = d .dissect .ensures
 
 -- the buffers passed check 8
@@ -54,16 +54,17 @@ room d = enough-room (mesh d .nodes) (lengthsOf (found d)) (start d .pre .1)
 
 -- ---- the columns are counted
 
-dissect-requires : tie.Need-dissect-requires
-dissect-requires c κs = let p = c .before in let s = p .before .before .before .before .before .before .before .before .before in (s .pre .0, omega (arith, s .pre .0 .few, p .zeros .ensures))
+-- the order's array has a place for each node
+held-long : (d : tie.After-dissect) → mesh d .nodes ≤ length (held d)
+held-long d = omega (arith, good d .few, dissected d .orderLong)
 
 count-columns-requires : tie.Need-count-columns-requires
 count-columns-requires c κs =
-    let p = c .before .before .before in
-    let d = p .before .before .before in
+    let p = c .before .before .before .before .before in
+    let d = p .before .before in
     let few = good d .few in (
-      (good d, dissected d .orderLong, dissected-order (mesh d) (held d) (heads d) (count d) (dissected d)),
-      (omega (arith, few, p .before .zeros2 .ensures), omega (arith, few, p .zeros3 .ensures)),
+      (good d, held-long d, dissected-order (mesh d) (held d) (heads d) (count d) (dissected d)),
+      (omega (arith, few, p .before .filled .ensures .1), omega (arith, few, p .filled2 .ensures .1)),
     )
 
 -- ---- what is known once the slots are summed
@@ -76,7 +77,7 @@ abbrev counted : tie.After-sum → tie.After-count-columns
 counted t = t .before .before .before .before
 
 abbrev divided : tie.After-sum → tie.After-dissect
-divided t = counted t .before .before .before .before .before .before .before
+divided t = counted t .before .before .before .before .before .before .before .before
 
 -- the counts are those of the columns
 counts : (t : tie.After-sum) → let d = divided t in take (mesh d .nodes) (counted t .count-columns .last .1 .1 .1 .1 .1 .0) ≡ map length (columns (mesh d) (take (mesh d .nodes) (held d)))
@@ -84,10 +85,10 @@ counts t = counted t .count-columns .ensures .0
 
 -- the tree's array and the counts' are long enough
 tree-long : (t : tie.After-sum) → mesh (divided t) .nodes ≤ length (counted t .count-columns .last .1 .1 .1 .1 .0)
-tree-long t = let k = counted t in omega (arith, good (divided t) .few, k .count-columns .kept .1 .1 .1 .1 .0, k .before .before .before .before .before .zeros2 .ensures)
+tree-long t = let k = counted t in omega (arith, good (divided t) .few, k .count-columns .kept .1 .1 .1 .1 .0, k .before .before .before .before .before .before .before .filled .ensures .1)
 
 counts-long : (t : tie.After-sum) → mesh (divided t) .nodes ≤ length (counted t .count-columns .last .1 .1 .1 .1 .1 .0)
-counts-long t = let k = counted t in omega (arith, good (divided t) .few, k .count-columns .kept .1 .1 .1 .1 .1 .0, k .before .before .before .before .zeros3 .ensures)
+counts-long t = let k = counted t in omega (arith, good (divided t) .few, k .count-columns .kept .1 .1 .1 .1 .1 .0, k .before .before .before .before .before .before .filled2 .ensures .1)
 
 index-requires : tie.Need-index-requires
 index-requires c κs = search needs
@@ -104,22 +105,19 @@ returns c = let d = divided (summed (c .before)) in checked-refused (mesh d) (fo
 
 -- ---- the plan is written
 
-slice-aggregate-write-order : tie.Need-slice-aggregate-write-order
-slice-aggregate-write-order c = search needs
-
 write-order-requires : tie.Need-write-order-requires
-write-order-requires c κs = let d = divided (summed (c .before .before .before)) in (omega (arith, dissected d .orderLong), omega (arith, room d .order))
+write-order-requires c κs = let d = divided (summed (c .before .before .before .before .before)) in (held-long d, omega (arith, room d .order))
 
 -- where the rows were found long enough, seen from the call of `write_parts`, and from there `write_order`
 abbrev enough : tie.After-write-parts-arg3 → tie.Else1
-enough c = c .before .before .before .before .before .before .before .before .before
+enough c = c .before .before .before .before .before .before .before .before .before .before .before
 
 abbrev ordered : tie.After-write-parts-arg3 → tie.After-write-order
 ordered c = c .before .before .before .before .before .before
 
 -- `write_parts` from behind `lay_out`
 abbrev parted : tie.After-lay-out → tie.After-write-parts
-parted c = c .before .before .before .before .before .before .before .before .before .before .before
+parted c = c .before .before .before .before .before .before .before .before .before .before .before .before .before
 
 -- where the slots were summed, from there
 abbrev total : tie.After-write-parts → tie.After-sum
@@ -133,13 +131,13 @@ write-parts-requires c κs =
 
 lay-out-requires : tie.Need-lay-out-requires
 lay-out-requires c κs =
-    let p = c .before .before .before .before .before .before .before .before .before .before in
+    let p = c .before .before .before .before .before .before .before .before .before .before .before .before in
     let e = enough (p .before) in
     let t = total p in
     let d = divided t in
     let fit : length (flatten (columns (mesh d) (take (mesh d .nodes) (held d)))) ≤ length (found d .rows) =
     omega (arith, held-slots (mesh d) (good d) (held d) (heads d) (count d) (dissected d), slots (e .before), e .if1 .left) in (
-      (good d, dissected d .orderLong, dissected-order (mesh d) (held d) (heads d) (count d) (dissected d), tree-long t, counted t .count-columns .ensures .1),
+      (good d, held-long d, dissected-order (mesh d) (held d) (heads d) (count d) (dissected d), tree-long t, counted t .count-columns .ensures .1),
       ((counts-long t, counts t), (room d .positions, room d .columnStarts, fit)),
     )
 
@@ -174,11 +172,8 @@ plan-checked-spec =
     tie.close
     (tie.spec
     (λ c κs. search needs)
-    (λ c. search needs)
-    dissect-requires
     (λ c κs. search needs)
     (λ c κs. search needs)
-    (λ c. search needs)
     (λ c. search needs)
     (λ c. search needs)
     count-columns-requires
@@ -186,10 +181,8 @@ plan-checked-spec =
     (λ c κs. search needs)
     index-requires
     returns
-    slice-aggregate-write-order
     write-order-requires
     write-parts-requires
-    (λ c. search needs)
     (λ c. search needs)
     (λ c. search needs)
     lay-out-requires

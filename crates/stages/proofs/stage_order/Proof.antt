@@ -1,6 +1,5 @@
 -- `stages::stage_order` meets its contract: the mesh has passed its checks when it is dissected.
 use mathlib.Core.Path.{_≡_, sym, _∙_}
-use native.Mathlib.Omega.{arith}
 use lib.Dec.{eqb}
 use borrow.Author.Needs.{needs}
 use borrow.Author.Tests.{eq-eqb, ne-eqb}
@@ -24,14 +23,12 @@ returns c =
     sym (cond-false (eqb (firstFault (meshChecks (mesh (c .before)))) 0) _ _ (ne-eqb _ 0 (λ e. c .if1 .taken (c .before .check .ensures ∙ e))))
 
 dissect-requires : tie.Need-dissect-requires
-dissect-requires c κs =
-    let good = checked (mesh (c .before .before .before)) (passed (c .before .before)) in
-    (good, omega (arith, good .few, c .before .zeros .ensures))
+dissect-requires c κs = checked (mesh (c .before)) (passed c)
 
 returns-2 : tie.Need-returns-2
 returns-2 c =
-    let e = c .before .before .before .before in
-    c .before .dissect .ensures .many ∙ sym (cond-true (eqb (firstFault (meshChecks (mesh (e .before)))) 0) _ _ (eq-eqb _ 0 (passed e)))
+    let e = c .before in
+    c .dissect .ensures .many ∙ sym (cond-true (eqb (firstFault (meshChecks (mesh (e .before)))) 0) _ _ (eq-eqb _ 0 (passed e)))
 
 pub stage-order-spec : {M : Type 1} → statement M
-stage-order-spec = tie.close (tie.spec (λ c κs. search needs) returns (λ c κs. search needs) (λ c. search needs) dissect-requires returns-2)
+stage-order-spec = tie.close (tie.spec (λ c κs. search needs) returns dissect-requires returns-2)
