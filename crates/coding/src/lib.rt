@@ -6,14 +6,14 @@ ghost use Rattle.plan.specs.Lists.{written};
 ghost use Rattle.plan.specs.File.{encode16, encode32, encode16s, decode16, decode32, decode16s};
 
 // A byte as a number of 16 bits. O(1).
-fn wide_byte(x: u8) -> u16
+fn extend8(x: u8) -> u16
     ensures { λ r. ⌜ (r ≡ x) × (r < 256) ⌝ }
 {
     x as u16
 }
 
 // A number of 16 bits as one of 32. O(1).
-fn wide(x: u16) -> u32
+fn extend16(x: u16) -> u32
     ensures { λ r. ⌜ (r ≡ x) × (r < 65536) ⌝ }
 {
     x as u32
@@ -24,7 +24,7 @@ pub fn read16(bytes: &[u8], at: usize) -> u16
     requires { ⌜ at + 2 ≤ length (now bytes) ⌝ }
     ensures { λ r. ⌜ r ≡ decode16 (now (bytes .entry)) at ⌝ }
 {
-    wide_byte(bytes[at]) + 256 * wide_byte(bytes[at + 1])
+    extend8(bytes[at]) + 256 * extend8(bytes[at + 1])
 }
 
 // The number of 32 bits at a place. O(1).
@@ -32,7 +32,7 @@ pub fn read32(bytes: &[u8], at: usize) -> u32
     requires { ⌜ at + 4 ≤ length (now bytes) ⌝ }
     ensures { λ r. ⌜ r ≡ decode32 (now (bytes .entry)) at ⌝ }
 {
-    wide(read16(bytes, at)) + 65536 * wide(read16(bytes, at + 2))
+    extend16(read16(bytes, at)) + 65536 * extend16(read16(bytes, at + 2))
 }
 
 // Some numbers of 16 bits to the front of a buffer: the first stands at byte `at`, each `apart` bytes after the one before, and the last one's two

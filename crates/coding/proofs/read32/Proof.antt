@@ -6,7 +6,7 @@ use Rattle.coding.proofs.read32.Tie as tie
 
 returns : tie.Need-returns
 unfolding decode32
-returns c = rw (c .wide2 .ensures .0, c .before .read162 .ensures, c .before .before .wide .ensures .0, c .before .before .before .read16 .ensures)
+returns c = rw (c .extend162 .ensures .0, c .before .read162 .ensures, c .before .before .extend16 .ensures .0, c .before .before .before .read16 .ensures)
 
 pub read32-spec : {M : Type 1} → statement M
 read32-spec = tie.close (tie.spec (λ c κs. search needs) (λ c κs. search needs) (λ c. search needs) (λ c κs. search needs) (λ c κs. search needs) (λ c. search needs) (λ c. search needs) returns)
