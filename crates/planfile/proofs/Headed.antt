@@ -9,7 +9,7 @@ use lib.Seq.{take-all}
 use borrow.Author.Tests.{eq-eqb, ne-eqb, not-false}
 use Rattle.plan.specs.Lists.{eachOnce, written, runningSums}
 use Rattle.plan.specs.Refusals.{firstFault}
-use Rattle.plan.specs.Mesh.{badStarts}
+use Rattle.plan.specs.Mesh.{maxNodes, badStarts}
 use Rattle.plan.specs.Dissection.{positions}
 use Rattle.plan.specs.Planning.{Contents}
 use Rattle.plan.specs.File.{decode16s, lengthAt, fileLength, parseAt, parse, badOrder, badColumns, badRows, notNested, notCovered, contentsChecks}
@@ -34,7 +34,7 @@ header-long bytes h = omega (arith, header-says bytes h .long)
 
 -- what 13 and 14 say of n, p and s
 pub record Sizes (bytes : List ℕ) (n p s : ℕ) : Type 0 where
-  pub few : n ≤ 4096
+  pub few : n ≤ maxNodes
   pub parts : p ≤ n
   pub slots : s < 4294967296
   pub long : length bytes ≡ 17 + 4 * n + 4 * p + 2 * s
@@ -142,7 +142,7 @@ module _ (bytes : List ℕ) (n p s : ℕ) (h : Headed bytes n p s) where
   module _ (order sizes parents columnStarts : List ℕ)
       (own : (order ≡ file .order) × (sizes ≡ file .sizes) × (parents ≡ file .parents) × (columnStarts ≡ file .columnStarts)) where
     -- no list of the order and the parts is longer than 4,096
-    pub order-few : (length order ≤ 4096) × (length sizes ≤ 4096) × (length parents ≡ length sizes)
+    pub order-few : (length order ≤ maxNodes) × (length sizes ≤ maxNodes) × (length parents ≡ length sizes)
     order-few = rw (own .0, own .1, own .2) (exact-few file exact)
 
     -- 15 and 16 look at the order and the parts

@@ -6,6 +6,7 @@ use Prim.Native.Nat.{_≤_}
 use native.Mathlib.Omega.{arith}
 use lib.ListN.{length}
 use Rattle.plan.specs.Refusals.{Checks, firstFault}
+use Rattle.plan.specs.Mesh.{maxNodes}
 use Rattle.plan.specs.Planning.{Contents}
 use Rattle.plan.specs.File.{Whole, badHeader, badOrder, badParts, badRows, notNested, notCovered, contentsChecks}
 use Rattle.theory.proofs.Refusals.{no-fault, first-some, first-none}
@@ -76,7 +77,7 @@ covered-check c = refl
 
 module _ (c : Contents) (h : Exact c) where
   -- 13: the order, the sizes and the parents are few
-  pub exact-few : (length (c .order) ≤ 4096) × (length (c .sizes) ≤ 4096) × (length (c .parents) ≡ length (c .sizes))
+  pub exact-few : (length (c .order) ≤ maxNodes) × (length (c .sizes) ≤ maxNodes) × (length (c .parents) ≡ length (c .sizes))
   exact-few =
       let few = counts-few c (h .header) in
       let whole : Whole c = h .whole in

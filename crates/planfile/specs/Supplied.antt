@@ -9,7 +9,7 @@ use Rattle.plan.specs.declared.WriteAnswer.{WriteAnswer}
 use Rattle.plan.specs.Lists.{exists, written}
 use Rattle.plan.specs.Refusals.{Checks, firstFault}
 use Rattle.plan.specs.Answers.{writeReply}
-use Rattle.plan.specs.Mesh.{badStarts}
+use Rattle.plan.specs.Mesh.{maxNodes, badStarts}
 use Rattle.plan.specs.Parts.{atOrAbove}
 use Rattle.plan.specs.Planning.{Contents, contents}
 use Rattle.plan.specs.File.{Whole, badHeader, mayBeParent, badOrder, badParts, badColumns, contentsChecks}
@@ -37,13 +37,13 @@ pub record Exact (c : Contents) : Type 0 where
 
 -- sizes and parents of parts of n positions that passed check 16
 pub record SoundParts (n : ℕ) (sizes parents : List ℕ) : Type 0 where
-  pub few : n ≤ 4096
+  pub few : n ≤ maxNodes
   pub asMany : length parents ≡ length sizes
   pub good : badParts (orderAndParts n [] sizes parents) ≡ false
 
 -- parents that passed check 16
 pub record SoundParents (parents : List ℕ) : Type 0 where
-  pub few : length parents ≤ 4096
+  pub few : length parents ≤ maxNodes
   pub good : (q : ℕ) → q < length parents → mayBeParent (length parents) q (getD parents q 0) ≡ true
 
 -- numbers that may be the parts of n positions: each is a part, and a later position has no earlier one
@@ -58,7 +58,7 @@ outside numbers parents j r = exists (λ i. not (atOrAbove parents (getD numbers
 
 -- the starts of n columns, whose rows are `rows`, as many as the last start says
 pub record Started (n : ℕ) (columnStarts rows : List ℕ) : Type 0 where
-  pub few : n ≤ 4096
+  pub few : n ≤ maxNodes
   pub starts : badStarts n columnStarts ≡ false
   pub last : getD columnStarts n 0 ≡ length rows
 

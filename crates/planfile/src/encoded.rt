@@ -1,11 +1,11 @@
 // Checks 17 to 19 of the rows in a file: `bytes` are its last ones, two for each row, and a column's rows are read into working memory when they are
 // looked at.
-use crate::arrays::zeros;
 use crate::rules::contains_all;
 use crate::rules::number_parts;
 use crate::rules::outside;
 use coding::read16s;
 use layout::bad_column;
+use mesh::filled;
 use mesh::index;
 use mesh::wide;
 ghost use mathlib.Core.Path.{_≡_};
@@ -56,7 +56,7 @@ pub(crate) fn bad_columns(n: usize, columnStarts: &[u32], bytes: &[u8]) -> bool
     requires { ⌜ Started n (now columnStarts) (rowsIn (now bytes)) ⌝ }
     ensures { λ r. ⌜ r ≡ badColumns n (now (columnStarts .entry)) (rowsIn (now (bytes .entry))) ⌝ }
 {
-    let mut column = zeros();
+    let mut column = filled(0);
     for j in 0..n {
         if bad_column_at(n, columnStarts, bytes, j, &mut column) {
             return true;
@@ -94,8 +94,8 @@ pub(crate) fn not_nested(
     requires { ⌜ SoundParts n (now sizes) (now parents) × LaidOut n (now columnStarts) (rowsIn (now bytes)) ⌝ }
     ensures { λ r. ⌜ r ≡ notNested (partsAndRows n (now (sizes .entry)) (now (parents .entry)) (now (columnStarts .entry)) (rowsIn (now (bytes .entry)))) ⌝ }
 {
-    let mut numbers = zeros();
-    let mut column = zeros();
+    let mut numbers = filled(0);
+    let mut column = filled(0);
     number_parts(sizes, &mut numbers);
     for j in 0..n {
         if outside_at(n, &numbers, parents, columnStarts, bytes, j, &mut column) {
@@ -131,8 +131,8 @@ pub(crate) fn not_covered(n: usize, columnStarts: &[u32], bytes: &[u8]) -> bool
     requires { ⌜ LaidOut n (now columnStarts) (rowsIn (now bytes)) ⌝ }
     ensures { λ r. ⌜ r ≡ notCovered (partsAndRows n [] [] (now (columnStarts .entry)) (rowsIn (now (bytes .entry)))) ⌝ }
 {
-    let mut column = zeros();
-    let mut other = zeros();
+    let mut column = filled(0);
+    let mut other = filled(0);
     for j in 0..n {
         if !covered_at(n, columnStarts, bytes, j, &mut column, &mut other) {
             return true;

@@ -1,5 +1,4 @@
 // The plan file, version 1: reading it into lent buffers, and writing it from lent slices.
-mod arrays;
 mod encoded;
 mod header;
 mod order;

@@ -1,30 +1,25 @@
 // Checks 15 and 16: the order is each node once, and sizes and parents make a tree of parts.
 use mesh::contains;
+use mesh::filled;
 use mesh::wide;
 use plan::Plan;
 ghost use mathlib.Core.Path.{_≡_};
 ghost use mathlib.Core.Bool.{not};
 ghost use mathlib.Core.List.{[]};
-ghost use Prim.Native.Nat.{ℕ, _≤_, _<_};
+ghost use Prim.Native.Nat.{_≤_};
 ghost use lib.ListN.{length, getD};
 ghost use Rattle.plan.specs.Lists.{exists, below, eachOnce, total};
 ghost use Rattle.plan.specs.Refusals.{firstFault};
+ghost use Rattle.plan.specs.Mesh.{maxNodes};
 ghost use Rattle.plan.specs.File.{mayBeParent, badParts};
 ghost use Rattle.planfile.specs.Supplied.{orderAndParts, orderAndPartsChecks};
 
-// A mark for each of 4,096 nodes, none set. O(4,096).
-fn no_marks() -> [u8; 4096]
-    ensures { λ r. ⌜ (length r ≡ 4096) × ((v : ℕ) → v < 4096 → getD r v 0 ≡ 0) ⌝ }
-{
-    [0; 4096]
-}
-
 // Check 15: the order is not each node once, as many nodes as it is long. O(4,096 + n).
 fn bad_order(order: &[u16]) -> bool
-    requires { ⌜ length (now order) ≤ 4096 ⌝ }
+    requires { ⌜ length (now order) ≤ maxNodes ⌝ }
     ensures { λ r. ⌜ r ≡ not (eachOnce (length (now (order .entry))) (now (order .entry))) ⌝ }
 {
-    let mut marks = no_marks();
+    let mut marks = filled(0);
     for i in 0..order.len() {
         let v = wide(order[i]);
         if v >= order.len() {
@@ -40,7 +35,7 @@ fn bad_order(order: &[u16]) -> bool
 
 // The sum of some sizes. O(length).
 fn sum_sizes(sizes: &[u16]) -> usize
-    requires { ⌜ length (now sizes) ≤ 4096 ⌝ }
+    requires { ⌜ length (now sizes) ≤ maxNodes ⌝ }
     ensures { λ r. ⌜ r ≡ total (now (sizes .entry)) ⌝ }
 {
     let mut sum: usize = 0;
@@ -77,7 +72,7 @@ fn bad_parents(parents: &[u16]) -> bool
 
 // Check 16: a size is 0, the sizes do not sum to n, or a part's parent is neither none nor a later part. O(p).
 fn bad_parts(n: usize, sizes: &[u16], parents: &[u16]) -> bool
-    requires { ⌜ (length (now sizes) ≤ 4096) × (length (now parents) ≡ length (now sizes)) ⌝ }
+    requires { ⌜ (length (now sizes) ≤ maxNodes) × (length (now parents) ≡ length (now sizes)) ⌝ }
     ensures { λ r. ⌜ r ≡ badParts (orderAndParts n [] (now (sizes .entry)) (now (parents .entry))) ⌝ }
 {
     if contains(sizes, 0) {
@@ -91,7 +86,7 @@ fn bad_parts(n: usize, sizes: &[u16], parents: &[u16]) -> bool
 
 // The first refusal of checks 15 and 16, 0 for none. O(4,096 + n).
 pub(crate) fn order_and_parts_refusal(order: &[u16], sizes: &[u16], parents: &[u16]) -> u32
-    requires { ⌜ (length (now order) ≤ 4096) × (length (now sizes) ≤ 4096) × (length (now parents) ≡ length (now sizes)) ⌝ }
+    requires { ⌜ (length (now order) ≤ maxNodes) × (length (now sizes) ≤ maxNodes) × (length (now parents) ≡ length (now sizes)) ⌝ }
     ensures { λ r. ⌜ r ≡ firstFault (orderAndPartsChecks (orderAndParts (length (now (order .entry))) (now (order .entry)) (now (sizes .entry)) (now (parents .entry)))) ⌝ }
 {
     if bad_order(order) {

@@ -1,6 +1,4 @@
 // Reading a plan file: checks 10 to 19, then 8 and 9, then the plan in the lent buffers. Until all checks are passed only working memory is written.
-use crate::arrays::zero_starts;
-use crate::arrays::zeros;
 use crate::encoded::bad_columns;
 use crate::encoded::not_covered;
 use crate::encoded::not_nested;
@@ -13,14 +11,16 @@ use layout::buffers_too_short;
 use layout::invert;
 use layout::sum;
 use layout::write_starts;
+use mesh::filled;
 use mesh::index;
 use plan::Plan;
 use plan::PlanAnswer;
 ghost use mathlib.Core.Path.{_≡_};
-ghost use Prim.Native.Nat.{_≤_};
+ghost use Prim.Native.Nat.{_+_, _≤_};
 ghost use lib.ListN.{length, take};
 ghost use Rattle.plan.specs.Lists.{written};
 ghost use Rattle.plan.specs.Refusals.{firstFault};
+ghost use Rattle.plan.specs.Mesh.{maxNodes};
 ghost use Rattle.plan.specs.Planning.{buffers, capacity, Filled};
 ghost use Rattle.plan.specs.File.{parse, contentsChecks};
 ghost use Rattle.plan.specs.Reading.{headerChecks, reading};
@@ -89,15 +89,22 @@ fn read_row_counts(bytes: &[u8], n: usize, p: usize, s: usize, counts: &mut [u16
     read16s(bytes, HEADER + 2 * n + 4 * p, 2, n, counts);
 }
 
+// A start for each column, and the last one's end, all zero. O(4,096).
+fn zero_starts() -> [u32; Plan::NODES + 1]
+    ensures { λ r. ⌜ length r ≡ maxNodes + 1 ⌝ }
+{
+    [0; Plan::NODES + 1]
+}
+
 // Checks 15 to 19 of a file: its fields but the rows are read into working memory. O(4,096 + slots + the ancestors of each column's part + the first
 // rows' columns).
 fn contents_refusal(bytes: &[u8], n: usize, p: usize, s: usize, counts: &[u16]) -> u32
     requires { ⌜ Headed (now bytes) n p s × (n ≤ length (now counts)) × (take n (now counts) ≡ rowCountsIn (now bytes)) ⌝ }
     ensures { λ r. ⌜ r ≡ firstFault (contentsChecks (parse (now (bytes .entry)))) ⌝ }
 {
-    let mut order = zeros();
-    let mut sizes = zeros();
-    let mut parents = zeros();
+    let mut order = filled(0);
+    let mut sizes = filled(0);
+    let mut parents = filled(0);
     let mut columnStarts = zero_starts();
     read_order_and_parts(bytes, n, p, s, &mut order, &mut sizes, &mut parents);
     write_starts(n, counts, &mut columnStarts);
@@ -178,7 +185,7 @@ fn read_headed(
     let n = c.nodes;
     let p = c.parts;
     let s = c.slots;
-    let mut counts = zeros();
+    let mut counts = filled(0);
     read_row_counts(bytes, n, p, s, &mut counts);
     let fault = contents_refusal(bytes, n, p, s, &counts);
     if fault != 0 {

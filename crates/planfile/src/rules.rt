@@ -5,6 +5,7 @@ ghost use mathlib.Core.Bool.{true, false};
 ghost use Prim.Native.Nat.{ℕ, _+_, _≤_, _<_};
 ghost use lib.ListN.{length, getD};
 ghost use Rattle.plan.specs.Lists.{every, isIn, ascending, total};
+ghost use Rattle.plan.specs.Mesh.{maxNodes};
 ghost use Rattle.plan.specs.Parts.{partOf, atOrAbove};
 ghost use Rattle.plan.specs.File.{badColumn};
 ghost use Rattle.mesh.specs.Lists.{LowerBound};
@@ -22,7 +23,7 @@ fn fill(at: usize, count: usize, q: u16, numbers: &mut [u16])
 
 // The part of each position. O(parts + positions).
 pub(crate) fn number_parts(sizes: &[u16], numbers: &mut [u16])
-    requires { ⌜ (length (now sizes) ≤ 4096) × (total (now sizes) ≤ length (now numbers)) ⌝ }
+    requires { ⌜ (length (now sizes) ≤ maxNodes) × (total (now sizes) ≤ length (now numbers)) ⌝ }
     ensures { λ _. ⌜ ((i : ℕ) → i < total (now (sizes .entry)) → getD (now (numbers .exit)) i 0 ≡ partOf (now (sizes .entry)) i) ⌝ }
 {
     let mut at: usize = 0;

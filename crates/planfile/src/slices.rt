@@ -1,11 +1,11 @@
 // Checks 15 to 19 of a plan in lent slices, each as long as its count says: the writer's.
-use crate::arrays::zeros;
 use crate::order::order_and_parts_refusal;
 use crate::rules::contains_all;
 use crate::rules::number_parts;
 use crate::rules::outside;
 use layout::bad_columns;
 use mesh::bad_starts;
+use mesh::filled;
 use mesh::index;
 use mesh::list;
 use mesh::wide;
@@ -40,7 +40,7 @@ fn not_nested(n: usize, sizes: &[u16], parents: &[u16], columnStarts: &[u32], ro
     requires { ⌜ SoundParts n (now sizes) (now parents) × LaidOut n (now columnStarts) (now rows) ⌝ }
     ensures { λ r. ⌜ r ≡ notNested (partsAndRows n (now (sizes .entry)) (now (parents .entry)) (now (columnStarts .entry)) (now (rows .entry))) ⌝ }
 {
-    let mut numbers = zeros();
+    let mut numbers = filled(0);
     number_parts(sizes, &mut numbers);
     for j in 0..n {
         if outside(n, &numbers, parents, j, list(columnStarts, rows, j)) {

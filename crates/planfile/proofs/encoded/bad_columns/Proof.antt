@@ -7,6 +7,7 @@ use native.Mathlib.Omega.{arith}
 use lib.ListN.{length}
 use borrow.Author.Needs.{needs}
 use Rattle.plan.specs.Lists.{listAt}
+use Rattle.plan.specs.Mesh.{maxNodes}
 use Rattle.plan.specs.File.{badColumn, badColumns}
 use Rattle.theory.proofs.Scans.{Clear, clear-more, found-below, none-below}
 use Rattle.planfile.specs.Filed.{rowsIn}
@@ -18,7 +19,7 @@ abbrev breaks : ℕ → List ℕ → List ℕ → ℕ → Bool
 breaks n columnStarts bytes j = badColumn n j (listAt columnStarts (rowsIn bytes) j)
 
 abbrev Inv-loop : tie.InvT-loop
-Inv-loop n columnStarts bytes column₀ j₀ column j = (length column ≡ 4096) × Clear (breaks n columnStarts bytes) j
+Inv-loop n columnStarts bytes column₀ j₀ column j = (length column ≡ maxNodes) × Clear (breaks n columnStarts bytes) j
 
 abbrev μ-loop : tie.MeasureT-loop
 μ-loop n columnStarts bytes column₀ j₀ column j = n - j
@@ -63,7 +64,7 @@ bad-columns-spec =
     Inv-loop
     μ-loop
     (λ c κs. search needs)
-    (λ c. (c .zeros .ensures, refl))
+    (λ c. (c .filled .ensures .1, refl))
     (λ c. sym (c .before .before .loop .inv .0))
     bad-column-at-requires
     returns

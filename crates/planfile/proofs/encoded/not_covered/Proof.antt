@@ -7,6 +7,7 @@ use native.Mathlib.Omega.{arith}
 use lib.ListN.{length}
 use borrow.Author.Needs.{needs}
 use Rattle.plan.specs.Lists.{listAt}
+use Rattle.plan.specs.Mesh.{maxNodes}
 use Rattle.plan.specs.File.{covered, notCovered}
 use Rattle.theory.proofs.Scans.{Clear, clear-more, found-below, none-below}
 use Rattle.planfile.specs.Filed.{rowsIn}
@@ -18,7 +19,7 @@ abbrev breaks : List ℕ → List ℕ → ℕ → Bool
 breaks columnStarts bytes j = not (covered columnStarts (rowsIn bytes) (listAt columnStarts (rowsIn bytes) j))
 
 abbrev Inv-loop : tie.InvT-loop
-Inv-loop n columnStarts bytes column₀ other₀ j₀ column other j = (length column ≡ 4096) × (length other ≡ 4096) × Clear (breaks columnStarts bytes) j
+Inv-loop n columnStarts bytes column₀ other₀ j₀ column other j = (length column ≡ maxNodes) × (length other ≡ maxNodes) × Clear (breaks columnStarts bytes) j
 
 abbrev μ-loop : tie.MeasureT-loop
 μ-loop n columnStarts bytes column₀ other₀ j₀ column other j = n - j
@@ -65,7 +66,7 @@ not-covered-spec =
     μ-loop
     (λ c κs. search needs)
     (λ c κs. search needs)
-    (λ c. (c .before .zeros .ensures, c .zeros2 .ensures, refl))
+    (λ c. (c .before .filled .ensures .1, c .filled2 .ensures .1, refl))
     (λ c. sym (c .before .before .loop .inv .0))
     (λ c. sym (c .before .before .before .loop .inv .1))
     covered-at-requires

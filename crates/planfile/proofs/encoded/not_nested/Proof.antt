@@ -7,6 +7,7 @@ use native.Mathlib.Omega.{arith}
 use lib.ListN.{length}
 use borrow.Author.Needs.{needs}
 use Rattle.plan.specs.Lists.{listAt}
+use Rattle.plan.specs.Mesh.{maxNodes}
 use Rattle.plan.specs.File.{outsideAncestors, notNested}
 use Rattle.theory.proofs.Scans.{Clear, clear-more, found-below, none-below}
 use Rattle.planfile.specs.Filed.{rowsIn}
@@ -19,7 +20,7 @@ abbrev breaks : List ℕ → List ℕ → List ℕ → List ℕ → ℕ → Bool
 breaks sizes parents columnStarts bytes j = outsideAncestors sizes parents j (listAt columnStarts (rowsIn bytes) j)
 
 abbrev Inv-loop : tie.InvT-loop
-Inv-loop n sizes parents columnStarts bytes numbers column₀ j₀ column j = (length column ≡ 4096) × Clear (breaks sizes parents columnStarts bytes) j
+Inv-loop n sizes parents columnStarts bytes numbers column₀ j₀ column j = (length column ≡ maxNodes) × Clear (breaks sizes parents columnStarts bytes) j
 
 abbrev μ-loop : tie.MeasureT-loop
 μ-loop n sizes parents columnStarts bytes numbers column₀ j₀ column j = n - j
@@ -33,7 +34,7 @@ number-parts-requires c κs =
     let s = c .before .before .before .before .before .before .before in
     let h = s .pre .0 in (
       omega (arith, h .few, parts-few (s .args .n) (s .args .sizes .now) (s .args .parents .now) h),
-      omega (arith, h .few, parts-total (s .args .n) (s .args .sizes .now) (s .args .parents .now) h, c .before .before .zeros .ensures),
+      omega (arith, h .few, parts-total (s .args .n) (s .args .sizes .now) (s .args .parents .now) h, c .before .before .filled .ensures .1),
     )
 
 -- the function's entry, seen from where the parts were numbered
@@ -41,8 +42,8 @@ abbrev start : tie.After-number-parts Inv-loop μ-loop → tie.Start Inv-loop μ
 start p = p .before .before .before .before .before .before .before .before
 
 -- there is a number for each of 4,096 positions
-long : (c : tie.After-number-parts Inv-loop μ-loop) → length (c .number-parts .last .1 .0) ≡ 4096
-long c = c .number-parts .kept .1 .0 ∙ c .before .before .before .zeros .ensures
+long : (c : tie.After-number-parts Inv-loop μ-loop) → length (c .number-parts .last .1 .0) ≡ maxNodes
+long c = c .number-parts .kept .1 .0 ∙ c .before .before .before .filled .ensures .1
 
 outside-at-requires : tie.Need-outside-at-requires Inv-loop μ-loop
 outside-at-requires c κs =
@@ -102,9 +103,9 @@ not-nested-spec =
     μ-loop
     (λ c κs. search needs)
     (λ c κs. search needs)
-    (λ c. sym (c .before .before .zeros .ensures))
+    (λ c. sym (c .before .before .filled .ensures .1))
     number-parts-requires
-    (λ c. (c .before .before .before .zeros2 .ensures, refl))
+    (λ c. (c .before .before .before .filled2 .ensures .1, refl))
     (λ c. sym (long (c .before .before .before .before)))
     (λ c. sym (c .before .before .before .loop .inv .0))
     outside-at-requires

@@ -2,6 +2,7 @@
 use mathlib.Core.Path.{refl}
 use Prim.Native.Nat.{_≤_}
 use native.Mathlib.Omega.{arith}
+use Rattle.plan.specs.Mesh.{maxNodes}
 use Rattle.plan.specs.File.{lengthAt}
 use Rattle.theory.proofs.Fitting.{counts-few}
 use Rattle.planfile.specs.Supplied.{countsOnly}
@@ -9,7 +10,7 @@ use Rattle.planfile.proofs.header.file_length.Statement.{statement}
 use Rattle.planfile.proofs.header.file_length.Tie as tie
 
 -- the counts are small
-few : (c : tie.Start) → let a = c .args in (a .n ≤ 4096) × (a .p ≤ 4096) × (a .s ≤ 8386560)
+few : (c : tie.Start) → let a = c .args in (a .n ≤ maxNodes) × (a .p ≤ maxNodes) × (a .s ≤ 8386560)
 few c = let a = c .args in counts-few (countsOnly (a .n) (a .p) (a .s)) (c .pre)
 
 returns : tie.Need-returns

@@ -1,10 +1,12 @@
 -- `planfile::order::bad_order` meets its contract: each entry met is marked, and one that lies outside or is met again is a fault.
-use mathlib.Core.Path.{sym, ap}
+use mathlib.Core.Path.{sym, ap, _∙_}
 use mathlib.Core.Bool.{not}
-use Prim.Native.Nat.{_-_, _<_}
+use mathlib.Core.List.{List}
+use Prim.Native.Nat.{ℕ, _-_, _<_}
 use native.Mathlib.Omega.{arith}
-use lib.ListN.{length}
+use lib.ListN.{length, getD}
 use borrow.Author.Needs.{needs}
+use Rattle.mesh.proofs.Lists.{filled-at}
 use Rattle.planfile.proofs.Once.{Marked, marked-none, marked-all, marked-more, entry-outside, entry-again}
 use Rattle.planfile.proofs.order.bad_order.Statement.{statement}
 use Rattle.planfile.proofs.order.bad_order.Tie as tie
@@ -18,8 +20,8 @@ abbrev μ-loop : tie.MeasureT-loop
 loop-holds : tie.Need-loop-holds Inv-loop μ-loop
 loop-holds c =
     let s = c .before .before in
-    let m = c .no-marks in
-    marked-none (s .args .order .now) (m .result) (omega arith) (λ v l. m .ensures .1 v (omega arith))
+    let m = c .filled in
+    marked-none (s .args .order .now) (m .result) (omega arith) (λ v l. ap (λ (marks : List ℕ). getD marks v 0) (m .ensures .0) ∙ filled-at 0 v (omega arith))
 
 returns : tie.Need-returns Inv-loop μ-loop
 returns c =
@@ -67,7 +69,9 @@ bad-order-spec =
     (λ c κs. search needs)
     returns
     (λ c. search needs)
+    (λ c. search needs)
     returns-2
+    (λ c. search needs)
     (λ c. search needs)
     (λ c. search needs)
     (λ c. search needs)

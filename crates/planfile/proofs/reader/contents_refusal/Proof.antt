@@ -21,9 +21,9 @@ read-order-and-parts-requires c κs =
     let s = four .before .before .before .before .before .before in
     let few = known s .few in (
       s .pre .0,
-      omega (arith, few, four .before .before .before .zeros .ensures),
-      omega (arith, few, four .before .before .zeros2 .ensures),
-      omega (arith, few, four .before .zeros3 .ensures),
+      omega (arith, few, four .before .before .before .filled .ensures .1),
+      omega (arith, few, four .before .before .filled2 .ensures .1),
+      omega (arith, few, four .before .filled3 .ensures .1),
     )
 
 -- where the function begins

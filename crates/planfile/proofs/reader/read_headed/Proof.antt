@@ -28,14 +28,14 @@ headed r = let e = r .read-counts .ensures in record { good = begin r .pre; node
 read-row-counts-requires : tie.Need-read-row-counts-requires
 read-row-counts-requires c κs =
     let r = c .before .before in
-    (headed r, omega (arith, headed-sizes _ _ _ _ (headed r) .few, c .before .zeros .ensures))
+    (headed r, omega (arith, headed-sizes _ _ _ _ (headed r) .few, c .before .filled .ensures .1))
 
 -- the row counts stand at the front of their array
 abbrev counted : tie.After-read-row-counts → tie.After-read-counts
 counted k = k .before .before .before
 
 counts-long : (k : tie.After-read-row-counts) → counted k .read-counts .result .nodes ≤ length (k .read-row-counts .last .1 .1 .1 .1 .0)
-counts-long k = omega (arith, headed-sizes _ _ _ _ (headed (counted k)) .few, k .read-row-counts .kept, k .before .before .zeros .ensures)
+counts-long k = omega (arith, headed-sizes _ _ _ _ (headed (counted k)) .few, k .read-row-counts .kept, k .before .before .filled .ensures .1)
 
 counts-front : (k : tie.After-read-row-counts) → let r = counted k in take (r .read-counts .result .nodes) (k .read-row-counts .last .1 .1 .1 .1 .0) ≡ rowCountsIn (begin r .args .bytes .now)
 counts-front k = front-written _ _ _ _ (k .read-row-counts .ensures) (counts-many _ _ _ _ (headed (counted k)))

@@ -41,7 +41,7 @@ numbered k =
     let s = start k in
     let p = k .before .before in
     parts-numbers (s .args .n) (s .args .sizes .now) (s .args .parents .now) (numbers k) (s .pre .0) (p .number-parts .ensures)
-    (omega (arith, s .pre .0 .few, p .number-parts .kept .1 .0, p .before .before .zeros .ensures))
+    (omega (arith, s .pre .0 .few, p .number-parts .kept .1 .0, p .before .before .filled .ensures .1))
 
 -- and say what the parts say
 same : (c : tie.In-loop Inv-loop μ-loop) →
@@ -68,7 +68,7 @@ number-parts-requires c κs =
     let a = s .args in
     let h = s .pre .0 in (
       omega (arith, h .few, parts-few (a .n) (a .sizes .now) (a .parents .now) h),
-      omega (arith, h .few, parts-total (a .n) (a .sizes .now) (a .parents .now) h, c .before .zeros .ensures),
+      omega (arith, h .few, parts-total (a .n) (a .sizes .now) (a .parents .now) h, c .before .filled .ensures .1),
     )
 
 list-requires : tie.Need-list-requires Inv-loop μ-loop

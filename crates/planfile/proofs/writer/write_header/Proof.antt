@@ -6,6 +6,7 @@ use native.Mathlib.Omega.{arith}
 use lib.ListN.{length, set, length-set}
 use borrow.Author.Needs.{needs}
 use Rattle.plan.specs.Lists.{written}
+use Rattle.plan.specs.Mesh.{maxNodes}
 use Rattle.plan.specs.File.{encode16, encode32, magic, version}
 use Rattle.theory.proofs.Written.{written-push, Reached, lentFrom, reached-long, reached-room, reached-more}
 use Rattle.theory.proofs.Coding.{encode16-length}
@@ -20,7 +21,7 @@ abbrev found : tie.Start → List ℕ
 found s = s .args .bytes .now
 
 -- the counts are numbers of 32 bits
-small : (s : tie.Start) → let a = s .args in (a .n ≤ 4096) × (a .p ≤ 4096) × (a .s ≤ 8386560)
+small : (s : tie.Start) → let a = s .args in (a .n ≤ maxNodes) × (a .p ≤ maxNodes) × (a .s ≤ 8386560)
 small s = let a = s .args in counts-few (countsOnly (a .n) (a .p) (a .s)) (s .pre .0)
 
 -- ---- the mark

@@ -6,6 +6,7 @@ use native.Mathlib.Omega.{arith}
 use lib.ListN.{length}
 use borrow.Author.Needs.{needs}
 use Rattle.plan.specs.Lists.{written}
+use Rattle.plan.specs.Mesh.{maxNodes}
 use Rattle.plan.specs.Planning.{Contents, rowCounts, contents}
 use Rattle.plan.specs.File.{encode16s, lengthAt, fileLength, encodeParts, badHeader}
 use Rattle.theory.proofs.Written.{Reached, lentFrom, reached-long, reached-room, reached-more}
@@ -43,7 +44,7 @@ abbrev rowsAt : tie.Start → ℕ
 rowsAt s = countsAt s + 2 * plan s .nodes
 
 -- numbers of 64 bits, since the counts are small
-small : (s : tie.Start) → (plan s .nodes ≤ 4096) × (plan s .parts ≤ 4096) × (plan s .slots ≤ 8386560)
+small : (s : tie.Start) → (plan s .nodes ≤ maxNodes) × (plan s .parts ≤ maxNodes) × (plan s .slots ≤ 8386560)
 small s = counts-few (plan s) (s .pre .0 .0 .header)
 
 -- before the first call
