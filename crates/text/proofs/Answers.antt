@@ -10,7 +10,7 @@ use borrow.Author.Tests.{le-ltb}
 use Rattle.plan.specs.declared.PlanAnswer.{PlanAnswer}
 use Rattle.plan.specs.declared.PlanAnswer.the-variants.{Accepted, Refused}
 use Rattle.plan.specs.declared.Plan.{Plan}
-use Rattle.plan.specs.Lists.{below, listAt}
+use Rattle.plan.specs.Lists.{below, listAt, written}
 use Rattle.plan.specs.Refusals.{Checks, firstFault}
 use Rattle.plan.specs.Answers.{Reply}
 use Rattle.plan.specs.Mesh.{Mesh, meshChecks}
@@ -29,6 +29,7 @@ use Rattle.theory.proofs.Planned.{planned-nodes, planned-once, planned-sizes}
 use Rattle.mesh.specs.Lists.{ListWithin}
 use Rattle.mesh.proofs.Lists.{good-starts-within}
 use Rattle.text.specs.Lines.{shown, headOf, linesOf, lentPlan, PlanWithin, answerText, AnswerWithin, meshText}
+use Rattle.text.specs.Room.{maxListedSlots, longest, blank}
 use Rattle.text.proofs.Lines.{head-counts, plan-parts}
 use Rattle.text.proofs.Inputs.{input-passes, mesh-nodes}
 use Rattle.text.proofs.Bound.{slots-at-most, plan-fits, refusal-fits}
@@ -47,7 +48,7 @@ pub record Roomy (room : Capacity) : Type 0 where
   pub sizes : maxListedNodes ≤ room .sizes
   pub parents : maxListedNodes ≤ room .parents
   pub columnStarts : maxListedNodes + 1 ≤ room .columnStarts
-  pub rows : 32640 ≤ room .rows
+  pub rows : maxListedSlots ≤ room .rows
 
 module _ (m : Mesh) (few : m .nodes ≤ maxListedNodes) where
   -- such buffers are long enough
@@ -76,11 +77,11 @@ module _ (m : Mesh) (few : m .nodes ≤ maxListedNodes) where
       (fault-later 8 (buffersTooShort (m .nodes) room) nine (long-enough room r) ∙ fault-later 9 (rowsTooShort (planOf m) room) [] (rows-enough room r) ∙ first-nil)
 
   -- the text fits
-  pub mesh-fits : length (meshText m) ≤ 135168
+  pub mesh-fits : length (meshText m) ≤ longest
   unfolding meshText
   mesh-fits = go (firstFault (meshChecks m)) (mesh-fault m)
     where
-      go : (k : ℕ) → k < 100 → length (print k (planOf m)) ≤ 135168
+      go : (k : ℕ) → k < 100 → length (print k (planOf m)) ≤ longest
       go zero h = plan-fits m few
       go (suc k) h = unfold print in omega (arith, refusal-fits (suc k) h)
 
@@ -199,8 +200,12 @@ unfolding listing listingChecks meshText
 listing-mesh bytes h = ap (λ (k : ℕ). print k (planOf (inputMesh bytes))) (fault-later 20 (badInput bytes) (meshChecks (inputMesh bytes)) h)
 
 -- every listing fits
-pub listing-fits : (bytes : List ℕ) → length (listing bytes) ≤ 135168
+pub listing-fits : (bytes : List ℕ) → length (listing bytes) ≤ longest
 listing-fits bytes = elim (tested (badInput bytes)) [
   | inl h ↦ omega (arith, ap length (listing-refused bytes h), refusal-fits 20 (omega arith))
   | inr h ↦ rw (listing-mesh bytes h) (mesh-fits (inputMesh bytes) (rw (mesh-nodes bytes) (input-passes bytes h .nodes)))
 ]
+
+-- the text that `list` promises ends within its bytes
+pub listed-within : (input : List ℕ) {bytes : List ℕ} {k : ℕ} → k ≡ length (listing input) → bytes ≡ written (listing input) blank → k ≤ length bytes
+listed-within input e w = omega (arith, e, ap length w, length-append (listing input) (drop (length (listing input)) blank))

@@ -21,6 +21,7 @@ use Rattle.theory.proofs.EliminationTree.{row-range}
 use Rattle.theory.proofs.Slots.{column-at, slots-few}
 use Rattle.theory.proofs.Planned.{planned-nodes, planned-once, planned-sizes, planned-few, planned-tree}
 use Rattle.text.specs.Lines.{headOf}
+use Rattle.text.specs.Room.{maxListedSlots, longest}
 use Rattle.text.proofs.Sequences.{texts, texts-none, texts-one, texts-append}
 use Rattle.text.proofs.Decimals.{digits-three, digits-five, spaced-one, spaced-few}
 use Rattle.text.proofs.Lines.{head-length, head-counts, line-length, refusal-length}
@@ -103,7 +104,7 @@ module _ (m : Mesh) (few : m .nodes ≤ maxListedNodes) where
   slots-listed = refl
 
   -- 256 · 255 / 2 of them at most
-  pub slots-at-most : planOf m .slots ≤ 32640
+  pub slots-at-most : planOf m .slots ≤ maxListedSlots
   slots-at-most =
       let fewer : m .nodes - 1 ≤ 255 = omega arith in
       let pairs : m .nodes * (m .nodes - 1) ≤ 256 * 255 = mul-le-mul few fewer in
@@ -122,7 +123,7 @@ module _ (m : Mesh) (few : m .nodes ≤ maxListedNodes) where
       (λ r t. omega (arith, row-inside r j t)))
 
   -- the whole text
-  pub plan-fits : length (print 0 (planOf m)) ≤ 135168
+  pub plan-fits : length (print 0 (planOf m)) ≤ longest
   unfolding print
   plan-fits =
       omega (

@@ -1,2 +1,3 @@
 pub mod Put
 pub mod Lines
+pub mod Room

@@ -10,10 +10,10 @@ ghost use Rattle.plan.specs.Lists.{written};
 ghost use Rattle.plan.specs.File.{decode16};
 ghost use Rattle.plan.specs.Listing.{neighboursAt, entryCount, inputMesh, badInput};
 
-// the most nodes that are listed
-const NODES: usize = 256;
-// the most neighbour entries
-const ENTRIES: usize = 2048;
+// the most nodes of a mesh that is listed
+pub(crate) const LISTED_NODES: usize = 256;
+// the most neighbour entries of one
+pub(crate) const LISTED_ENTRIES: usize = 2048;
 
 // How many nodes the mesh has. O(1).
 pub(crate) fn node_count(input: &[u8]) -> usize
@@ -46,13 +46,13 @@ pub(crate) fn bad_input(input: &[u8]) -> bool
     if input.len() < 2 {
         return true;
     }
-    if node_count(input) > NODES {
+    if node_count(input) > LISTED_NODES {
         return true;
     }
     if input.len() < neighbours_at(input) {
         return true;
     }
-    if entry_count(input) > ENTRIES {
+    if entry_count(input) > LISTED_ENTRIES {
         return true;
     }
     (input.len() - neighbours_at(input)) % 2 == 1

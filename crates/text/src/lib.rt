@@ -3,6 +3,8 @@ mod input;
 mod listed;
 mod output;
 
+use crate::input::LISTED_ENTRIES;
+use crate::input::LISTED_NODES;
 use crate::input::bad_input;
 use crate::input::entry_count;
 use crate::input::node_count;
@@ -12,57 +14,65 @@ use crate::listed::put_answer;
 use crate::output::put_refusal;
 ghost use mathlib.Core.Path.{_≡_};
 ghost use mathlib.Core.Bool.{false};
-ghost use Prim.Native.Nat.{ℕ, _≤_, _<_};
-ghost use lib.ListN.{length, take, getD};
+ghost use Prim.Native.Nat.{_+_, _≤_};
+ghost use lib.ListN.{length};
+ghost use Rattle.plan.specs.Lists.{written};
 ghost use Rattle.plan.specs.Mesh.{lent};
-ghost use Rattle.plan.specs.Listing.{maxListedNodes, inputMesh, badInput, listing};
+ghost use Rattle.plan.specs.Listing.{maxListedNodes, maxListedEntries, inputMesh, badInput, listing};
 ghost use Rattle.text.specs.Put.{Put};
 ghost use Rattle.text.specs.Lines.{meshText};
+ghost use Rattle.text.specs.Room.{maxListedSlots, longest, blank};
 
-// A text at the front of its bytes, and zeros behind it. The listing of 256 nodes is shorter than 135,168 bytes.
+// the most slots of a mesh that is listed: 256 · 255 / 2
+const LISTED_SLOTS: usize = 32640;
+// How many bytes the text has room for. No listing is longer: the first line has at most 32 bytes, each of 256 lines at most 12 besides its rows, and
+// each of 32,640 rows takes at most 4, together 133,664; the next multiple of 4,096 is taken.
+const LONGEST: usize = 135168;
+
+// A text at the front of its bytes, and zeros behind it.
 pub struct Text {
-    pub bytes: [u8; 135168],
+    pub bytes: [u8; LONGEST],
     pub length: usize,
 }
 
 // Room for a number for each node. O(256).
-fn node_zeros() -> [u16; 256]
-    ensures { λ r. ⌜ length r ≡ 256 ⌝ }
+fn node_zeros() -> [u16; LISTED_NODES]
+    ensures { λ r. ⌜ length r ≡ maxListedNodes ⌝ }
 {
-    [0; 256]
+    [0; LISTED_NODES]
 }
 
 // Room for the starts of their lists. O(256).
-fn start_zeros() -> [u32; 257]
-    ensures { λ r. ⌜ length r ≡ 257 ⌝ }
+fn start_zeros() -> [u32; LISTED_NODES + 1]
+    ensures { λ r. ⌜ length r ≡ maxListedNodes + 1 ⌝ }
 {
-    [0; 257]
+    [0; LISTED_NODES + 1]
 }
 
 // Room for the entries. O(2,048).
-fn entry_zeros() -> [u16; 2048]
-    ensures { λ r. ⌜ length r ≡ 2048 ⌝ }
+fn entry_zeros() -> [u16; LISTED_ENTRIES]
+    ensures { λ r. ⌜ length r ≡ maxListedEntries ⌝ }
 {
-    [0; 2048]
+    [0; LISTED_ENTRIES]
 }
 
 // Room for the rows of 256 columns. O(32,640).
-fn row_zeros() -> [u16; 32640]
-    ensures { λ r. ⌜ length r ≡ 32640 ⌝ }
+fn row_zeros() -> [u16; LISTED_SLOTS]
+    ensures { λ r. ⌜ length r ≡ maxListedSlots ⌝ }
 {
-    [0; 32640]
+    [0; LISTED_SLOTS]
 }
 
-// 135,168 zeros. O(135,168).
-fn byte_zeros() -> [u8; 135168]
-    ensures { λ r. ⌜ (length r ≡ 135168) × ((i : ℕ) → i < 135168 → getD r i 0 ≡ 0) ⌝ }
+// The bytes of a text before anything is put into it: zeros. O(135,168).
+fn byte_zeros() -> [u8; LONGEST]
+    ensures { λ r. ⌜ (r ≡ blank) × (length r ≡ longest) ⌝ }
 {
-    [0; 135168]
+    [0; LONGEST]
 }
 
 // The listing of a mesh: its plan, or the number of its first fault. O(planning + n · parts + slots · digits).
 fn put_mesh(out: &mut [u8], n: usize, starts: &[u32], neighbours: &[u16]) -> usize
-    requires { ⌜ (n ≤ maxListedNodes) × (135168 ≤ length (now out)) ⌝ }
+    requires { ⌜ (n ≤ maxListedNodes) × (longest ≤ length (now out)) ⌝ }
     ensures { λ r. ⌜ Put (now (out .entry)) 0 (meshText (lent n (now (starts .entry)) (now (neighbours .entry)))) (now (out .exit)) r ⌝ }
 {
     let mut order = node_zeros();
@@ -87,7 +97,7 @@ fn put_mesh(out: &mut [u8], n: usize, starts: &[u32], neighbours: &[u16]) -> usi
 
 // The listing of the mesh that the input holds, which has passed check 20. O(planning + n · parts + slots · digits).
 fn put_input(out: &mut [u8], input: &[u8]) -> usize
-    requires { ⌜ (badInput (now input) ≡ false) × (135168 ≤ length (now out)) ⌝ }
+    requires { ⌜ (badInput (now input) ≡ false) × (longest ≤ length (now out)) ⌝ }
     ensures { λ r. ⌜ Put (now (out .entry)) 0 (meshText (inputMesh (now (input .entry)))) (now (out .exit)) r ⌝ }
 {
     let mut starts = start_zeros();
@@ -103,7 +113,7 @@ fn put_input(out: &mut [u8], input: &[u8]) -> usize
 
 // The listing into a lent buffer: check 20, then the mesh. O(planning + n · parts + slots · digits).
 fn put_listing(out: &mut [u8], input: &[u8]) -> usize
-    requires { ⌜ 135168 ≤ length (now out) ⌝ }
+    requires { ⌜ longest ≤ length (now out) ⌝ }
     ensures { λ r. ⌜ Put (now (out .entry)) 0 (listing (now (input .entry))) (now (out .exit)) r ⌝ }
 {
     if bad_input(input) {
@@ -114,9 +124,8 @@ fn put_listing(out: &mut [u8], input: &[u8]) -> usize
 
 // The listing, whole: what the program writes when it has read these bytes. O(planning + n · parts + slots · digits).
 pub fn list(input: &[u8]) -> Text
-    ensures { λ r. ⌜ take (r .length) (r .bytes) ≡ listing (now (input .entry)) ⌝ }
-    ensures { λ r. ⌜ r .length ≤ length (r .bytes) ⌝ }
-    ensures { λ r. ⌜ ((i : ℕ) → r .length ≤ i → i < length (r .bytes) → getD (r .bytes) i 0 ≡ 0) ⌝ }
+    ensures { λ r. ⌜ r .length ≡ length (listing (now (input .entry))) ⌝ }
+    ensures { λ r. ⌜ r .bytes ≡ written (listing (now (input .entry))) blank ⌝ }
 {
     let mut bytes = byte_zeros();
     let length = put_listing(&mut bytes, input);
