@@ -43,7 +43,7 @@ pub struct NdpRows {
 }
 
 // The reply of planning and reading. O(1).
-pub fn plan_reply(answer: PlanAnswer) -> NdpPlan
+pub(crate) fn plan_reply(answer: PlanAnswer) -> NdpPlan
     ensures { λ r. ⌜ r ≡ ndpPlan (planReply answer) ⌝ }
 {
     match answer {
@@ -65,7 +65,7 @@ pub fn plan_reply(answer: PlanAnswer) -> NdpPlan
 }
 
 // The reply of writing. O(1).
-pub fn write_reply(answer: WriteAnswer) -> NdpWritten
+pub(crate) fn write_reply(answer: WriteAnswer) -> NdpWritten
     ensures { λ r. ⌜ r ≡ ndpWritten (writeReply answer) ⌝ }
 {
     match answer {
@@ -81,7 +81,7 @@ pub fn write_reply(answer: WriteAnswer) -> NdpWritten
 }
 
 // The reply of the pair question. O(1).
-pub fn pair_reply(answer: PairAnswer) -> NdpSlot
+pub(crate) fn pair_reply(answer: PairAnswer) -> NdpSlot
     ensures { λ r. ⌜ r ≡ ndpSlot (pairReply answer) ⌝ }
 {
     match answer {
@@ -109,7 +109,7 @@ pub fn pair_reply(answer: PairAnswer) -> NdpSlot
 }
 
 // The number of a family. O(1).
-pub fn family_number(family: RefusalFamily) -> u32
+pub(crate) fn family_number(family: RefusalFamily) -> u32
     ensures { λ r. ⌜ r ≡ familyNumber family ⌝ }
 {
     match family {
