@@ -3,36 +3,30 @@ use crate::order::order_and_parts_refusal;
 use crate::rules::contains_all;
 use crate::rules::number_parts;
 use crate::rules::outside;
-use layout::bad_columns;
-use mesh::bad_starts;
+use layout::bad_layout;
 use mesh::filled;
 use mesh::index;
 use mesh::list;
 use mesh::wide;
 ghost use mathlib.Core.Path.{_≡_};
-ghost use mathlib.Core.Bool.{false};
 ghost use mathlib.Core.List.{[]};
-ghost use Prim.Native.Nat.{_<_};
+ghost use Prim.Native.Nat.{_+_, _<_};
 ghost use lib.ListN.{length};
 ghost use Rattle.plan.specs.Lists.{listAt};
 ghost use Rattle.plan.specs.Refusals.{firstFault};
-ghost use Rattle.plan.specs.Mesh.{badNodeCount};
 ghost use Rattle.plan.specs.Planning.{contents};
 ghost use Rattle.plan.specs.File.{badRows, notNested, covered, notCovered, contentsChecks};
 ghost use Rattle.planfile.specs.Supplied.{partsAndRows, Exact, SoundParts, LaidOut};
 
-// Check 17: the column starts do not begin at 0, fall, or do not end at s, or a column breaks the rule. O(n + slots).
+// Check 17: the column starts do not end at s, do not begin at 0 or fall, or a column breaks the rule. O(n + slots).
 fn bad_rows(n: usize, columnStarts: &[u32], rows: &[u16]) -> bool
-    requires { ⌜ badNodeCount n ≡ false ⌝ }
+    requires { ⌜ length (now columnStarts) ≡ n + 1 ⌝ }
     ensures { λ r. ⌜ r ≡ badRows (partsAndRows n [] [] (now (columnStarts .entry)) (now (rows .entry))) ⌝ }
 {
-    if bad_starts(n, columnStarts) {
-        return true;
-    }
     if index(columnStarts[n]) != rows.len() {
         return true;
     }
-    bad_columns(n, columnStarts, rows)
+    bad_layout(n, columnStarts, rows)
 }
 
 // Check 18: a row lies outside its column's part and that part's ancestors. O(4,096 + slots + the ancestors of each column's part).

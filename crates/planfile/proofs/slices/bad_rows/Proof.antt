@@ -1,60 +1,27 @@
--- `planfile::slices::bad_rows` meets its contract: the three tests are those of `badRows`.
-use mathlib.Core.Path.{_≡_, sym, _∙_}
-use mathlib.Core.Bool.{false}
+-- `planfile::slices::bad_rows` meets its contract: where the column starts end at s, check 17 is the test of a layout.
+use mathlib.Core.Path.{refl, sym, _∙_}
+use mathlib.Core.List.{[]}
 use native.Mathlib.Omega.{arith}
-use borrow.Author.Tests.{eq-eqb, ne-eqb}
 use borrow.Author.Needs.{needs}
-use Rattle.plan.specs.Mesh.{badStarts}
-use Rattle.plan.specs.File.{badRows}
-use Rattle.theory.proofs.Checked.{node-count, good-starts}
+use Rattle.plan.specs.Planning.{Contents}
+use Rattle.layout.proofs.Ended.{rows-ended, rows-unended}
+use Rattle.planfile.specs.Supplied.{partsAndRows}
 use Rattle.planfile.proofs.slices.bad_rows.Statement.{statement}
 use Rattle.planfile.proofs.slices.bad_rows.Tie as tie
 
--- the starts have no fault
-started : (c : tie.Else1) → let a = c .before .before .before .before .args in badStarts (a .n) (a .columnStarts .now) ≡ false
-started c = sym (c .before .bad-starts .ensures) ∙ c .if1 .left
+-- the plan
+abbrev plan : tie.Start → Contents
+plan s = let a = s .args in partsAndRows (a .n) [] [] (a .columnStarts .now) (a .rows .now)
 
 returns : tie.Need-returns
-unfolding badRows
-returns c = rw (sym (c .before .bad-starts .ensures) ∙ c .if1 .taken)
-
-mul-index : tie.Need-mul-index
-mul-index c = let s = c .before .before .before .before in omega (arith, node-count (s .args .n) (s .pre))
-
-shared-slice-read-index : tie.Need-shared-slice-read-index
-shared-slice-read-index c =
-    let e = c .before in
-    let a = e .before .before .before .before .args in
-    omega (arith, good-starts (a .n) (a .columnStarts .now) (started e) .many)
+returns c =
+    let i = c .before in
+    sym (rows-unended (plan (i .before .before .before .before)) (λ e. c .if1 .taken (i .index .ensures ∙ e)))
 
 returns-2 : tie.Need-returns-2
-unfolding badRows
 returns-2 c =
-    let i = c .before in
-    let e = i .before .before in
-    rw (started e, ne-eqb _ _ (rw (i .index .ensures) at (c .if2 .taken)))
-
-bad-columns-requires : tie.Need-bad-columns-requires
-bad-columns-requires c κs =
-    let i = c .before in
-    (started (i .before .before), omega (arith, i .index .ensures, c .if2 .left))
-
-returns-3 : tie.Need-returns-3
-unfolding badRows
-returns-3 c =
     let i = c .before .before in
-    let e = i .before .before in
-    rw (c .bad-columns .ensures, started e, eq-eqb _ _ (rw (i .index .ensures) at (c .before .if2 .left)))
+    c .bad-layout .ensures ∙ sym (rows-ended (plan (i .before .before .before .before)) (sym (i .index .ensures) ∙ c .before .if1 .left) refl)
 
 pub bad-rows-spec : {M : Type 1} → statement M
-bad-rows-spec =
-    tie.close
-    (tie.spec
-    (λ c κs. search needs)
-    returns
-    mul-index
-    shared-slice-read-index
-    (λ c κs. search needs)
-    returns-2
-    bad-columns-requires
-    returns-3)
+bad-rows-spec = tie.close (tie.spec (λ c. search needs) (λ c. search needs) (λ c κs. search needs) returns (λ c κs. search needs) returns-2)

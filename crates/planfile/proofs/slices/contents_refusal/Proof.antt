@@ -6,7 +6,6 @@ use lib.ListN.{length}
 use Rattle.plan.specs.Refusals.{firstFault}
 use Rattle.plan.specs.Planning.{Contents, contents}
 use Rattle.plan.specs.File.{badRows, notNested, notCovered}
-use Rattle.theory.proofs.Fitting.{header-limits}
 use Rattle.planfile.specs.Supplied.{orderAndPartsChecks}
 use Rattle.planfile.proofs.Passing.{order-fault, fault-17, fault-18, fault-19, all-passed, order-checks, rows-check, nested-check, covered-check, exact-few, passed-parts, passed-laid}
 use Rattle.planfile.proofs.slices.contents_refusal.Statement.{statement}
@@ -59,7 +58,7 @@ returns c =
     sym (order-fault (plan (start o)) (λ z. c .if1 .taken (sym e ∙ z)) ∙ e)
 
 bad-rows-requires : tie.Need-bad-rows-requires
-bad-rows-requires c κs = let s = start (c .before) in header-limits (plan s) (s .pre .header) .count
+bad-rows-requires c κs = let s = start (c .before) in s .pre .whole .columnStarts
 
 returns-2 : tie.Need-returns-2
 returns-2 c =
