@@ -3,6 +3,8 @@ use mathlib.Core.Path.{_≡_, sym, _∙_}
 use mathlib.Core.Bool.{cond, false}
 use mathlib.Core.List.{List}
 use Prim.Native.Nat.{ℕ}
+use native.Mathlib.Omega.{arith}
+use lib.ListN.{length}
 use borrow.Author.Tests.{eq-eqb, ne-eqb, lt-ltb, le-ltb}
 use borrow.Author.Needs.{needs}
 use Rattle.plan.specs.Refusals.{firstFault}
@@ -18,7 +20,7 @@ use Rattle.planfile.proofs.header.header_refusal.Tie as tie
 -- check 10
 enough : (c : tie.Else1) → tooFewBytes (c .before .before .args .bytes .now) ≡ false
 unfolding tooFewBytes
-enough c = le-ltb _ _ (c .if1 .left)
+enough c = le-ltb (length (c .before .before .args .bytes .now)) 17 (omega (arith, c .if1 .left))
 
 -- check 11
 magic : (c : tie.Else2) → badMagic (c .before .before .before .before .args .bytes .now) ≡ false
@@ -61,7 +63,7 @@ first c =
 
 returns : tie.Need-returns
 unfolding headerChecks firstFault tooFewBytes
-returns c = rw (lt-ltb _ _ (c .if1 .taken))
+returns c = rw (lt-ltb (length (c .before .before .args .bytes .now)) 17 (omega (arith, c .if1 .taken)))
 
 returns-2 : tie.Need-returns-2
 unfolding headerChecks firstFault

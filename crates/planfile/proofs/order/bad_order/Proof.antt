@@ -40,7 +40,7 @@ returns-2 c =
     let n = e .before in
     let k = n .before .before .before in
     let order = k .before .before .before .args .order .now in
-    sym (entry-again order (k .loop .marks) (k .loop .i) (n .wide .result) (omega arith) (k .loop .inv) (n .wide .ensures) (inside e) (c .if2 .taken))
+    sym (entry-again order (k .loop .marks) (k .loop .i) (n .wide .result) (omega arith) (k .loop .inv) (n .wide .ensures) (inside e) (omega (arith, c .if2 .taken)))
 
 loop-again : tie.Need-loop-again Inv-loop μ-loop
 loop-again c =
@@ -48,7 +48,7 @@ loop-again c =
     let n = e .before in
     let k = n .before .before .before in
     let order = k .before .before .before .args .order .now in
-    marked-more order (k .loop .marks) (k .loop .i) (n .wide .result) (omega arith) (k .loop .inv) (n .wide .ensures) (inside e) (c .if2 .left)
+    marked-more order (k .loop .marks) (k .loop .i) (n .wide .result) (omega arith) (k .loop .inv) (n .wide .ensures) (inside e) (λ again. c .if2 .left (omega (arith, again)))
 
 returns-3 : tie.Need-returns-3 Inv-loop μ-loop
 returns-3 c =

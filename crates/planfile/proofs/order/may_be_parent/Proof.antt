@@ -1,4 +1,5 @@
 -- `planfile::order::may_be_parent` meets its contract: the three tests are those of `mayBeParent`.
+use native.Mathlib.Omega.{arith}
 use borrow.Author.Tests.{eq-eqb, ne-eqb, lt-ltb, le-ltb}
 use borrow.Author.Needs.{needs}
 use Rattle.plan.specs.File.{mayBeParent}
@@ -13,14 +14,16 @@ returns-2 : tie.Need-returns-2
 unfolding mayBeParent
 returns-2 c =
     let n = c .before in
-    rw (ne-eqb _ _ (n .before .if1 .left), le-ltb _ _ (rw (n .wide .ensures) at (c .if2 .taken)))
+    let a = n .before .before .args in
+    rw (ne-eqb _ _ (n .before .if1 .left), le-ltb (a .q) (a .r) (omega (arith, n .wide .ensures, c .if2 .taken)))
 
 returns-3 : tie.Need-returns-3
 unfolding mayBeParent
 returns-3 c =
     let e = c .before in
     let n = e .before in
-    rw (c .wide2 .ensures, ne-eqb _ _ (n .before .if1 .left), lt-ltb _ _ (rw (n .wide .ensures) at (e .if2 .left)))
+    let a = n .before .before .args in
+    rw (c .wide2 .ensures, ne-eqb _ _ (n .before .if1 .left), lt-ltb (a .q) (a .r) (omega (arith, n .wide .ensures, e .if2 .left)))
 
 pub may-be-parent-spec : {M : Type 1} → statement M
 may-be-parent-spec =
