@@ -190,8 +190,8 @@ typedef struct {
 } Line;
 
 /* First the families, each at all its sizes; then the largest plan; then the other meshes. */
-enum { FAMILIES = 5, SIZES = 5, LARGEST = FAMILIES * SIZES, MOST_LINES = 48 };
-static const char *const family_names[FAMILIES] = {"plate", "grid", "plate, holes", "path", "binary tree"};
+enum { FAMILIES = 6, SIZES = 5, LARGEST = FAMILIES * SIZES, MOST_LINES = 48 };
+static const char *const family_names[FAMILIES] = {"foot", "plate", "plate, holes", "grid", "path", "binary tree"};
 static Line lines[MOST_LINES];
 static int line_count;
 
@@ -250,10 +250,11 @@ static void measure_families(void) {
         char name[32];
         snprintf(name, sizeof name, "%s %zu", family_names[family], nodes);
         switch (family) {
-        case 0: make_plate(&mesh, widths[size], nodes, 1, 0); break;
-        case 1: make_plate(&mesh, widths[size], nodes, 0, 0); break;
+        case 0: make_foot(&mesh, nodes); break;
+        case 1: make_plate(&mesh, widths[size], nodes, 1, 0); break;
         case 2: make_plate(&mesh, widths[size], nodes, 1, 1); break;
-        case 3: make_plate(&mesh, 1, nodes, 0, 0); break;
+        case 3: make_plate(&mesh, widths[size], nodes, 0, 0); break;
+        case 4: make_plate(&mesh, 1, nodes, 0, 0); break;
         default: make_tree(&mesh, nodes, 2);
         }
         measure_mesh(name, CHECK, COLUMN);

@@ -59,6 +59,49 @@ void make_plate(Mesh *mesh, size_t width, size_t nodes, int triangulated, int ho
     finish(mesh);
 }
 
+/* How wide a foot is, in hundredths, at each tenth of its length from the heel. */
+static const uint32_t outline[11] = {50, 66, 68, 62, 60, 66, 78, 90, 96, 88, 60};
+
+/* How many nodes stand in row `row` of about `rows`: the outline's width there, one more or less by chance. */
+static size_t row_length(size_t row, size_t rows, size_t nodes) {
+    size_t at = row < rows ? 1000 * row / rows : 999, tenth = at / 100, rest = at % 100;
+    size_t width = (outline[tenth] * (100 - rest) + outline[tenth + 1] * rest) / 100;
+    return nodes * width / (72 * rows) + next_random(3) + 1;
+}
+
+/* Triangles between `a` nodes from `above` on and `b` nodes from `below` on; `number` gives each node its number. */
+static void join_rows(const uint16_t *number, size_t above, size_t a, size_t below, size_t b) {
+    size_t i = 0, k = 0;
+    join(number[above], number[below]);
+    while (i + 1 < a || k + 1 < b) {
+        /* along the row that is behind, or by chance where both are about as far */
+        size_t left = (i + 1) * b * 4 + next_random(3 * (a + b)), right = (k + 1) * a * 4 + next_random(3 * (a + b));
+        if (k + 1 == b || (i + 1 < a && left < right)) i++;
+        else k++;
+        join(number[above + i], number[below + k]);
+    }
+}
+
+void make_foot(Mesh *mesh, size_t nodes) {
+    static uint16_t number[NODES];
+    size_t rows = 1;
+    begin(mesh, nodes);
+    while (rows * rows < 3 * nodes) rows++;
+    for (size_t v = 0; v < nodes; v++) number[v] = v;
+    for (size_t v = nodes - 1; v > 0; v--) {
+        size_t w = next_random(v + 1), kept = number[v];
+        number[v] = number[w];
+        number[w] = kept;
+    }
+    for (size_t first = 0, above = 0, row = 0, length, before = 0; first < nodes; above = first, before = length, first += length, row++) {
+        length = row_length(row, rows, nodes);
+        if (length > nodes - first) length = nodes - first;
+        for (size_t v = first + 1; v < first + length; v++) join(number[v - 1], number[v]);
+        if (row > 0) join_rows(number, above, before, first, length);
+    }
+    finish(mesh);
+}
+
 void make_tube(Mesh *mesh, size_t width, size_t height) {
     begin(mesh, width * height);
     for (size_t y = 0; y < height; y++) for (size_t x = 0; x < width; x++) {

@@ -16,6 +16,10 @@ uint32_t next_random(uint32_t below);
  * the plate is longer instead, so that there are `nodes` nodes in any case. A width of 1 gives a path. */
 void make_plate(Mesh *mesh, size_t width, size_t nodes, int triangulated, int holes);
 
+/* A foot as a scan gives it: rows of nodes across an outline, as many in a row as the outline is wide there, one more or less by chance, the strips
+ * between two rows triangulated with diagonals that lean by chance, and the nodes numbered in no order. */
+void make_foot(Mesh *mesh, size_t nodes);
+
 /* A triangulated plate that is closed to a ring in its width. */
 void make_tube(Mesh *mesh, size_t width, size_t height);
 

@@ -31,20 +31,20 @@ impl Plan {
         }
     }
 
-    // The three limits are those of the book. O(1).
-    pub fn max_nodes() -> usize
+    // The three limits are those of the book: a function for each says so, since the book cannot name a constant of the code. O(1).
+    fn max_nodes() -> usize
         ensures { λ r. ⌜ r ≡ maxNodes ⌝ }
     {
         Self::NODES
     }
 
-    pub fn max_entries() -> usize
+    fn max_entries() -> usize
         ensures { λ r. ⌜ r ≡ maxEntries ⌝ }
     {
         Self::ENTRIES
     }
 
-    pub fn no_parent() -> u16
+    fn no_parent() -> u16
         ensures { λ r. ⌜ r ≡ noParent ⌝ }
     {
         Self::NO_PARENT
