@@ -1,4 +1,5 @@
-// Checks 1 to 7 of a lent mesh: n nodes, the starts of their lists, and the entries of all lists (neighbours); and what other crates use of such lists.
+// Checks 1 to 7 of a lent mesh: n nodes, the starts of their lists, and the entries of all lists (neighbours). With them is what other crates use of
+// such lists, and of arrays with a place for each node.
 use plan::Plan;
 ghost use mathlib.Core.Path.{_≡_};
 ghost use mathlib.Core.Bool.{true, false};
