@@ -38,8 +38,8 @@ no-greater l h i j le lt = elim (lt-or-le i j) [
 
 module _ (l : List ℕ) (x low high middle : ℕ) (h : ascending l ≡ true) (b : Bracket l x low high) (above : low ≤ middle) (under : middle < high) where
   -- the element in the middle is less: the search goes on behind it
-  pub bracket-up : getD l middle 0 < x → Bracket l x (middle + 1) high
-  bracket-up lt = record {
+  pub bracket-up : (next : ℕ) → next ≡ middle + 1 → getD l middle 0 < x → Bracket l x next high
+  bracket-up next e lt = record {
     ordered = omega arith;
     within = b .within;
     less = λ i s. omega (arith, no-greater l h i middle (omega arith) (omega (arith, b .within)));

@@ -20,7 +20,7 @@ loop-again c =
     let k = c .before .before .before .before in
     let s = k .before .before in
     let b = k .loop in
-    bracket-up (s .args .entries .now) (s .args .x) (b .low) (b .high) (b .low + (b .high - b .low) / 2) (s .pre) (b .inv) (omega arith) (omega arith) (rw (c .before .wide .ensures) at (c .if1 .taken))
+    bracket-up (s .args .entries .now) (s .args .x) (b .low) (b .high) (b .low + (b .high - b .low) / 2) (s .pre) (b .inv) (omega arith) (omega arith) _ (omega arith) (rw (c .before .wide .ensures) at (c .if1 .taken))
 
 loop-again-2 : tie.Need-loop-again-2 Inv-loop μ-loop
 loop-again-2 c =

@@ -1,8 +1,9 @@
 -- `mesh::neighbour_outside` meets its contract: the loop tries each entry.
 use mathlib.Core.Path.{refl, sym}
-use Prim.Native.Nat.{_-_}
+use Prim.Native.Nat.{ℕ, _-_}
 use native.Mathlib.Omega.{arith}
 use lib.Dec.{leb}
+use lib.ListN.{getD}
 use borrow.Author.Tests.{le-leb, lt-leb}
 use borrow.Author.Needs.{needs}
 use Rattle.plan.specs.Mesh.{neighbourOutside}
@@ -21,13 +22,15 @@ unfolding neighbourOutside
 returns c =
     let k = c .before .before .before .before in
     let s = k .before .before .args in
-    λ starts. sym (found-in (leb (s .n)) (s .neighbours .now) (k .loop .k) (omega arith) (le-leb _ _ (rw (c .before .wide .ensures) at (c .if1 .taken))))
+    let w : ℕ = getD (s .neighbours .now) (k .loop .k) 0 in
+    λ starts. sym (found-in (leb (s .n)) (s .neighbours .now) (k .loop .k) (omega arith) (le-leb (s .n) w (omega (arith, c .before .wide .ensures))))
 
 loop-again : tie.Need-loop-again Inv-loop μ-loop
 loop-again c =
     let k = c .before .before .before .before in
     let s = k .before .before .args in
-    clear-more (elementAt (leb (s .n)) (s .neighbours .now)) (k .loop .k) (k .loop .inv) (lt-leb _ _ (rw (c .before .wide .ensures) at (c .if1 .left)))
+    let w : ℕ = getD (s .neighbours .now) (k .loop .k) 0 in
+    clear-more (elementAt (leb (s .n)) (s .neighbours .now)) (k .loop .k) (k .loop .inv) (lt-leb (s .n) w (omega (arith, c .before .wide .ensures)))
 
 returns-2 : tie.Need-returns-2 Inv-loop μ-loop
 unfolding neighbourOutside
