@@ -5,7 +5,7 @@ use Prim.Native.Nat.{ℕ, _≤_, _<_}
 use native.Mathlib.Omega.{arith}
 use lib.Dec.{ltb}
 use lib.ListN.{length, take, drop, getD, replicate, length-map, length-replicate, getD-replicate, List·getD-map, List·getD-append}
-use lib.Seq.{length-take-le, getD-take, ext-getD, drop-append-seam}
+use lib.Seq.{drop-append-seam}
 use borrow.Author.Tests.{le-ltb}
 use Rattle.plan.specs.Lists.{written}
 use Rattle.plan.specs.Mesh.{Mesh}
@@ -17,7 +17,7 @@ use Rattle.theory.proofs.Columns.{column-keep}
 use Rattle.theory.proofs.Written.{front-written}
 use Rattle.mesh.specs.Lists.{none}
 use Rattle.layout.specs.Arrays.{parentBelow, CountedBelow, Tree, treeOf}
-use Rattle.layout.proofs.Stores.{written-parts}
+use Rattle.layout.proofs.Stores.{written-front}
 
 -- ---- a buffer whose first n numbers were set to x
 
@@ -52,10 +52,12 @@ module _ (m : Mesh) (order : List ℕ) where
 
   -- ---- all rows
 
+  -- there is one parent for each column
   tree-many : length (treeOf m order) ≡ m .nodes
   unfolding treeOf
   tree-many = length-map-upFrom (parentBelow m order (m .nodes)) (m .nodes) 0
 
+  -- and one count
   counts-many : length (map length (columns m order)) ≡ m .nodes
   unfolding columns
   counts-many = length-map (columns m order) length ∙ length-map-upFrom (column m order) (m .nodes) 0
@@ -73,23 +75,12 @@ module _ (m : Mesh) (order : List ℕ) where
   module _ (tree counts : List ℕ) (c : CountedBelow m order (m .nodes) tree counts) where
     -- the tree is whole
     pub counted-tree : (tree₀ : List ℕ) → m .nodes ≤ length tree → drop (m .nodes) tree ≡ drop (m .nodes) tree₀ → tree ≡ written (treeOf m order) tree₀
-    counted-tree tree₀ room rest = written-parts (m .nodes) (treeOf m order) tree₀ tree (sym tree-many)
-        (ext-getD 0 (take (m .nodes) tree) (treeOf m order) (long ∙ sym tree-many) (λ k l. let lk : k < m .nodes = omega (arith, long) in
-        getD-take (m .nodes) tree k 0 lk ∙ c .parent k lk ∙ sym (tree-at k lk)))
-        (rw tree-many rest)
-      where
-        long : length (take (m .nodes) tree) ≡ m .nodes
-        long = length-take-le (m .nodes) tree room
+    counted-tree tree₀ room rest = written-front (m .nodes) (treeOf m order) tree₀ tree tree-many room (λ k l. c .parent k l ∙ sym (tree-at k l)) rest
 
     -- and so are the counts
     pub counted-rows : (counts₀ : List ℕ) → m .nodes ≤ length counts → drop (m .nodes) counts ≡ drop (m .nodes) counts₀ → counts ≡ written (map length (columns m order)) counts₀
-    counted-rows counts₀ room rest = written-parts (m .nodes) (map length (columns m order)) counts₀ counts (sym counts-many)
-        (ext-getD 0 (take (m .nodes) counts) (map length (columns m order)) (long ∙ sym counts-many) (λ k l. let lk : k < m .nodes = omega (arith, long) in
-        getD-take (m .nodes) counts k 0 lk ∙ c .rows k lk ∙ ap length (sym (column-keep m order k)) ∙ sym (counts-at k lk)))
-        (rw counts-many rest)
-      where
-        long : length (take (m .nodes) counts) ≡ m .nodes
-        long = length-take-le (m .nodes) counts room
+    counted-rows counts₀ room rest = written-front (m .nodes) (map length (columns m order)) counts₀ counts counts-many room
+        (λ k l. c .rows k l ∙ ap length (sym (column-keep m order k)) ∙ sym (counts-at k l)) rest
 
   -- ---- what `count_rows` promises
 

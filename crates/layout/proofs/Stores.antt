@@ -2,9 +2,10 @@
 use mathlib.Core.Path.{_≡_, sym, ap, ap₂, subst, _∙_}
 use mathlib.Core.Logic.{_≢_, inl, inr}
 use mathlib.Core.List.{List, _++_}
-use Prim.Native.Nat.{ℕ, _<_}
+use Prim.Native.Nat.{ℕ, _≤_, _<_}
+use native.Mathlib.Omega.{arith}
 use lib.ListN.{length, take, drop, getD, set, take-append-drop}
-use lib.Seq.{getD-set-same, getD-set-other}
+use lib.Seq.{length-take-le, getD-take, ext-getD, getD-set-same, getD-set-other}
 use Rattle.plan.specs.Lists.{written}
 use Rattle.theory.proofs.Bools.{eq-or-ne}
 
@@ -19,3 +20,11 @@ getD-set-cases P l k x i lt here there = elim (eq-or-ne i k) [
 pub written-parts : (k : ℕ) (entries found left : List ℕ) → k ≡ length entries → take k left ≡ entries → drop (length entries) left ≡ drop (length entries) found → left ≡ written entries found
 written-parts k entries found left many front behind =
     sym (take-append-drop k left) ∙ ap₂ (λ (a b : List ℕ). a ++ b) front (ap (λ (i : ℕ). drop i left) many ∙ behind)
+
+-- the same, entry by entry
+pub written-front : (n : ℕ) (entries found left : List ℕ) → length entries ≡ n → n ≤ length left → ((k : ℕ) → k < n → getD left k 0 ≡ getD entries k 0)
+    → drop n left ≡ drop n found → left ≡ written entries found
+written-front n entries found left many room each rest =
+    let long : length (take n left) ≡ n = length-take-le n left room in
+    let front : take n left ≡ entries = ext-getD 0 (take n left) entries (long ∙ sym many) (λ k l. let lk : k < n = omega (arith, long) in getD-take n left k 0 lk ∙ each k lk) in
+    written-parts n entries found left (sym many) front (rw many rest)
