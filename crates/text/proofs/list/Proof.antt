@@ -1,4 +1,4 @@
--- `text::list` meets its promise.
+-- `text::list` meets its promise: the listing is put at the front of zeros.
 use mathlib.Core.Path.{ap, _∙_}
 use mathlib.Core.List.{List}
 use Prim.Native.Nat.{ℕ}
@@ -18,8 +18,8 @@ returns c =
     let p = c .before in
     let zeros = p .before .before .byte-zeros .ensures in
     let put = p .put-listing .ensures in
-    let text : List ℕ = listing (p .before .before .before .before .args .input .now) in
-    (put .ends ∙ zero-add (length text), put-front put (omega (arith, zeros .1, listing-fits (p .before .before .before .before .args .input .now))) (search needs) ∙ ap (written text) (zeros .0))
+    let input : List ℕ = p .before .before .before .before .args .input .now in
+    (put .ends ∙ zero-add (length (listing input)), put-front put (omega (arith, zeros .1, listing-fits input)) (search needs) ∙ ap (written (listing input)) (zeros .0))
 
 pub list-spec : {M : Type 1} → statement M
 list-spec = tie.close (tie.spec (λ c κs. search needs) (λ c. search needs) (λ c κs. search needs) returns)

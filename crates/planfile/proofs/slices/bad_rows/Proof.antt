@@ -1,7 +1,6 @@
 -- `planfile::slices::bad_rows` meets its contract: where the column starts end at s, check 17 is the test of a layout.
 use mathlib.Core.Path.{refl, sym, _∙_}
 use mathlib.Core.List.{[]}
-use native.Mathlib.Omega.{arith}
 use borrow.Author.Needs.{needs}
 use Rattle.plan.specs.Planning.{Contents}
 use Rattle.layout.proofs.Ended.{rows-ended, rows-unended}
