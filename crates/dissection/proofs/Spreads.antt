@@ -36,9 +36,10 @@ spread-none {hi = hi} {q₁ = q₁} room same long h =
 pub spread-start : {n x hi : ℕ} {ns q : List ℕ} {t : ℕ → Bool} → Room n ns q hi → ((v : ℕ) → t v ≡ false) → Spread n x hi ns q t ns q hi
 spread-start {ns = ns} room h = spread-none room refl refl (λ v. rw (h v) (and-false (eqb (getD ns v 0) fresh)))
 
--- one node is touched that is not fresh
-spread-numbered : {n x hi : ℕ} {ns q : List ℕ} (w : ℕ) → Room n ns q hi → (getD ns w 0 ≡ fresh → ⊥) → Spread n x hi ns q (λ v. eqb v w) ns (set q hi w) hi
-spread-numbered {hi = hi} {ns = ns} {q = q} w room h = spread-none room (take-set-le hi q hi w (omega arith)) (length-set q hi w) each
+-- one node is touched that is not fresh, and anything may stand behind the queue's end
+pub spread-numbered : {n x hi : ℕ} {ns q q₁ : List ℕ} (w : ℕ) → Room n ns q hi → take hi q₁ ≡ take hi q → length q₁ ≡ length q → (getD ns w 0 ≡ fresh → ⊥)
+    → Spread n x hi ns q (λ v. eqb v w) ns q₁ hi
+spread-numbered {ns = ns} w room same long h = spread-none room same long each
   where
     each : (v : ℕ) → newly ns (λ v. eqb v w) v ≡ false
     each v = elim (tested (eqb v w)) [
@@ -71,7 +72,7 @@ module _ {n x hi w : ℕ} {ns q : List ℕ} (room : Room n ns q hi) (wf : w < n)
   newly-other v e = rw e (and-false (eqb (getD ns v 0) fresh))
 
   -- the queue has a place for it
-  place-left : hi < n
+  pub place-left : hi < n
   place-left = omega (arith, room .room, fresh-less n w x ns wf (room .numbersLong) xf none)
 
   -- it gets the number and the place
@@ -103,9 +104,9 @@ module _ {n x hi w : ℕ} {ns q : List ℕ} (room : Room n ns q hi) (wf : w < n)
 -- one node is touched, fresh or not
 pub spread-touch : {n x hi w : ℕ} {ns q : List ℕ} → Room n ns q hi → w < n → x < fresh
     → Spread n x hi ns q (λ u. eqb u w) (set ns w (cond (eqb (getD ns w 0) fresh) x (getD ns w 0))) (set q hi w) (hi + cond (eqb (getD ns w 0) fresh) 1 0)
-spread-touch {hi = hi} {w = w} {ns = ns} room wf xf = elim (tested (eqb (getD ns w 0) fresh)) [
+spread-touch {hi = hi} {w = w} {ns = ns} {q = q} room wf xf = elim (tested (eqb (getD ns w 0) fresh)) [
   | inl e ↦ rw e (spread-one room wf xf (eqb-true (getD ns w 0) fresh e))
-  | inr e ↦ rw (e, set-getD ns w 0, add-zero hi) (spread-numbered w room (eqb-false (getD ns w 0) fresh e))
+  | inr e ↦ rw (e, set-getD ns w 0, add-zero hi) (spread-numbered w room (take-set-le hi q hi w (omega arith)) (length-set q hi w) (eqb-false (getD ns w 0) fresh e))
 ]
 
 -- one spread after another

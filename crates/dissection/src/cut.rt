@@ -117,13 +117,35 @@ pub(crate) fn divide(
     trial: &mut [u16],
     queue: &mut [u16],
     begins: &mut [u16],
+    irregular: bool,
 ) -> usize
     requires { ⌜ Regional (lent n (now starts) (now neighbours)) (now nodes) (now numbers) (now queue) × Only n [] (now trial) × (n ≤ length (now trial)) × (n < length (now begins)) × (at ≤ n) ⌝ }
     ensures { λ r. ⌜ Divided (lent n (now (starts .entry)) (now (neighbours .entry))) (now (nodes .entry)) at (now (numbers .exit)) (now (begins .exit)) r × Only n [] (now (trial .exit)) ⌝ }
 {
-    let last = search(n, starts, neighbours, nodes, numbers, trial, queue, begins);
+    let last = search(
+        n,
+        starts,
+        neighbours,
+        nodes,
+        numbers,
+        trial,
+        queue,
+        begins,
+        irregular,
+    );
     choose(n, starts, neighbours, nodes, last, numbers);
-    let count = label(n, starts, neighbours, nodes, at, numbers, queue, begins);
-    renumber(nodes, Change::PartNumbered(count as u16), numbers);
+    let count = label(
+        n,
+        starts,
+        neighbours,
+        nodes,
+        at,
+        numbers,
+        queue,
+        begins,
+        irregular,
+    );
+    let part = count as u16;
+    renumber(nodes, Change::PartNumbered(part), numbers);
     count
 }

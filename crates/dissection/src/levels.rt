@@ -15,6 +15,32 @@ ghost use Rattle.theory.specs.Checked.{Checked};
 ghost use Rattle.dissection.specs.Numbers.{fresh, freshOf, Within, Walked, Skipped, Taken, Labelled};
 ghost use Rattle.dissection.specs.Spread.{Spread, Room};
 
+// The longest list of a mesh whose pattern the processor learns (a path, a tree, a grid, a regular triangulation), and of one where it helps to touch
+// nodes without a branch; of longer lists nearly all entries are reached already.
+const LEARNT: usize = 6;
+
+const SHORT: usize = 16;
+
+// The greater of two numbers. O(1).
+fn greater(a: usize, b: usize) -> usize {
+    if a < b {
+        return b;
+    }
+    a
+}
+
+// Whether nothing predicts which entries of a list are fresh: a guess by the longest list, for speed alone, on which no promise rests. O(n).
+pub(crate) fn is_irregular(n: usize, starts: &[u32], neighbours: &[u16]) -> bool
+    requires { ⌜ Checked (lent n (now starts) (now neighbours)) ⌝ }
+{
+    let mut longest: usize = 0;
+    for v in 0..n {
+        let entries = list(starts, neighbours, v);
+        longest = greater(longest, entries.len());
+    }
+    LEARNT < longest && longest <= SHORT
+}
+
 // The number of a node that is touched: x where it was fresh, else its own. O(1).
 fn taken(old: u16, x: u16) -> u16
     ensures { λ r. ⌜ r ≡ cond (eqb old fresh) x old ⌝ }
@@ -35,10 +61,16 @@ fn places(old: u16) -> usize
     0
 }
 
-// One entry: node w gets number x and a place in the queue if it is fresh. The queue's new end is returned. Whether a node is fresh nothing predicts in
-// an irregular mesh, so nothing is jumped over: the place behind the queue's end is written either way, and only the end moves or stays. n is for the
-// contract alone. O(1).
-fn touch(n: usize, w: u16, x: u16, numbers: &mut [u16], queue: &mut [u16], tail: usize) -> usize
+// One entry, where nothing predicts whether a node is fresh: node w gets number x and a place in the queue if it is. Nothing is jumped over: the place
+// behind the queue's end is written either way, and only the end moves or stays. The queue's new end is returned. n is for the contract alone. O(1).
+fn touch_unpredicted(
+    n: usize,
+    w: u16,
+    x: u16,
+    numbers: &mut [u16],
+    queue: &mut [u16],
+    tail: usize,
+) -> usize
     requires { ⌜ (w < n) × (x < fresh) × Room n (now numbers) (now queue) tail ⌝ }
     ensures { λ r. ⌜ Spread n x tail (now (numbers .entry)) (now (queue .entry)) (λ v. eqb v w) (now (numbers .exit)) (now (queue .exit)) r ⌝ }
 {
@@ -47,6 +79,46 @@ fn touch(n: usize, w: u16, x: u16, numbers: &mut [u16], queue: &mut [u16], tail:
     queue[tail] = w;
     numbers[v] = taken(old, x);
     tail + places(old)
+}
+
+// The same where the processor predicts it. O(1).
+fn touch_predicted(
+    n: usize,
+    w: u16,
+    x: u16,
+    numbers: &mut [u16],
+    queue: &mut [u16],
+    tail: usize,
+) -> usize
+    requires { ⌜ (w < n) × (x < fresh) × Room n (now numbers) (now queue) tail ⌝ }
+    ensures { λ r. ⌜ Spread n x tail (now (numbers .entry)) (now (queue .entry)) (λ v. eqb v w) (now (numbers .exit)) (now (queue .exit)) r ⌝ }
+{
+    let v = wide(w);
+    if numbers[v] != FRESH {
+        return tail;
+    }
+    numbers[v] = x;
+    queue[tail] = w;
+    tail + 1
+}
+
+// One entry, in the way that suits the mesh. O(1).
+fn touch(
+    n: usize,
+    w: u16,
+    x: u16,
+    numbers: &mut [u16],
+    queue: &mut [u16],
+    tail: usize,
+    irregular: bool,
+) -> usize
+    requires { ⌜ (w < n) × (x < fresh) × Room n (now numbers) (now queue) tail ⌝ }
+    ensures { λ r. ⌜ Spread n x tail (now (numbers .entry)) (now (queue .entry)) (λ v. eqb v w) (now (numbers .exit)) (now (queue .exit)) r ⌝ }
+{
+    if irregular {
+        return touch_unpredicted(n, w, x, numbers, queue, tail);
+    }
+    touch_predicted(n, w, x, numbers, queue, tail)
 }
 
 // The list of node u: each entry is touched, and the queue's new end is returned. O(degree).
@@ -59,6 +131,7 @@ fn visit(
     numbers: &mut [u16],
     queue: &mut [u16],
     tail: usize,
+    irregular: bool,
 ) -> usize
     requires { ⌜ Checked (lent n (now starts) (now neighbours)) × (u < n) × (x < fresh) × Room n (now numbers) (now queue) tail ⌝ }
     ensures { λ r. ⌜ Spread n x tail (now (numbers .entry)) (now (queue .entry)) (adjacent (lent n (now (starts .entry)) (now (neighbours .entry))) u) (now (numbers .exit)) (now (queue .exit)) r ⌝ }
@@ -66,7 +139,7 @@ fn visit(
     let entries = list(starts, neighbours, u);
     let mut end = tail;
     for k in 0..entries.len() {
-        end = touch(n, entries[k], x, numbers, queue, end);
+        end = touch(n, entries[k], x, numbers, queue, end, irregular);
     }
     end
 }
@@ -82,6 +155,7 @@ fn advance(
     queue: &mut [u16],
     lo: usize,
     hi: usize,
+    irregular: bool,
 ) -> usize
     requires { ⌜ Checked (lent n (now starts) (now neighbours)) × (x < fresh) × (lo ≤ hi) × Room n (now numbers) (now queue) hi × ((k : ℕ) → k < hi → getD (now queue) k 0 < n) ⌝ }
     ensures { λ r. ⌜ Spread n x hi (now (numbers .entry)) (now (queue .entry)) (λ v. exists (λ u. adjacent (lent n (now (starts .entry)) (now (neighbours .entry))) u v) (segment (now (queue .entry)) lo hi)) (now (numbers .exit)) (now (queue .exit)) r ⌝ }
@@ -97,6 +171,7 @@ fn advance(
             numbers,
             queue,
             tail,
+            irregular,
         );
     }
     tail
@@ -116,6 +191,7 @@ pub(crate) fn walk(
     root: u16,
     numbers: &mut [u16],
     queue: &mut [u16],
+    irregular: bool,
 ) -> Reach
     requires { ⌜ Checked (lent n (now starts) (now neighbours)) × (root < n) × (getD (now numbers) root 0 ≡ fresh) × (n ≤ length (now numbers)) × (n < length (now queue)) ⌝ }
     ensures { λ r. ⌜ Walked n (adjacent (lent n (now (starts .entry)) (now (neighbours .entry)))) (freshOf n (now (numbers .entry))) root (now (numbers .entry)) (now (numbers .exit)) (now (queue .exit)) (r .last) (r .reached) ⌝ }
@@ -127,7 +203,17 @@ pub(crate) fn walk(
     let mut lo: usize = 0;
     let mut hi: usize = 1;
     loop {
-        let tail = advance(n, starts, neighbours, last + 1, numbers, queue, lo, hi);
+        let tail = advance(
+            n,
+            starts,
+            neighbours,
+            last + 1,
+            numbers,
+            queue,
+            lo,
+            hi,
+            irregular,
+        );
         if tail <= hi {
             break;
         }
@@ -149,6 +235,7 @@ fn component(
     queue: &mut [u16],
     begins: &mut [u16],
     count: usize,
+    irregular: bool,
 ) -> usize
     requires { ⌜ Checked (lent n (now starts) (now neighbours)) × (v < n) × (n ≤ length (now numbers)) × (n < length (now queue)) × (n < length (now begins)) ⌝ }
     requires { ⌜ (getD (now numbers) v 0 ≡ fresh → count < n) × (getD (now begins) count 0 ≤ n + n) ⌝ }
@@ -157,7 +244,7 @@ fn component(
     if numbers[wide(v)] != FRESH {
         return count;
     }
-    let r = walk(n, starts, neighbours, v, numbers, queue);
+    let r = walk(n, starts, neighbours, v, numbers, queue, irregular);
     let reached = r.reached;
     fill(&queue[0..reached], count as u16, numbers);
     begins[count + 1] = begins[count] + reached as u16;
@@ -176,6 +263,7 @@ pub(crate) fn label(
     numbers: &mut [u16],
     queue: &mut [u16],
     begins: &mut [u16],
+    irregular: bool,
 ) -> usize
     requires { ⌜ Checked (lent n (now starts) (now neighbours)) × Within n (now nodes) × ((v : ℕ) → isIn v (freshOf n (now numbers)) ≡ true → isIn v (now nodes) ≡ true) × ((v : ℕ) → isIn v (now nodes) ≡ true → n ≤ getD (now numbers) v 0) ⌝ }
     requires { ⌜ (at ≤ n) × (n ≤ length (now numbers)) × (n < length (now queue)) × (n < length (now begins)) ⌝ }
@@ -193,6 +281,7 @@ pub(crate) fn label(
             queue,
             begins,
             count,
+            irregular,
         );
     }
     count

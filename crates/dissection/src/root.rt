@@ -114,6 +114,7 @@ fn candidates(
     trial: &mut [u16],
     queue: &mut [u16],
     found: &mut [u16],
+    irregular: bool,
 ) -> usize
     requires { ⌜ Regional (lent n (now starts) (now neighbours)) (now nodes) (now trial) (now queue) × (n ≤ length (now levels)) × (n < length (now found)) ⌝ }
     requires { ⌜ Rooted (lent n (now starts) (now neighbours)) (now nodes) (root .node) (root .last) × Standing (lent n (now starts) (now neighbours)) (now nodes) (root .node) (now levels) ⌝ }
@@ -121,7 +122,17 @@ fn candidates(
 {
     transfer(nodes, levels, trial);
     renumber(nodes, Change::OnlyLevel(root.last), trial);
-    let count = label(n, starts, neighbours, nodes, 0, trial, queue, found);
+    let count = label(
+        n,
+        starts,
+        neighbours,
+        nodes,
+        0,
+        trial,
+        queue,
+        found,
+        irregular,
+    );
     least(n, starts, neighbours, nodes, trial, count, found);
     count
 }
@@ -136,12 +147,13 @@ fn levels_from(
     r: u16,
     numbers: &mut [u16],
     queue: &mut [u16],
+    irregular: bool,
 ) -> Root
     requires { ⌜ Regional (lent n (now starts) (now neighbours)) (now nodes) (now numbers) (now queue) × (isIn r (now nodes) ≡ true) ⌝ }
     ensures { λ x. ⌜ (x .node ≡ r) × Rooted (lent n (now (starts .entry)) (now (neighbours .entry))) (now (nodes .entry)) r (x .last) × Standing (lent n (now (starts .entry)) (now (neighbours .entry))) (now (nodes .entry)) r (now (numbers .exit)) ⌝ }
 {
     fill(nodes, FRESH, numbers);
-    let w = walk(n, starts, neighbours, r, numbers, queue);
+    let w = walk(n, starts, neighbours, r, numbers, queue, irregular);
     let last = w.last;
     Root { node: r, last }
 }
@@ -158,13 +170,23 @@ fn first_better(
     found: &[u16],
     numbers: &mut [u16],
     queue: &mut [u16],
+    irregular: bool,
 ) -> Root
     requires { ⌜ Regional (lent n (now starts) (now neighbours)) (now nodes) (now numbers) (now queue) × Rooted (lent n (now starts) (now neighbours)) (now nodes) (root .node) (root .last) ⌝ }
     requires { ⌜ (count ≤ length (now found)) × ((x : ℕ) → isIn x (take count (now found)) ≡ true → isIn x (now nodes) ≡ true) ⌝ }
     ensures { λ r. ⌜ (r .node ≡ headD (keep (improves (lent n (now (starts .entry)) (now (neighbours .entry))) (now (nodes .entry)) (root .node)) (take count (now (found .entry)))) (root .node)) × Better (lent n (now (starts .entry)) (now (neighbours .entry))) (now (nodes .entry)) (root .last) (r .node) (r .last) (now (numbers .exit)) ⌝ }
 {
     for c in 0..count {
-        let next = levels_from(n, starts, neighbours, nodes, found[c], numbers, queue);
+        let next = levels_from(
+            n,
+            starts,
+            neighbours,
+            nodes,
+            found[c],
+            numbers,
+            queue,
+            irregular,
+        );
         if next.last > root.last {
             return next;
         }
@@ -184,6 +206,7 @@ fn improve(
     trial: &mut [u16],
     queue: &mut [u16],
     found: &mut [u16],
+    irregular: bool,
 ) -> Root
     requires { ⌜ Regional (lent n (now starts) (now neighbours)) (now nodes) (now trial) (now queue) × (n ≤ length (now levels)) × (n < length (now found)) ⌝ }
     requires { ⌜ Rooted (lent n (now starts) (now neighbours)) (now nodes) (root .node) (root .last) × Standing (lent n (now starts) (now neighbours)) (now nodes) (root .node) (now levels) ⌝ }
@@ -199,6 +222,7 @@ fn improve(
         trial,
         queue,
         found,
+        irregular,
     );
     first_better(
         n,
@@ -210,6 +234,7 @@ fn improve(
         found,
         trial,
         queue,
+        irregular,
     )
 }
 
@@ -225,11 +250,21 @@ pub(crate) fn search(
     trial: &mut [u16],
     queue: &mut [u16],
     found: &mut [u16],
+    irregular: bool,
 ) -> u16
     requires { ⌜ Regional (lent n (now starts) (now neighbours)) (now nodes) (now numbers) (now queue) × Only n [] (now trial) × (n ≤ length (now trial)) × (n < length (now found)) ⌝ }
     ensures { λ r. ⌜ Rooted (lent n (now (starts .entry)) (now (neighbours .entry))) (now (nodes .entry)) (rootOf (lent n (now (starts .entry)) (now (neighbours .entry))) (now (nodes .entry))) r × Standing (lent n (now (starts .entry)) (now (neighbours .entry))) (now (nodes .entry)) (rootOf (lent n (now (starts .entry)) (now (neighbours .entry))) (now (nodes .entry))) (now (numbers .exit)) × Only n [] (now (trial .exit)) ⌝ }
 {
-    let mut root = levels_from(n, starts, neighbours, nodes, nodes[0], numbers, queue);
+    let mut root = levels_from(
+        n,
+        starts,
+        neighbours,
+        nodes,
+        nodes[0],
+        numbers,
+        queue,
+        irregular,
+    );
     loop {
         let next = improve(
             n,
@@ -241,6 +276,7 @@ pub(crate) fn search(
             trial,
             queue,
             found,
+            irregular,
         );
         if next.last <= root.last {
             break;

@@ -42,8 +42,8 @@ label-requires c κs =
       (s .pre .4, omega (arith, r .numbersLong, searched f .search .kept .1 .1 .1 .1 .0, f .choose .kept .1 .1 .1 .1 .1 .0), omega (arith, r .queueLong, searched f .search .kept .1 .1 .1 .1 .1 .1 .0), omega (arith, s .pre .3, searched f .search .kept .1 .1 .1 .1 .1 .1 .1 .0)),
     )
 
-cast-t29 : tie.Need-cast-t29
-cast-t29 c =
+cast-part : tie.Need-cast-part
+cast-part c =
     let f = c .before .before .before .before .before .before in
     let le = few f in
     let limit = start (searched (chosen f)) .pre .0 .checked .few in
@@ -72,7 +72,7 @@ divide-spec =
     (λ c κs. search needs)
     choose-requires
     label-requires
-    cast-t29
+    cast-part
     renumber-requires
     (λ c. search needs)
     (λ c. search needs)

@@ -15,11 +15,11 @@ use Rattle.dissection.proofs.levels.advance.Statement.{statement}
 use Rattle.dissection.proofs.levels.advance.Tie as tie
 
 abbrev Inv-loop : tie.InvT-loop
-Inv-loop n starts neighbours x numbers₀ queue₀ lo hi tail₀ k₀ numbers queue tail k =
+Inv-loop n starts neighbours x numbers₀ queue₀ lo hi irregular tail₀ k₀ numbers queue tail k =
     (lo ≤ k) × (k ≤ hi) × (hi ≤ n) × Spread n x hi numbers₀ queue₀ (λ v. exists (λ u. adjacent (lent n starts neighbours) u v) (segment queue₀ lo k)) numbers queue tail
 
 abbrev μ-loop : tie.MeasureT-loop
-μ-loop n starts neighbours x numbers₀ queue₀ lo hi tail₀ k₀ numbers queue tail k = hi - k
+μ-loop n starts neighbours x numbers₀ queue₀ lo hi irregular tail₀ k₀ numbers queue tail k = hi - k
 
 -- the mesh
 abbrev mesh : tie.Start Inv-loop μ-loop → Mesh

@@ -11,7 +11,7 @@ use Rattle.dissection.proofs.levels.label.Statement.{statement}
 use Rattle.dissection.proofs.levels.label.Tie as tie
 
 abbrev Inv-loop : tie.InvT-loop
-Inv-loop n starts neighbours nodes at numbers₀ queue₀ begins₀ count₀ i₀ i-end numbers queue begins count i =
+Inv-loop n starts neighbours nodes at numbers₀ queue₀ begins₀ irregular count₀ i₀ i-end numbers queue begins count i =
     (i-end ≡ length nodes)
     × (length numbers ≡ length numbers₀)
     × (length queue ≡ length queue₀)
@@ -19,7 +19,7 @@ Inv-loop n starts neighbours nodes at numbers₀ queue₀ begins₀ count₀ i�
     × Labelling n (adjacent (lent n starts neighbours)) nodes at numbers₀ i numbers begins count
 
 abbrev μ-loop : tie.MeasureT-loop
-μ-loop n starts neighbours nodes at numbers₀ queue₀ begins₀ count₀ i₀ i-end numbers queue begins count i = i-end - i
+μ-loop n starts neighbours nodes at numbers₀ queue₀ begins₀ irregular count₀ i₀ i-end numbers queue begins count i = i-end - i
 
 -- the start, seen from the loop
 abbrev start : tie.At-loop Inv-loop μ-loop → tie.Start Inv-loop μ-loop

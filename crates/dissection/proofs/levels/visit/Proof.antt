@@ -16,11 +16,11 @@ use Rattle.dissection.proofs.levels.visit.Statement.{statement}
 use Rattle.dissection.proofs.levels.visit.Tie as tie
 
 abbrev Inv-loop : tie.InvT-loop
-Inv-loop n starts neighbours u x numbers₀ queue₀ tail entries end₀ k₀ k-end numbers queue end k =
+Inv-loop n starts neighbours u x numbers₀ queue₀ tail irregular entries end₀ k₀ k-end numbers queue end k =
     Spread n x tail numbers₀ queue₀ (λ v. isIn v (take k entries)) numbers queue end
 
 abbrev μ-loop : tie.MeasureT-loop
-μ-loop n starts neighbours u x numbers₀ queue₀ tail entries end₀ k₀ k-end numbers queue end k = k-end - k
+μ-loop n starts neighbours u x numbers₀ queue₀ tail irregular entries end₀ k₀ k-end numbers queue end k = k-end - k
 
 -- the mesh
 abbrev mesh : tie.Start Inv-loop μ-loop → Mesh

@@ -14,11 +14,11 @@ use Rattle.dissection.proofs.levels.walk.Tie as tie
 
 -- The numbers before the loop differ from those before the walk at the root alone, which was fresh.
 abbrev Inv-loop : tie.InvT-loop
-Inv-loop n starts neighbours root numbers₀ queue₀ first last₀ lo₀ hi₀ numbers queue last lo hi =
+Inv-loop n starts neighbours root numbers₀ queue₀ irregular first last₀ lo₀ hi₀ numbers queue last lo hi =
     (length numbers ≡ length numbers₀) × (length queue ≡ length queue₀) × Walking n (adjacent (lent n starts neighbours)) root (set numbers₀ root fresh) last lo hi numbers queue
 
 abbrev μ-loop : tie.MeasureT-loop
-μ-loop n starts neighbours root numbers₀ queue₀ first last₀ lo₀ hi₀ numbers queue last lo hi = n - lo
+μ-loop n starts neighbours root numbers₀ queue₀ irregular first last₀ lo₀ hi₀ numbers queue last lo hi = n - lo
 
 -- the start, seen from the loop
 abbrev start : tie.At-loop Inv-loop μ-loop → tie.Start Inv-loop μ-loop

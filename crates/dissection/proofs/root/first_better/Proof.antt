@@ -19,12 +19,12 @@ use Rattle.dissection.proofs.root.first_better.Statement.{statement}
 use Rattle.dissection.proofs.root.first_better.Tie as tie
 
 abbrev Inv-loop : tie.InvT-loop
-Inv-loop n starts neighbours nodes root count found numbers₀ queue₀ c₀ numbers queue c =
+Inv-loop n starts neighbours nodes root count found numbers₀ queue₀ irregular c₀ numbers queue c =
     (c ≤ count) × (length numbers ≡ length numbers₀) × (length queue ≡ length queue₀) × Regional (lent n starts neighbours) nodes numbers queue
     × (keep (improves (lent n starts neighbours) nodes (root .node)) (take count found) ≡ keep (improves (lent n starts neighbours) nodes (root .node)) (drop c (take count found)))
 
 abbrev μ-loop : tie.MeasureT-loop
-μ-loop n starts neighbours nodes root count found numbers₀ queue₀ c₀ numbers queue c = count - c
+μ-loop n starts neighbours nodes root count found numbers₀ queue₀ irregular c₀ numbers queue c = count - c
 
 -- the mesh
 abbrev mesh : tie.Start Inv-loop μ-loop → Mesh

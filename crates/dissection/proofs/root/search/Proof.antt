@@ -26,12 +26,12 @@ record Searched (m : Mesh) (nodes numbers trial queue : List ℕ) (root last : �
   found : foundFrom m nodes root ≡ rootOf m nodes
 
 abbrev Inv-loop : tie.InvT-loop
-Inv-loop n starts neighbours nodes numbers₀ trial₀ queue₀ found₀ root₀ numbers trial queue found root =
+Inv-loop n starts neighbours nodes numbers₀ trial₀ queue₀ found₀ irregular root₀ numbers trial queue found root =
     (length numbers ≡ length numbers₀) × (length trial ≡ length trial₀) × (length queue ≡ length queue₀) × (length found ≡ length found₀)
     × Searched (lent n starts neighbours) nodes numbers trial queue (root .node) (root .last)
 
 abbrev μ-loop : tie.MeasureT-loop
-μ-loop n starts neighbours nodes numbers₀ trial₀ queue₀ found₀ root₀ numbers trial queue found root = length nodes - root .last
+μ-loop n starts neighbours nodes numbers₀ trial₀ queue₀ found₀ irregular root₀ numbers trial queue found root = length nodes - root .last
 
 -- the mesh
 abbrev mesh : tie.Start Inv-loop μ-loop → Mesh

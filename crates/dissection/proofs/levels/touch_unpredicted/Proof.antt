@@ -1,11 +1,11 @@
--- `dissection::levels::touch` meets its contract: by the laws of `Spread`.
+-- `dissection::levels::touch_unpredicted` meets its contract: by the laws of `Spread`.
 use native.Mathlib.Omega.{arith}
 use borrow.Author.Needs.{needs}
 use Rattle.dissection.proofs.Spreads.{spread-touch}
-use Rattle.dissection.proofs.levels.touch.Statement.{statement}
-use Rattle.dissection.proofs.levels.touch.Tie as tie
-use Rattle.dissection.proofs.levels.touch.Reads as reads
-use Rattle.dissection.proofs.levels.touch.Lts as lts
+use Rattle.dissection.proofs.levels.touch_unpredicted.Statement.{statement}
+use Rattle.dissection.proofs.levels.touch_unpredicted.Tie as tie
+use Rattle.dissection.proofs.levels.touch_unpredicted.Reads as reads
+use Rattle.dissection.proofs.levels.touch_unpredicted.Lts as lts
 use Rattle.dissection.proofs.levels.places.Reads as places-reads
 use Rattle.dissection.proofs.levels.taken.Reads as taken-reads
 use Rattle.mesh.proofs.wide.Reads as wide-reads
@@ -66,8 +66,8 @@ returns c =
     let s = c .before .before .before .before .before .before in
     rw (c .places .ensures .0, c .before .taken .ensures, c .before .before .before .wide .ensures) (spread-touch (s .pre .2) (s .pre .0) (s .pre .1))
 
-pub touch-spec : {M : Type 1} → statement M
-touch-spec =
+pub touch-unpredicted-spec : {M : Type 1} → statement M
+touch-unpredicted-spec =
     tie.close
     (tie.spec
     wide-requires
