@@ -15,10 +15,9 @@ ghost use Rattle.theory.specs.Checked.{Checked};
 ghost use Rattle.dissection.specs.Numbers.{fresh, freshOf, Within, Walked, Skipped, Taken, Labelled};
 ghost use Rattle.dissection.specs.Spread.{Spread, Room};
 
-// The longest list of a mesh whose pattern the processor learns (a path, a tree, a grid, a regular triangulation), and of one where it helps to touch
-// nodes without a branch; of longer lists nearly all entries are reached already.
-const LEARNT: usize = 6;
-
+// A mesh with no longer list is a path, a tree, a grid or a regular triangulation, as a rule: the processor learns which entries are fresh.
+const REGULAR: usize = 6;
+// Of longer lists nearly all entries are reached already, and the processor learns that.
 const SHORT: usize = 16;
 
 // The greater of two numbers. O(1).
@@ -38,7 +37,7 @@ pub(crate) fn is_irregular(n: usize, starts: &[u32], neighbours: &[u16]) -> bool
         let entries = list(starts, neighbours, v);
         longest = greater(longest, entries.len());
     }
-    LEARNT < longest && longest <= SHORT
+    REGULAR < longest && longest <= SHORT
 }
 
 // The number of a node that is touched: x where it was fresh, else its own. O(1).
