@@ -18,7 +18,7 @@ ghost use Rattle.dissection.specs.Spread.{Spread, Room};
 // A mesh with no longer list is a path, a tree, a grid or a regular triangulation, as a rule: the processor learns which entries are fresh.
 const REGULAR: usize = 6;
 // Of longer lists nearly all entries are reached already, and the processor learns that.
-const SHORT: usize = 16;
+const SHORT: usize = 15;
 
 // The greater of two numbers. O(1).
 fn greater(a: usize, b: usize) -> usize {
