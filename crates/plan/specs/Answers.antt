@@ -7,6 +7,8 @@ use Rattle.plan.specs.declared.WriteAnswer.{WriteAnswer}
 use Rattle.plan.specs.declared.WriteAnswer.the-variants as write
 use Rattle.plan.specs.declared.PairAnswer.{PairAnswer}
 use Rattle.plan.specs.declared.PairAnswer.the-variants as pair
+use Rattle.plan.specs.declared.MeshAnswer.{MeshAnswer}
+use Rattle.plan.specs.declared.MeshAnswer.the-variants as mesh
 
 -- An answer in document 01's terms: the number of the refusal, 0 for none, and the values where nothing is refused.
 pub record Reply : Type 0 where
@@ -45,3 +47,8 @@ pairReply (pair.Slot s) = accepted (slotCase ∷ s ∷ [])
 pairReply pair.Diagonal = accepted (diagonalCase ∷ [])
 pairReply pair.NoSlot = accepted (noSlotCase ∷ [])
 pairReply (pair.Refused k) = refused k
+
+-- reading a text: nodes and entries
+abbrev pub meshReply : MeshAnswer → Reply
+meshReply (mesh.Accepted m) = accepted (m .nodes ∷ m .entries ∷ [])
+meshReply (mesh.Refused k) = refused k

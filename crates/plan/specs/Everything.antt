@@ -18,7 +18,8 @@ use Rattle.plan.specs.Writing.{badSupply, used, suppliedChecks, outputTo
 use Rattle.plan.specs.RoundTrips.{handed}
 use Rattle.plan.specs.Questions.{badLayout, layoutChecks, positionOutside, positionChecks, questionChecks, slotOf, pairFound, pairQuestion, columnRefusal, spanFound, columnSpan, columnRows}
 use Rattle.plan.specs.Listing.{neighboursAt, entryCount, inputMesh, badInput, listingChecks, decimalUpTo, decimal, spaced, headLine, positionLine, refusalLine, print, listing}
+use Rattle.plan.specs.MatrixMarket.{linesOf, wordsOf, wordLines, banner, isBanner, isNumber, holdsNumbers, content, sizeLine, pairLines, pairsOf, badText, badMatrix, repeatedPair, areNeighbours, listsOf, meshOf, textMesh, meshCapacity, meshBuffersTooShort, madeChecks, textChecks, handMesh, readingText, fillMesh}
 
 unfoldable pub everything : ℕ
-unfolding headD getLastD flatten listAt eachOnce firstFault familyOf neighboursOf adjacent badNodeCount badStarts badMeshStarts tooManyEntries neighbourOutside listsItself notAscending oneSided meshChecks nextLevel addLevel levelsBack levels eccentricity component componentsUpTo components degreeIn lesser leastFrom leastDegree candidates improves nextRoot rootFrom rootOf staysWhole cutLevel separator numbering standard choosePart georgeLiu dissect dissection parts parentsFrom parents order sizes positions pendingBelow begin stepWith step steps byNumber tabulate initial remaining eliminate joinsAfter column columns startsOf multiplications partOf parentOf ancestorsUpTo ancestors atOrAbove nodesWhere regionOfPart boundary boundarySize partBound bound isPath allEarlier hasSlot rowCounts planBy planOf capacity buffersTooShort rowsTooShort planChecks handOut planning fill Demand3Of encode16 encode32 encode16s decode16 decode32 decode16s lengthAt fileLength encodeParts encodeContents encode parseAt parse badHeader badOrder mayBeParent badParts badColumn badColumns badRows outsideAncestors notNested covered notCovered contentsChecks tooFewBytes badMagic badVersion badLength headerChecks readChecks reading badSupply used suppliedChecks outputTooShort writeChecks writeOut writing handed badLayout layoutChecks positionOutside positionChecks questionChecks slotOf pairFound pairQuestion columnRefusal spanFound columnSpan columnRows neighboursAt entryCount inputMesh badInput listingChecks decimalUpTo decimal spaced headLine positionLine refusalLine print listing
+unfolding headD getLastD flatten listAt eachOnce firstFault familyOf neighboursOf adjacent badNodeCount badStarts badMeshStarts tooManyEntries neighbourOutside listsItself notAscending oneSided meshChecks nextLevel addLevel levelsBack levels eccentricity component componentsUpTo components degreeIn lesser leastFrom leastDegree candidates improves nextRoot rootFrom rootOf staysWhole cutLevel separator numbering standard choosePart georgeLiu dissect dissection parts parentsFrom parents order sizes positions pendingBelow begin stepWith step steps byNumber tabulate initial remaining eliminate joinsAfter column columns startsOf multiplications partOf parentOf ancestorsUpTo ancestors atOrAbove nodesWhere regionOfPart boundary boundarySize partBound bound isPath allEarlier hasSlot rowCounts planBy planOf capacity buffersTooShort rowsTooShort planChecks handOut planning fill Demand3Of encode16 encode32 encode16s decode16 decode32 decode16s lengthAt fileLength encodeParts encodeContents encode parseAt parse badHeader badOrder mayBeParent badParts badColumn badColumns badRows outsideAncestors notNested covered notCovered contentsChecks tooFewBytes badMagic badVersion badLength headerChecks readChecks reading badSupply used suppliedChecks outputTooShort writeChecks writeOut writing handed badLayout layoutChecks positionOutside positionChecks questionChecks slotOf pairFound pairQuestion columnRefusal spanFound columnSpan columnRows neighboursAt entryCount inputMesh badInput listingChecks decimalUpTo decimal spaced headLine positionLine refusalLine print listing linesOf wordsOf wordLines banner isBanner isNumber holdsNumbers content sizeLine pairLines pairsOf badText badMatrix repeatedPair areNeighbours listsOf meshOf textMesh meshCapacity meshBuffersTooShort madeChecks textChecks handMesh readingText fillMesh
 everything = 0

@@ -17,5 +17,8 @@ pub mod RoundTrips
 pub mod Questions
 pub mod Listing
 pub mod Enough
+pub mod MatrixMarket
+pub mod AcceptedTexts
 pub mod Everything
 pub mod Starred
+pub mod WorkedTexts

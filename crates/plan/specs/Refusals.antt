@@ -21,7 +21,8 @@ firstFault (c ∷ cs) =
 abbrev pub within : ℕ → ℕ → ℕ → Bool
 within a b k = leb a k && leb k b
 
--- "A number's family is told by its range: mesh 1 to 9, file 10 to 19, program 20, question 21 and 22, else none."
+-- "A number's family is told by its range: mesh 1 to 9, file 10 to 19, program 20, question 21 and 22, else none." Of document 02's numbers:
+-- "their family none".
 unfoldable pub familyOf : ℕ → RefusalFamily
 familyOf k =
     cond (within 1 9 k) Mesh

@@ -71,6 +71,18 @@ pub enum PairAnswer {
     Refused(u32),
 }
 
+// A mesh by its counts. Its starts and neighbours stand in the lent buffers.
+pub struct MeshCounts {
+    pub nodes: u32,
+    pub entries: u32,
+}
+
+// The answer of reading a text: the mesh that it holds, or a refusal.
+pub enum MeshAnswer {
+    Accepted(MeshCounts),
+    Refused(u32),
+}
+
 // A span of the rows buffer (document 01: stretch), the answer to the question about a column: where it starts, and how many rows it has.
 pub struct Span {
     pub start: usize,

@@ -73,6 +73,9 @@ cond-false false x y h = refl
 pub eqb-same : (a : ℕ) → eqb a a ≡ true
 eqb-same a = eq-eqb a a refl
 
+pub eqb-comm : (a b : ℕ) → eqb a b ≡ eqb b a
+eqb-comm a b = iff-eq _ _ (λ h. eq-eqb b a (sym (eqb-true a b h))) (λ h. eq-eqb a b (sym (eqb-true b a h)))
+
 pub not-eqb : (a b : ℕ) → not (eqb a b) ≡ true → a ≢ b
 not-eqb a b h = eqb-false a b (not-true (eqb a b) h)
 

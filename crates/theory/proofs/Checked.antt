@@ -69,7 +69,7 @@ mesh-starts m h =
     (good-starts (m .nodes) (m .starts) (or-false-left bad _ h), eqb-true _ _ (not-false ends (or-false-right bad _ h)))
 
 -- past the nodes the lists are empty
-list-out : (m : Mesh) (v : ℕ) → length (m .starts) ≡ m .nodes + 1 → m .nodes ≤ v → neighboursOf m v ≡ []
+pub list-out : (m : Mesh) (v : ℕ) → length (m .starts) ≡ m .nodes + 1 → m .nodes ≤ v → neighboursOf m v ≡ []
 unfolding neighboursOf listAt
 list-out m v full le =
     let none : getD (m .starts) (v + 1) 0 ≡ 0 = List·getD-eq-default (m .starts) 0 (omega (arith, full)) in

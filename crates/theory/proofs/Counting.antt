@@ -117,7 +117,7 @@ unit-mono true b f = omega (arith, ap unit (f refl))
 unit-mono false b f = omega arith
 
 -- no more pass a stricter test
-count-mono : (p q : ℕ → Bool) (l : List ℕ) → ((x : ℕ) → p x ≡ true → q x ≡ true) → count p l ≤ count q l
+pub count-mono : (p q : ℕ → Bool) (l : List ℕ) → ((x : ℕ) → p x ≡ true → q x ≡ true) → count p l ≤ count q l
 count-mono p q [] h = omega arith
 count-mono p q (y ∷ l) h = omega (arith, count-cons p y l, count-cons q y l, unit-mono (p y) (q y) (h y), count-mono p q l h)
 

@@ -50,4 +50,10 @@ pub mod RoundTrips
 pub mod Steps
 pub mod StepStates
 pub mod Decimal
+pub mod MadeMesh
+pub mod TextMesh
+pub mod AnyLists
+pub mod TextRepeats
+pub mod TextEntries
+pub mod TextOrder
 pub mod Promises

@@ -5,3 +5,4 @@ pub mod Rows
 pub mod PartTree
 pub mod Sensible
 pub mod Balanced
+pub mod Keys
