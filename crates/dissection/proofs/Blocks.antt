@@ -10,11 +10,12 @@ use lib.ListN.{length, take, drop, set, getD, replicate, length-append, length-d
 use lib.Seq.{take-at, drop-at, take-add, drop-drop, getD-take, getD-drop, getD-set-same, getD-set-other, ext-getD, length-take-le, take-append-le, take-length}
 use Rattle.plan.specs.Lists.{isIn, total, indexOf}
 use Rattle.theory.specs.Regions.{All}
+use Rattle.theory.specs.Places.{beginOf}
 use Rattle.theory.proofs.Bools.{refuted, cond-true, cond-false}
 use Rattle.theory.proofs.Lists.{isIn-getD, indexOf-lt, getD-indexOf}
 use Rattle.theory.proofs.Flatten.{flatten-nil, flatten-cons}
 use Rattle.theory.proofs.Compressed.{total-lengths}
-use Rattle.dissection.specs.Numbers.{Renumbered, beginOf, Begins}
+use Rattle.dissection.specs.Numbers.{Renumbered, Begins}
 use Rattle.dissection.specs.Blocks.{inner, headsOf}
 
 -- ---- segments of a list

@@ -13,6 +13,7 @@ use borrow.Author.Tests.{eqb-true, eqb-false, eq-eqb}
 use Rattle.plan.specs.Lists.{keep, isIn, without, ascending}
 use Rattle.plan.specs.Levels.{Graph, component, components}
 use Rattle.theory.specs.Regions.{stay}
+use Rattle.theory.specs.Places.{beginOf}
 use Rattle.theory.proofs.Bools.{or-cases, or-false-left, or-false-right, tested, clash, refuted, iff-eq, lt-or-le}
 use Rattle.theory.proofs.Lists.{isIn-append, isIn-getD, isIn-none, exists-more, in-keep, of-keep, drop-first}
 use Rattle.theory.proofs.Flatten.{flatten-more, of-flatten}
@@ -22,7 +23,7 @@ use Rattle.theory.proofs.Counting.{same-length}
 use Rattle.theory.proofs.Compressed.{lengths-more, lengths-within}
 use Rattle.theory.proofs.LevelSets.{levels-cover}
 use Rattle.theory.proofs.Components.{of-component, components-count, components-none, components-next, in-components, component-inside, components-few, walk-component, components-ascending}
-use Rattle.dissection.specs.Numbers.{fresh, freshOf, Within, Only, Renumbered, grouped, beginOf, Walked, Skipped, Taken, Labelled}
+use Rattle.dissection.specs.Numbers.{fresh, freshOf, Within, Only, Renumbered, grouped, Walked, Skipped, Taken, Labelled}
 use Rattle.dissection.proofs.Fresh.{not-fresh, in-fresh, of-fresh, fresh-few, fresh-without}
 use Rattle.dissection.proofs.Renumbering.{renumbered-in, renumbered-out}
 use Rattle.dissection.proofs.Grouped.{hasNumber, grouped-length, group-at}

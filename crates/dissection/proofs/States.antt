@@ -22,6 +22,7 @@ use Rattle.plan.specs.Planning.{dissectionOf}
 use Rattle.theory.specs.Regions.{All, Region}
 use Rattle.theory.specs.Checked.{Checked}
 use Rattle.theory.specs.Balanced.{regionsOf, parentsOf, ParentBefore, Balanced}
+use Rattle.theory.specs.Places.{beginOf}
 use Rattle.theory.proofs.Bools.{tested, cond-true, cond-false, refuted, eq-or-ne, lt-or-le}
 use Rattle.theory.proofs.Lists.{keep-all, keep-ext, isIn-head, isIn-getD, isIn-append-cases, of-keep, getD-reverse}
 use Rattle.theory.proofs.Ranges.{length-upFrom, length-map-upFrom}
@@ -36,7 +37,7 @@ use Rattle.theory.proofs.Steps.{state, steps-done, steps-add, steps-agree}
 use Rattle.theory.proofs.StepStates.{balanced-steps, balanced-few, balanced-inside}
 use Rattle.mesh.specs.Lists.{filledWith}
 use Rattle.mesh.proofs.Lists.{filled-length, filled-at}
-use Rattle.dissection.specs.Numbers.{fresh, outside, freshOf, Only, Renumbered, grouped, beginOf, Begins, Labelled}
+use Rattle.dissection.specs.Numbers.{fresh, outside, freshOf, Only, Renumbered, grouped, Begins, Labelled}
 use Rattle.dissection.specs.Standing.{Divided}
 use Rattle.dissection.specs.Blocks.{inner, headsOf, stateAfter, Holds, Dissected}
 use Rattle.dissection.proofs.Blocks.{segment-of, segment-other, headed-heads, marked-headed, heads-append, heads-long, heads-first, begin-end, begin-front, begin-before, Firsts, firsts, Block, heads-block, heads-divided}

@@ -5,8 +5,9 @@ use mathlib.Core.List.{List, [], map, flatten}
 use Prim.Native.Nat.{ℕ, _+_, _≤_, _<_}
 use lib.Dec.{eqb}
 use lib.ListN.{length, take, getD, set}
-use Rattle.plan.specs.Lists.{keep, below, isIn, ascending, total}
+use Rattle.plan.specs.Lists.{keep, below, isIn, ascending}
 use Rattle.plan.specs.Levels.{Graph, levels, component, components}
+use Rattle.theory.specs.Places.{beginOf}
 
 -- the number of a node that is in the set at hand and was not reached yet
 abbrev pub fresh : ℕ
@@ -45,10 +46,6 @@ Renumbered f nodes old new = NumberedBy (λ v. f (getD old v 0)) nodes old new
 -- nodes by their numbers: those with number 0, those with number 1, .., `count` lists in all, each in the order of the nodes
 abbrev pub grouped : ℕ → List ℕ → List ℕ → List (List ℕ)
 grouped count numbers nodes = map (λ c. keep (λ v. eqb (getD numbers v 0) c) nodes) (below count)
-
--- the place where list c begins, of lists that stand one after the other from place `at`; behind the last one, the place where they end
-abbrev pub beginOf : ℕ → List (List ℕ) → ℕ → ℕ
-beginOf at lists c = at + total (map length (take c lists))
 
 -- the places where lists begin, and the place where the last one ends
 abbrev pub Begins : ℕ → List (List ℕ) → List ℕ → Type 0

@@ -13,6 +13,7 @@ pub mod Refusals
 pub mod Checked
 pub mod Orders
 pub mod Compressed
+pub mod Places
 pub mod ColumnRule
 pub mod Coding
 pub mod FileFields

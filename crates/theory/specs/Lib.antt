@@ -6,3 +6,4 @@ pub mod PartTree
 pub mod Sensible
 pub mod Balanced
 pub mod Keys
+pub mod Places
