@@ -1,0 +1,4 @@
+pub mod Cuts
+pub mod Words
+pub mod Suffixes
+pub mod Numbers
