@@ -1,0 +1,9 @@
+pub mod Keys
+pub mod Joining
+pub mod Filling
+pub mod FirstKeys
+pub mod Words
+pub mod Heads
+pub mod Runs
+pub mod Blocks
+pub mod Reading

@@ -1,0 +1,317 @@
+-- `read` meets its contract.
+use mathlib.Core.Path.{_≡_, refl, sym, ap, ap₂, _∙_}
+use mathlib.Core.Bool.{Bool, true, false}
+use mathlib.Core.List.{List, map, flatten}
+use Prim.Native.Nat.{ℕ, _*_, _≤_, _<_}
+use native.Mathlib.Omega.{arith}
+use lib.ListN.{length, take, length-map, length-take}
+use lib.Seq.{take-all, length-take-le}
+use borrow.Author.Needs.{needs}
+use borrow.Author.Tests.{not-true, not-false}
+use Rattle.plan.specs.declared.MeshAnswer.the-variants.{Refused}
+use Rattle.plan.specs.Lists.{every, exists, keep, written}
+use Rattle.plan.specs.Refusals.{firstFault}
+use Rattle.plan.specs.Mesh.{Mesh, maxEntries}
+use Rattle.plan.specs.MatrixMarket.{Line, maxNumber, holdsNumbers, rowCount, columnCount, statedPairs, pairLines, pairOf, pairsOf, badText, badPair, badMatrix, givenAgain, repeatedPair, listsOf, meshOf, textMesh, MeshBuffers, meshBuffers, meshCapacity, textChecks, TextRead}
+use Rattle.plan.specs.AcceptedTexts.{offDiagonal}
+use Rattle.theory.specs.Keys.{pairOfKey}
+use Rattle.theory.proofs.TextMesh.{TextPassed, text-passed}
+use Rattle.theory.proofs.TextEntries.{entries-by-pairs}
+use Rattle.theory.proofs.Written.{front-written}
+use Rattle.sorting.specs.Sorted.{sorted}
+use Rattle.lexer.specs.Suffixes.{linesAt}
+use Rattle.matrix_market.specs.declared.pairs.Tally.{Tally}
+use Rattle.matrix_market.specs.Lines.{pairsIn, keysIn, tallyOf}
+use Rattle.matrix_market.proofs.Runs.{links-few, keys-long}
+use Rattle.matrix_market.proofs.Reading.{kind-head, kind-lines, kind-count, kind-good, not-square, pair-bad, matrix-good, fault-23, fault-24, fault-25, fault-made, refused-read, accepted-read, text-nodes, text-starts, text-neighbours, text-entries, text-pairs, keys-ascend, keys-good, keys-mesh}
+use Rattle.matrix_market.proofs.read.Statement.{statement}
+use Rattle.matrix_market.proofs.read.Tie as tie
+
+-- ---- the head
+
+abbrev start : tie.After-read-head → tie.Start
+start c = c .before .before .before .before
+
+abbrev text : tie.After-read-head → List ℕ
+text c = start c .args .text .now
+
+abbrev found : tie.After-read-head → MeshBuffers
+found c = meshBuffers (start c .args .starts .now) (start c .args .neighbours .now)
+
+-- a refusal, with the buffers as they were
+refused : (c : tie.After-read-head) (k : ℕ) → 0 < k → firstFault (textChecks (text c) (meshCapacity (found c))) ≡ k → TextRead (text c) (Refused k) (found c) (found c)
+refused c k some h = refused-read (text c) (found c) k some h
+
+returns : tie.Need-returns
+returns c =
+    let h = c .before .before in
+    refused h 23 (omega arith) (fault-23 (text h) _ (kind-head (text h) (h .read-head .result) (h .read-head .ensures) (not-true _ (c .if1 .taken))))
+
+sized : (c : tie.Else1) → c .before .before .read-head .result .good ≡ true
+sized c = not-false _ (c .if1 .left)
+
+-- ---- the lines of the pairs
+
+abbrev sizedAt : tie.After-survey → tie.Else1
+sizedAt c = c .before .before .before
+
+abbrev head : tie.After-survey → tie.After-read-head
+head c = sizedAt c .before .before
+
+abbrev lines : tie.After-survey → List Line
+lines c = linesAt (text (head c)) (head c .read-head .result .next)
+
+lines-pairs : (c : tie.After-survey) → lines c ≡ pairLines (text (head c))
+lines-pairs c = head c .read-head .ensures .lines (sized (sizedAt c))
+
+returns-2 : tie.Need-returns-2
+returns-2 c =
+    let v = c .before .before .before in
+    let h = head v in
+    refused h 23 (omega arith) (fault-23 (text h) _
+    (kind-lines (text h) (ap (every (holdsNumbers 2)) (sym (lines-pairs v)) ∙ sym (v .survey .ensures .good) ∙ not-true _ (c .if2 .taken))))
+
+abbrev surveyed : tie.Else2 → tie.After-survey
+surveyed c = c .before .before .before
+
+told : (c : tie.Else2) → let v = surveyed c in v .survey .result ≡ tallyOf (head v .read-head .result .rows) (lines v)
+told c = surveyed c .survey .ensures .told (not-false _ (c .if2 .left))
+
+counted : (c : tie.Else2) → surveyed c .survey .result .pairs ≡ length (pairLines (text (head (surveyed c))))
+counted c = ap (λ (t : Tally). t .pairs) (told c) ∙ ap length (lines-pairs (surveyed c))
+
+stated : (c : tie.Else2) → let h = head (surveyed c) in (h .read-head .result .pairs ≡ statedPairs (text h)) × (h .read-head .result .pairs ≤ maxNumber)
+stated c = head (surveyed c) .read-head .ensures .pairs (sized (sizedAt (surveyed c)))
+
+returns-3 : tie.Need-returns-3
+returns-3 c =
+    let d = c .before .before in
+    let h = head (surveyed d) in
+    refused h 23 (omega arith) (fault-23 (text h) _ (kind-count (text h) (λ e. c .if3 .taken (counted d ∙ e ∙ sym (stated d .0)))))
+
+-- ---- 23 found no fault
+
+abbrev counting : tie.Else3 → tie.Else2
+counting c = c .before .before
+
+abbrev whole : tie.Else3 → tie.After-read-head
+whole c = head (surveyed (counting c))
+
+good : (c : tie.Else3) → every (holdsNumbers 2) (lines (surveyed (counting c))) ≡ true
+good c = let d = counting c in sym (surveyed d .survey .ensures .good) ∙ not-false _ (d .if2 .left)
+
+kind : (c : tie.Else3) → badText (text (whole c)) ≡ false
+kind c =
+    let d = counting c in
+    let h = whole c in
+    kind-good (text h) (h .read-head .result) (h .read-head .ensures) (sized (sizedAt (surveyed d)))
+    (ap (every (holdsNumbers 2)) (sym (lines-pairs (surveyed d))) ∙ good c) (sym (counted d) ∙ c .if3 .left ∙ stated d .0)
+
+rows : (c : tie.Else3) → (whole c .read-head .result .rows ≡ rowCount (text (whole c))) × (whole c .read-head .result .rows ≤ maxNumber)
+rows c = whole c .read-head .ensures .rows (sized (sizedAt (surveyed (counting c))))
+
+columns : (c : tie.Else3) → whole c .read-head .result .columns ≡ columnCount (text (whole c))
+columns c = whole c .read-head .ensures .columns (sized (sizedAt (surveyed (counting c))))
+
+returns-4 : tie.Need-returns-4
+returns-4 c =
+    let d = c .before .before in
+    let h = whole d in
+    refused h 24 (omega arith) (fault-24 (text h) _ (kind d) (not-square (text h) (λ e. c .if4 .taken (rows d .0 ∙ e ∙ sym (columns d)))))
+
+-- whether a pair is bad
+pairs-bad : (c : tie.Else3) → surveyed (counting c) .survey .result .bad ≡ exists (badPair (rowCount (text (whole c)))) (pairsOf (text (whole c)))
+unfolding pairsOf
+pairs-bad c =
+    ap (λ (t : Tally). t .bad) (told (counting c))
+    ∙ ap₂ (λ (n : ℕ) (l : List Line). exists (badPair n) (pairsIn l)) (rows c .0) (lines-pairs (surveyed (counting c)))
+
+returns-5 : tie.Need-returns-5
+returns-5 c =
+    let d = c .before .before .before in
+    let h = whole d in
+    refused h 24 (omega arith) (fault-24 (text h) _ (kind d) (pair-bad (text h) (sym (pairs-bad d) ∙ c .if5 .taken)))
+
+-- ---- 24 found none
+
+abbrev square : tie.Else5 → tie.Else3
+square c = c .before .before .before
+
+matrix : (c : tie.Else5) → badMatrix (text (whole (square c))) ≡ false
+matrix c =
+    let d = square c in
+    matrix-good (text (whole d)) (sym (rows d .0) ∙ c .before .if4 .left ∙ columns d) (sym (pairs-bad d) ∙ c .if5 .left)
+
+-- the keys' buffer holds a block
+block-long : (c : tie.After-survey) → length (c .survey .last .1 .1 .1 .0) ≡ 36864
+block-long c = c .survey .ensures .long ∙ c .before .before .no-keys .ensures
+
+-- the number of pairs is one of 32 bits, and so is that of links
+pairs-small : (c : tie.Else3) → surveyed (counting c) .survey .result .pairs ≤ maxNumber
+pairs-small c = omega (arith, c .if3 .left, stated (counting c) .1)
+
+links-small : (c : tie.Else3) → surveyed (counting c) .survey .result .links ≤ maxNumber
+links-small c =
+    let d = counting c in
+    let v = surveyed d in
+    omega (arith, pairs-small c, ap (λ (t : Tally). t .pairs) (told d), ap (λ (t : Tally). t .links) (told d), links-few (lines v))
+
+-- the keys that the search for a repeat begins with
+first-block : (c : tie.Else3) → let v = surveyed (counting c) in
+    v .survey .result .pairs ≤ length (v .survey .last .1 .1 .1 .0) → take (v .survey .result .pairs) (v .survey .last .1 .1 .1 .0) ≡ keysIn (lines v)
+first-block c le =
+    let d = counting c in
+    let v = surveyed d in
+    let left = v .survey .last .1 .1 .1 .0 in
+    let keys = v .survey .ensures .keys (not-false _ (d .if2 .left)) in
+    let many : length (keysIn (lines v)) ≡ v .survey .result .pairs = keys-long (lines v) ∙ sym (ap (λ (t : Tally). t .pairs) (told d)) in
+    let blank = v .before .before .no-keys .result in
+    let all = take-all (length blank) (keysIn (lines v)) (omega (arith, le, many, v .survey .ensures .long)) in
+    front-written (v .survey .result .pairs) (keysIn (lines v)) blank left (keys ∙ ap (λ (l : List ℕ). written l blank) all) many
+
+repeated-requires : tie.Need-repeated-requires
+repeated-requires c κs =
+    let e = c .before in
+    let d = square e in
+    let v = surveyed (counting d) in (
+      (head v .read-head .ensures .within (sized (sizedAt v)), omega (arith, block-long v), rows d .1, pairs-small d),
+      (
+        (good d, sym (ap (λ (t : Tally). t .bad) (told (counting d))) ∙ e .if5 .left, ap (λ (t : Tally). t .pairs) (told (counting d))),
+        first-block d,
+      ),
+    )
+
+again : (c : tie.After-repeated) → let h = whole (square (c .before .before)) in c .repeated .result ≡ repeatedPair (text h)
+unfolding repeatedPair pairsOf
+again c = c .repeated .ensures .0 .0 ∙ ap (λ (l : List Line). givenAgain (pairsIn l)) (lines-pairs (surveyed (counting (square (c .before .before)))))
+
+returns-6 : tie.Need-returns-6
+returns-6 c =
+    let r = c .before .before in
+    let e = r .before .before in
+    let d = square e in
+    let h = whole d in
+    refused h 25 (omega arith) (fault-25 (text h) _ (kind d) (matrix e) (sym (again r) ∙ c .if6 .taken))
+
+-- ---- 25 found none
+
+abbrev searched : tie.Else6 → tie.Else5
+searched c = c .before .before .before .before
+
+abbrev once : tie.Else6 → tie.After-read-head
+once c = whole (square (searched c))
+
+entries : (c : tie.Else6) → length (textMesh (text (once c)) .neighbours) ≡ 2 * surveyed (counting (square (searched c))) .survey .result .links
+unfolding pairsOf
+entries c =
+    let d = square (searched c) in
+    entries-by-pairs (text (whole d)) (matrix (searched c)) (sym (again (c .before .before)) ∙ c .if6 .left)
+    ∙ ap (λ (k : ℕ). 2 * k) (sym (ap (λ (t : Tally). t .links) (told (counting d))
+    ∙ ap (λ (l : List Line). length (keep offDiagonal (pairsIn l))) (lines-pairs (surveyed (counting d)))))
+
+fault : (c : tie.After-made-refusal) → let e = c .before .before in
+    firstFault (textChecks (text (once e)) (meshCapacity (found (once e)))) ≡ c .made-refusal .result
+unfolding meshCapacity textMesh meshOf
+fault c =
+    let e = c .before .before in
+    let d = square (searched e) in
+    let h = once e in
+    fault-made (text h) (meshCapacity (found h)) (kind d) (matrix (searched e)) (sym (again (e .before .before)) ∙ e .if6 .left)
+    ∙ sym (c .made-refusal .ensures (textMesh (text h)) (sym (rows d .0)) (entries e))
+
+returns-7 : tie.Need-returns-7
+returns-7 c =
+    let m = c .before in
+    refused (once (m .before .before)) (m .made-refusal .result) (omega (arith, c .if7 .taken)) (fault m)
+
+-- ---- all checks are passed
+
+abbrev last : tie.Else7 → tie.Else6
+last c = c .before .before .before
+
+passed : (c : tie.Else7) → TextPassed (text (once (last c))) (meshCapacity (found (once (last c))))
+passed c = text-passed (text (once (last c))) (meshCapacity (found (once (last c)))) (fault (c .before) ∙ c .if7 .left)
+
+-- the pairs are one block, and their keys are sorted
+one-block : (c : tie.Else7) → let v = surveyed (counting (square (searched (last c)))) in v .survey .result .pairs ≤ length (v .survey .last .1 .1 .1 .0)
+one-block c =
+    let d = square (searched (last c)) in
+    omega (arith, text-pairs (text (whole d)) (found (whole d)) (passed c), counted (counting d), block-long (surveyed (counting d)))
+
+block-room : (c : tie.Else7) → let r = last c .before .before in surveyed (counting (square (searched (last c)))) .survey .result .pairs ≤ length (r .repeated .last .1 .1 .1 .1 .0)
+block-room c = omega (arith, one-block c, last c .before .before .repeated .ensures .0 .1)
+
+sorted-keys : (c : tie.Else7) → let r = last c .before .before in let v = surveyed (counting (square (searched (last c)))) in
+    take (v .survey .result .pairs) (r .repeated .last .1 .1 .1 .1 .0) ≡ sorted (keysIn (pairLines (text (once (last c)))))
+sorted-keys c =
+    let r = last c .before .before in
+    r .repeated .ensures .1 (one-block c) ∙ ap (λ (l : List Line). sorted (keysIn l)) (lines-pairs (surveyed (counting (square (searched (last c))))))
+
+write-lists-requires : tie.Need-write-lists-requires
+unfolding meshOf
+write-lists-requires c κs =
+    let e = c .before .before .before in
+    let d = square (searched (last e)) in
+    let t = text (whole d) in
+    let f = found (whole d) in
+    let p = passed e in
+    let mesh = keys-mesh t f p _ (sorted-keys e) in
+    rw (rows d .0) (
+      (text-nodes t f p, keys-ascend t f p _ (sorted-keys e), keys-good t f p _ (sorted-keys e)),
+      (text-starts t f p, omega (arith, text-neighbours t f p, ap (λ (m : Mesh). length (m .neighbours)) mesh)),
+    )
+
+-- the mesh of the keys' lists is that of the text
+lists-mesh : (c : tie.Else7) → let r = last c .before .before in let d = square (searched (last c)) in
+    meshOf (whole d .read-head .result .rows) (listsOf (whole d .read-head .result .rows) (map pairOfKey (take (surveyed (counting d) .survey .result .pairs) (r .repeated .last .1 .1 .1 .1 .0))))
+    ≡ textMesh (text (whole d))
+lists-mesh c =
+    let d = square (searched (last c)) in
+    let pairs = map pairOfKey (take (surveyed (counting d) .survey .result .pairs) (last c .before .before .repeated .last .1 .1 .1 .1 .0)) in
+    ap (λ (n : ℕ). meshOf n (listsOf n pairs)) (rows d .0) ∙ sym (keys-mesh (text (whole d)) (found (whole d)) (passed c) _ (sorted-keys c))
+
+abbrev written-at : tie.After-slice-known4 → tie.Else7
+written-at c = c .before .before .before .before .before .before .before .before
+
+entries-few : (c : tie.Else7) → 2 * surveyed (counting (square (searched (last c)))) .survey .result .links ≤ maxEntries
+entries-few c = omega (arith, sym (entries (last c)), text-entries (text (once (last c))) (found (once (last c))) (passed c))
+
+returns-8 : tie.Need-returns-8
+unfolding meshOf
+returns-8 c =
+    let w = c .before .before .before .before in
+    let e = written-at c in
+    let d = square (searched (last e)) in
+    let t = text (whole d) in
+    let f = found (whole d) in
+    accepted-read t f _ _ (fault (e .before) ∙ e .if7 .left) (rows d .0) (sym (entries (last e)))
+    (w .write-lists .ensures .0 ∙ ap (λ (m : Mesh). written (m .starts) (f .starts)) (lists-mesh e))
+    (w .write-lists .ensures .1 ∙ ap (λ (m : Mesh). written (m .neighbours) (f .neighbours)) (lists-mesh e))
+
+pub read-spec : {M : Type 1} → statement M
+read-spec =
+    tie.close
+    (tie.spec
+    (λ c κs. search needs)
+    returns
+    (λ c κs. search needs)
+    (λ c. search needs)
+    (λ c κs. let e = c .before .before in e .before .before .read-head .ensures .within (sized e))
+    returns-2
+    returns-3
+    returns-4
+    returns-5
+    (λ c. sym (block-long (surveyed (counting (square (c .before))))))
+    repeated-requires
+    returns-6
+    (λ c. omega (arith, links-small (square (searched (c .before)))))
+    (λ c κs. search needs)
+    returns-7
+    (λ c. block-room c)
+    (λ c. sym (length-take-le _ _ (block-room (c .before))))
+    write-lists-requires
+    (λ c. omega (arith, rows (square (searched (last (written-at c)))) .1))
+    (λ c. omega (arith, entries-few (written-at c)))
+    (λ c. search needs)
+    (λ c. search needs)
+    returns-8)

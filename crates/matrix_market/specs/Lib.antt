@@ -1,0 +1,3 @@
+pub mod SortedPairs
+pub mod Lines
+pub mod Blocks

@@ -1,0 +1,90 @@
+// The reader of Matrix Market texts, "the coordinate pattern symmetric kind": checks 23, 24, 25, then 1, 3 and 8, then the mesh in the lent buffers.
+mod banner;
+mod lists;
+mod pairs;
+mod repeats;
+mod size;
+
+use crate::lists::write_lists;
+use crate::pairs::survey;
+use crate::repeats::repeated;
+use crate::size::read_head;
+use mesh::bad_node_count;
+use plan::MeshAnswer;
+use plan::MeshCounts;
+use plan::Plan;
+ghost use mathlib.Core.Path.{_≡_};
+ghost use lib.ListN.{length};
+ghost use Rattle.plan.specs.Refusals.{firstFault};
+ghost use Rattle.plan.specs.Mesh.{Mesh};
+ghost use Rattle.plan.specs.MatrixMarket.{meshBuffers, meshLengths, madeChecks, TextRead};
+
+// the most pairs that an accepted text has: one for every two entries, and a diagonal one for every node
+const BLOCK: usize = Plan::ENTRIES / 2 + Plan::NODES;
+
+// Room for the keys of one block of pairs. O(36,864).
+fn no_keys() -> [u64; BLOCK]
+    ensures { λ r. ⌜ length r ≡ 36864 ⌝ }
+{
+    [0; BLOCK]
+}
+
+// The first refusal of checks 1, 3 and 8 of a mesh that is made, 0 for none, by its numbers of nodes and entries and the lengths of the buffers. O(1).
+fn made_refusal(n: usize, entries: usize, starts: usize, neighbours: usize) -> u32
+    ensures { λ r. ⌜ ((m : Mesh) → m .nodes ≡ n → length (m .neighbours) ≡ entries → r ≡ firstFault (madeChecks m (meshLengths starts neighbours))) ⌝ }
+{
+    if bad_node_count(n) {
+        return 1;
+    }
+    if entries > Plan::ENTRIES {
+        return 3;
+    }
+    if starts <= n {
+        return 8;
+    }
+    if neighbours < entries {
+        return 8;
+    }
+    0
+}
+
+// Reading a text: checks 23, 24, 25, 1, 3 and 8 in this order, then the mesh in the lent buffers. Nothing is written before all checks have passed.
+// O(bytes + pairs · log pairs) for a text of at most 36,864 pairs, as an accepted one is; a longer one is searched for a pair given again in
+// (pairs / 36,864) runs. It works in 300 KB of stack.
+pub fn read(text: &[u8], starts: &mut [u32], neighbours: &mut [u16]) -> MeshAnswer
+    ensures { λ r. ⌜ TextRead (now (text .entry)) r (meshBuffers (now (starts .entry)) (now (neighbours .entry))) (meshBuffers (now (starts .exit)) (now (neighbours .exit))) ⌝ }
+{
+    let size = read_head(text);
+    if !size.good {
+        return MeshAnswer::Refused(23);
+    }
+    let mut keys = no_keys();
+    let tally = survey(text, size.next, size.rows, &mut keys);
+    let pairs = tally.pairs;
+    if !tally.good {
+        return MeshAnswer::Refused(23);
+    }
+    if pairs as u64 != size.pairs {
+        return MeshAnswer::Refused(23);
+    }
+    if size.rows != size.columns {
+        return MeshAnswer::Refused(24);
+    }
+    if tally.bad {
+        return MeshAnswer::Refused(24);
+    }
+    if repeated(text, size.next, size.rows, pairs, &mut keys) {
+        return MeshAnswer::Refused(25);
+    }
+    let n = size.rows as usize;
+    let entries = 2 * tally.links;
+    let fault = made_refusal(n, entries, starts.len(), neighbours.len());
+    if fault != 0 {
+        return MeshAnswer::Refused(fault);
+    }
+    write_lists(n, &keys[..pairs], starts, neighbours);
+    MeshAnswer::Accepted(MeshCounts {
+        nodes: n as u32,
+        entries: entries as u32,
+    })
+}
