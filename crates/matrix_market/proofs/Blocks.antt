@@ -15,7 +15,7 @@ use Rattle.theory.proofs.Bools.{or-left, or-right, and-left, and-right, iff-eq}
 use Rattle.theory.proofs.Counting.{same-members}
 use Rattle.theory.proofs.Written.{written-length, front-written}
 use Rattle.theory.proofs.AnyLists.{some-append, all-append}
-use Rattle.theory.proofs.TextRepeats.{shared, again-append, shared-comm, AllNarrow, has-key, again-keys, lines-narrow, second-narrow}
+use Rattle.theory.proofs.TextRepeats.{shared, again-append, shared-comm, AllNarrow, has-key, again-keys, lines-narrow, first-narrow}
 use Rattle.sorting.specs.Sorted.{sorted}
 use Rattle.matrix_market.specs.declared.repeats.Block.{Block}
 use Rattle.lexer.specs.Suffixes.{linesAt}
@@ -53,7 +53,7 @@ shared-keys : (block : List Pair) → AllNarrow block → (lines : List Line) �
     → shared (pairsIn lines) block ≡ exists (keyAmong (map keyOf block)) lines
 shared-keys block narrow [] good = refl
 shared-keys block narrow (l ∷ lines) good =
-    let lt = ltb-true (numberAt l 1) 4294967296 (second-narrow l (and-left (holdsNumbers 2 l) _ good)) in
+    let lt = ltb-true (numberAt l 0) 4294967296 (first-narrow l (and-left (holdsNumbers 2 l) _ good)) in
     ap₂ (λ (a b : Bool). a || b) (has-key (pairOf l) block (omega (arith, lt)) narrow) (shared-keys block narrow lines (and-right (holdsNumbers 2 l) _ good))
 
 -- a repeat among the pairs of lines that fall into a block and a rest

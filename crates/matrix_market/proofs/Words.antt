@@ -38,7 +38,7 @@ holds-none [] = refl
 holds-none (w ∷ ws) = ap (λ (b : Bool). b && (isNumber w && every isNumber ws)) (ne-eqb (suc (length ws)) 0 (λ e. omega arith))
 
 -- a line without words holds no number
-pub holds-empty : (k : ℕ) (ws : Line) → notEmpty ws ≡ false → holdsNumbers (suc k) ws ≡ false
+holds-empty : (k : ℕ) (ws : Line) → notEmpty ws ≡ false → holdsNumbers (suc k) ws ≡ false
 holds-empty k [] h = holds-next k []
 holds-empty k (w ∷ ws) h = absurd (false≢true (sym h))
 
@@ -52,7 +52,7 @@ unfolding isNumber
 number-small [] h = absurd (false≢true h)
 number-small (w ∷ ws) h = leb-true (valueOf w) maxNumber (and-right (every isDigit w) _ h)
 
-number-some : (ws : Line) → firstIsNumber ws ≡ true → notEmpty ws ≡ true
+pub number-some : (ws : Line) → firstIsNumber ws ≡ true → notEmpty ws ≡ true
 number-some [] h = absurd (false≢true h)
 number-some (w ∷ ws) h = refl
 

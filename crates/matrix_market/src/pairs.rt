@@ -25,24 +25,15 @@ pub(crate) fn read_pair(text: &[u8], at: usize) -> PairLine
     requires { ⌜ at ≤ length (now text) ⌝ }
     ensures { λ r. ⌜ PairAt (now (text .entry)) at r ⌝ }
 {
-    let empty = line_over(text, at);
-    if empty.found {
+    let row = number(text, at);
+    if !row.found {
+        let empty = line_over(text, at);
         return PairLine {
-            blank: true,
+            blank: empty.found,
             good: false,
             row: 0,
             column: 0,
             next: empty.next,
-        };
-    }
-    let row = number(text, at);
-    if !row.found {
-        return PairLine {
-            blank: false,
-            good: false,
-            row: 0,
-            column: 0,
-            next: at,
         };
     }
     let column = number(text, row.next);
@@ -116,7 +107,7 @@ pub(crate) fn key(row: u64, column: u64) -> u64
     requires { ⌜ (row ≤ maxNumber) × (column ≤ maxNumber) ⌝ }
     ensures { λ r. ⌜ r ≡ keyOf (row, column) ⌝ }
 {
-    row * 4294967296 + column
+    column * 4294967296 + row
 }
 
 // A key at a place, if there is such a place. O(1).

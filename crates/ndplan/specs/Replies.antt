@@ -7,6 +7,8 @@ use Rattle.plan.specs.declared.PlanAnswer.{PlanAnswer}
 use Rattle.plan.specs.declared.PlanAnswer.the-variants as plan
 use Rattle.plan.specs.declared.WriteAnswer.{WriteAnswer}
 use Rattle.plan.specs.declared.WriteAnswer.the-variants as write
+use Rattle.plan.specs.declared.MeshAnswer.{MeshAnswer}
+use Rattle.plan.specs.declared.MeshAnswer.the-variants as mesh
 use Rattle.plan.specs.declared.Span.{Span}
 use Rattle.plan.specs.declared.RefusalFamily.{RefusalFamily}
 use Rattle.plan.specs.declared.RefusalFamily.the-variants.{Mesh, File, Program, Question, None}
@@ -15,6 +17,7 @@ use Rattle.ndplan.specs.declared.replies.NdpPlan.{NdpPlan}
 use Rattle.ndplan.specs.declared.replies.NdpWritten.{NdpWritten}
 use Rattle.ndplan.specs.declared.replies.NdpSlot.{NdpSlot}
 use Rattle.ndplan.specs.declared.replies.NdpRows.{NdpRows}
+use Rattle.ndplan.specs.declared.replies.NdpMesh.{NdpMesh}
 
 -- The number of the refusal, then the values in their order. A refusal has no values, so that every other field is 0, as is the slot of "diagonal"
 -- and "no slot".
@@ -32,6 +35,9 @@ ndpWritten r = record { refusal = r .number; length = getD (r .values) 0 0 }
 
 abbrev pub ndpSlot : Reply → NdpSlot
 ndpSlot r = record { refusal = r .number; kind = getD (r .values) 0 0; slot = getD (r .values) 1 0 }
+
+abbrev pub ndpMesh : Reply → NdpMesh
+ndpMesh r = record { refusal = r .number; nodes = getD (r .values) 0 0; entries = getD (r .values) 1 0 }
 
 -- the column question: its companion's number, and the stretch
 abbrev pub ndpRows : ℕ → Span → NdpRows
@@ -54,3 +60,6 @@ planAnswerOf r =
 
 abbrev pub writeAnswerOf : NdpWritten → WriteAnswer
 writeAnswerOf r = cond (eqb (r .refusal) 0) (write.Written (r .length)) (write.Refused (r .refusal))
+
+abbrev pub meshAnswerOf : NdpMesh → MeshAnswer
+meshAnswerOf r = cond (eqb (r .refusal) 0) (mesh.Accepted (record { nodes = r .nodes; entries = r .entries })) (mesh.Refused (r .refusal))

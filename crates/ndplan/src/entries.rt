@@ -1,9 +1,11 @@
 // The entry points. Each does what the function of the same work does, under the same promise; what C is told is defined in specs/Replies.
+use crate::replies::NdpMesh;
 use crate::replies::NdpPlan;
 use crate::replies::NdpRows;
 use crate::replies::NdpSlot;
 use crate::replies::NdpWritten;
 use crate::replies::family_number;
+use crate::replies::mesh_reply;
 use crate::replies::pair_reply;
 use crate::replies::plan_reply;
 use crate::replies::write_reply;
@@ -14,14 +16,15 @@ use planfile::read;
 use planfile::write;
 use planner::plan;
 ghost use mathlib.Core.Path.{_≡_};
-ghost use Rattle.plan.specs.Answers.{planReply, writeReply};
+ghost use Rattle.plan.specs.Answers.{planReply, writeReply, meshReply};
 ghost use Rattle.plan.specs.Refusals.{familyOf};
 ghost use Rattle.plan.specs.Mesh.{lent};
 ghost use Rattle.plan.specs.Planning.{contents, buffers, capacity, Filled, Planned};
 ghost use Rattle.plan.specs.Reading.{reading};
 ghost use Rattle.plan.specs.Writing.{Wrote};
 ghost use Rattle.plan.specs.Questions.{pairQuestion, columnRefusal, columnSpan};
-ghost use Rattle.ndplan.specs.Replies.{planAnswerOf, writeAnswerOf, ndpPlan, ndpWritten, ndpSlot, ndpRows, familyNumber};
+ghost use Rattle.plan.specs.MatrixMarket.{meshBuffers, TextRead};
+ghost use Rattle.ndplan.specs.Replies.{planAnswerOf, writeAnswerOf, meshAnswerOf, ndpPlan, ndpWritten, ndpSlot, ndpRows, ndpMesh, familyNumber};
 
 // Planning, as planner::plan does it, at its cost.
 #[no_mangle]
@@ -125,6 +128,19 @@ pub extern "C" fn ndp_rows(n: usize, columnStarts: &[u32], rows: &[u16], j: usiz
         start,
         count: columnStarts[j + 1] - start,
     }
+}
+
+// Reading a Matrix Market text, as matrix_market::read does it, at its cost.
+#[no_mangle]
+pub extern "C" fn ndp_matrix_market(
+    text: &[u8],
+    starts: &mut [u32],
+    neighbours: &mut [u16],
+) -> NdpMesh
+    ensures { λ r. ⌜ TextRead (now (text .entry)) (meshAnswerOf r) (meshBuffers (now (starts .entry)) (now (neighbours .entry))) (meshBuffers (now (starts .exit)) (now (neighbours .exit)))
+        × (r ≡ ndpMesh (meshReply (meshAnswerOf r))) ⌝ }
+{
+    mesh_reply(matrix_market::read(text, starts, neighbours))
 }
 
 // The family of a refusal's number, as plan::family tells it. O(1).

@@ -1,12 +1,13 @@
 // The replies of the C interface: plain structs, told from the answers of the entry points. Where a call is refused, every field but the refusal is
 // 0.
+use plan::MeshAnswer;
 use plan::PairAnswer;
 use plan::PlanAnswer;
 use plan::RefusalFamily;
 use plan::WriteAnswer;
 ghost use mathlib.Core.Path.{_≡_};
-ghost use Rattle.plan.specs.Answers.{planReply, writeReply, pairReply};
-ghost use Rattle.ndplan.specs.Replies.{ndpPlan, ndpWritten, ndpSlot, familyNumber};
+ghost use Rattle.plan.specs.Answers.{planReply, writeReply, pairReply, meshReply};
+ghost use Rattle.ndplan.specs.Replies.{ndpPlan, ndpWritten, ndpSlot, ndpMesh, familyNumber};
 
 // What planning and reading answer: the refusal's number, 0 for none, and the counts of the plan.
 #[repr(C)]
@@ -40,6 +41,14 @@ pub struct NdpRows {
     pub refusal: u32,
     pub start: u32,
     pub count: u32,
+}
+
+// What reading a text answers: the refusal's number, 0 for none, and the counts of the mesh.
+#[repr(C)]
+pub struct NdpMesh {
+    pub refusal: u32,
+    pub nodes: u32,
+    pub entries: u32,
 }
 
 // The reply of planning and reading. O(1).
@@ -104,6 +113,24 @@ pub(crate) fn pair_reply(answer: PairAnswer) -> NdpSlot
             refusal: k,
             kind: 0,
             slot: 0,
+        },
+    }
+}
+
+// The reply of reading a text. O(1).
+pub(crate) fn mesh_reply(answer: MeshAnswer) -> NdpMesh
+    ensures { λ r. ⌜ r ≡ ndpMesh (meshReply answer) ⌝ }
+{
+    match answer {
+        MeshAnswer::Accepted(m) => NdpMesh {
+            refusal: 0,
+            nodes: m.nodes,
+            entries: m.entries,
+        },
+        MeshAnswer::Refused(k) => NdpMesh {
+            refusal: k,
+            nodes: 0,
+            entries: 0,
         },
     }
 }

@@ -67,7 +67,7 @@ shared-comm (x ∷ xs) ys = ap (λ (b : Bool). exists (samePair x) ys || b) (sha
 -- ---- by keys
 
 abbrev pub Narrow : Pair → Type 0
-Narrow p = p .1 ≤ maxNumber
+Narrow p = p .0 ≤ maxNumber
 
 pub same-key : (p q : Pair) → Narrow p → Narrow q → samePair p q ≡ eqb (keyOf p) (keyOf q)
 same-key p q a b = iff-eq _ _
@@ -78,38 +78,35 @@ same-key p q a b = iff-eq _ _
     and-both (eqb (p .0) (q .0)) _ (eq-eqb (p .0) (q .0) (omega (arith, e, a, b))) (eq-eqb (p .1) (q .1) (omega (arith, e, a, b))))
 
 abbrev pub AllNarrow : List Pair → Type 0
-AllNarrow ps = every (λ (p : Pair). ltb (p .1) 4294967296) ps ≡ true
+AllNarrow ps = every (λ (p : Pair). ltb (p .0) 4294967296) ps ≡ true
 
 narrow-head : (p : Pair) (ps : List Pair) → AllNarrow (p ∷ ps) → Narrow p
-narrow-head p ps h = let lt = ltb-true (p .1) 4294967296 (and-left (ltb (p .1) 4294967296) _ h) in omega (arith, lt)
+narrow-head p ps h = let lt = ltb-true (p .0) 4294967296 (and-left (ltb (p .0) 4294967296) _ h) in omega (arith, lt)
 
 -- a pair is among others exactly when its key is among theirs
 pub has-key : (p : Pair) (ps : List Pair) → Narrow p → AllNarrow ps → exists (samePair p) ps ≡ isIn (keyOf p) (map keyOf ps)
 has-key p [] a h = refl
 has-key p (q ∷ ps) a h =
-    ap₂ (λ (a b : Bool). a || b) (same-key p q a (narrow-head q ps h)) (has-key p ps a (and-right (ltb (q .1) 4294967296) _ h))
+    ap₂ (λ (a b : Bool). a || b) (same-key p q a (narrow-head q ps h)) (has-key p ps a (and-right (ltb (q .0) 4294967296) _ h))
 
 pub again-keys : (ps : List Pair) → AllNarrow ps → givenAgain ps ≡ twice (map keyOf ps)
 again-keys [] h = refl
 again-keys (p ∷ ps) h =
-    let rest : AllNarrow ps = and-right (ltb (p .1) 4294967296) _ h in
+    let rest : AllNarrow ps = and-right (ltb (p .0) 4294967296) _ h in
     ap₂ (λ (a b : Bool). a || b) (has-key p ps (narrow-head p ps h) rest) (again-keys ps rest)
 
 -- the numbers of a text that passes 23 are of 32 bits
-pub second-narrow : (line : Line) → holdsNumbers 2 line ≡ true → ltb (numberAt line 1) 4294967296 ≡ true
+pub first-narrow : (line : Line) → holdsNumbers 2 line ≡ true → ltb (numberAt line 0) 4294967296 ≡ true
 unfolding holdsNumbers isNumber
-second-narrow [] h = absurd (false≢true h)
-second-narrow (a ∷ []) h = absurd (false≢true h)
-second-narrow (a ∷ (b ∷ [])) h =
-    let second : (isNumber b && true) ≡ true = and-right (isNumber a) _ h in
-    lt-ltb (valueOf b) 4294967296 (omega (arith, leb-true (valueOf b) maxNumber (and-right (every isDigit b) _ (and-left (isNumber b) _ second))))
-second-narrow (a ∷ (b ∷ (d ∷ line))) h =
-    absurd (omega (arith, eqb-true (suc (suc (suc (length line)))) 2 (and-left (eqb (suc (suc (suc (length line)))) 2) _ h)))
+first-narrow [] h = absurd (false≢true h)
+first-narrow (a ∷ line) h =
+    let first : isNumber a ≡ true = and-left (isNumber a) _ (and-right (eqb (length (a ∷ line)) 2) _ h) in
+    lt-ltb (valueOf a) 4294967296 (omega (arith, leb-true (valueOf a) maxNumber (and-right (every isDigit a) _ first)))
 
 pub lines-narrow : (lines : List Line) → every (holdsNumbers 2) lines ≡ true → AllNarrow (map pairOf lines)
 lines-narrow [] h = refl
 lines-narrow (l ∷ lines) h =
-    and-both (ltb (numberAt l 1) 4294967296) _ (second-narrow l (and-left (holdsNumbers 2 l) _ h)) (lines-narrow lines (and-right (holdsNumbers 2 l) _ h))
+    and-both (ltb (numberAt l 0) 4294967296) _ (first-narrow l (and-left (holdsNumbers 2 l) _ h)) (lines-narrow lines (and-right (holdsNumbers 2 l) _ h))
 
 pub text-narrow : (text : List ℕ) → badText text ≡ false → AllNarrow (pairsOf text)
 unfolding badText pairsOf

@@ -8,7 +8,7 @@ use borrow.Author.Tests.{not-true, not-false}
 use Rattle.plan.specs.MatrixMarket.{notEmpty, holdsNumbers}
 use Rattle.lexer.specs.Suffixes.{wordsAt}
 use Rattle.matrix_market.specs.Lines.{PairAt}
-use Rattle.matrix_market.proofs.Words.{Numbers, numbers-start, numbers-next, numbers-value, numbers-none, numbers-over, numbers-behind, holds-empty}
+use Rattle.matrix_market.proofs.Words.{Numbers, numbers-start, numbers-next, numbers-value, numbers-none, numbers-over, numbers-behind, number-some}
 use Rattle.matrix_market.proofs.pairs.read_pair.Statement.{statement}
 use Rattle.matrix_market.proofs.pairs.read_pair.Tie as tie
 
@@ -24,78 +24,65 @@ no-pair text at some none = record {
   goodNext = λ e. absurd (false≢true e);
 }
 
--- without words
+begun : (c : tie.After-number) → let s = c .before .before in Numbers (s .args .text .now) (s .args .at) (s .args .at) 0
+begun c = let s = c .before .before in numbers-start (s .args .text .now) (s .args .at) (s .pre)
+
+-- the first word is no number, or there is none
 returns : tie.Need-returns
 returns c =
-    let l = c .before in
-    let s = l .before .before in
+    let e = c .before in
+    let n = e .before .before in
+    let s = n .before .before in
     let t = s .args .text .now in
-    let over = l .line-over .ensures in
-    let start = numbers-start t (s .args .at) (s .pre) in
-    let empty = not-true _ (sym (over .0) ∙ c .if1 .taken) in
+    let at = s .args .at in
     record {
-      blank = sym (c .if1 .taken) ∙ over .0;
-      good = sym (holds-empty 1 (wordsAt t (s .args .at)) empty);
-      row = λ e. absurd (false≢true e);
-      column = λ e. absurd (false≢true e);
-      blankNext = λ e. numbers-behind t (s .args .at) (s .args .at) 0 start (l .line-over .result) over (c .if1 .taken);
-      goodNext = λ e. absurd (false≢true e);
+      blank = c .line-over .ensures .0;
+      good = sym (numbers-none t at at 0 (begun n) (n .number .result) 1 (n .number .ensures) (not-true _ (e .if1 .taken)));
+      row = λ g. absurd (false≢true g);
+      column = λ g. absurd (false≢true g);
+      blankNext = λ g. numbers-behind t at at 0 (begun n) (c .line-over .result) (c .line-over .ensures) g;
+      goodNext = λ g. absurd (false≢true g);
     }
 
--- with words
-some : (c : tie.Else1) → let s = c .before .before .before in notEmpty (wordsAt (s .args .text .now) (s .args .at)) ≡ true
-some c = not-false _ (sym (c .before .line-over .ensures .0) ∙ c .if1 .left)
-
-begun : (c : tie.Else1) → let s = c .before .before .before in Numbers (s .args .text .now) (s .args .at) (s .args .at) 0
-begun c = let s = c .before .before .before in numbers-start (s .args .text .now) (s .args .at) (s .pre)
-
--- the first word is no number
-returns-2 : tie.Need-returns-2
-returns-2 c =
-    let n = c .before .before in
-    let e = n .before in
-    let s = e .before .before .before in
-    let t = s .args .text .now in
-    let at = s .args .at in
-    no-pair t at (some e) (numbers-none t at at 0 (begun e) (n .number .result) 1 (n .number .ensures) (not-true _ (c .if2 .taken)))
-
 -- it is one
-row-read : (c : tie.Else2) → let e = c .before .before .before in let s = e .before .before .before in
-    Numbers (s .args .text .now) (s .args .at) (c .before .before .number .result .next) 1
+some : (c : tie.Else1) → let s = c .before .before .before .before in notEmpty (wordsAt (s .args .text .now) (s .args .at)) ≡ true
+some c =
+    let n = c .before .before in
+    let s = n .before .before in
+    number-some (wordsAt (s .args .text .now) (s .args .at)) (sym (n .number .ensures .found) ∙ not-false _ (c .if1 .left))
+
+row-read : (c : tie.Else1) → let n = c .before .before in let s = n .before .before in Numbers (s .args .text .now) (s .args .at) (n .number .result .next) 1
 row-read c =
     let n = c .before .before in
-    let e = n .before in
-    let s = e .before .before .before in
-    numbers-next (s .args .text .now) (s .args .at) (s .args .at) 0 (begun e) (n .number .result) (n .number .ensures) (not-false _ (c .if2 .left))
+    let s = n .before .before in
+    numbers-next (s .args .text .now) (s .args .at) (s .args .at) 0 (begun n) (n .number .result) (n .number .ensures) (not-false _ (c .if1 .left))
 
 -- the second is none
-returns-3 : tie.Need-returns-3
-returns-3 c =
+returns-2 : tie.Need-returns-2
+returns-2 c =
     let m = c .before .before in
     let d = m .before in
-    let e = d .before .before .before in
-    let s = e .before .before .before in
+    let s = d .before .before .before .before in
     let t = s .args .text .now in
     let at = s .args .at in
-    no-pair t at (some e) (numbers-none t at _ 1 (row-read d) (m .number2 .result) 0 (m .number2 .ensures) (not-true _ (c .if3 .taken)))
+    no-pair t at (some d) (numbers-none t at _ 1 (row-read d) (m .number2 .result) 0 (m .number2 .ensures) (not-true _ (c .if2 .taken)))
 
 -- two numbers: the line is over, or not
-returns-4 : tie.Need-returns-4
-returns-4 c =
+returns-3 : tie.Need-returns-3
+returns-3 c =
     let m = c .before .before .before in
     let d = m .before in
     let n = d .before .before in
-    let e = n .before in
-    let s = e .before .before .before in
+    let s = n .before .before in
     let t = s .args .text .now in
     let at = s .args .at in
     let here = n .number .result .next in
-    let both = numbers-next t at here 1 (row-read d) (m .number2 .result) (m .number2 .ensures) (not-false _ (c .before .if3 .left)) in
+    let both = numbers-next t at here 1 (row-read d) (m .number2 .result) (m .number2 .ensures) (not-false _ (c .before .if2 .left)) in
     record {
-      blank = sym (ap not (some e));
+      blank = sym (ap not (some d));
       good = numbers-over t at (m .number2 .result .next) 2 both (c .line-over2 .result) (c .line-over2 .ensures);
-      row = λ g. numbers-value t at at 0 (begun e) (n .number .result) (n .number .ensures) (not-false _ (d .if2 .left));
-      column = λ g. numbers-value t at here 1 (row-read d) (m .number2 .result) (m .number2 .ensures) (not-false _ (c .before .if3 .left));
+      row = λ g. numbers-value t at at 0 (begun n) (n .number .result) (n .number .ensures) (not-false _ (d .if1 .left));
+      column = λ g. numbers-value t at here 1 (row-read d) (m .number2 .result) (m .number2 .ensures) (not-false _ (c .before .if2 .left));
       blankNext = λ g. absurd (false≢true g);
       goodNext = λ g. numbers-behind t at (m .number2 .result .next) 2 both (c .line-over2 .result) (c .line-over2 .ensures) g;
     }
@@ -105,10 +92,9 @@ read-pair-spec =
     tie.close
     (tie.spec
     (λ c κs. search needs)
+    (λ c κs. search needs)
     returns
     (λ c κs. search needs)
     returns-2
     (λ c κs. search needs)
-    returns-3
-    (λ c κs. search needs)
-    returns-4)
+    returns-3)
