@@ -71,7 +71,11 @@ found c =
     ∙ ap (λ (x : ℕ). isIn x keys) (c .before .key .ensures ∙ ap₂ (λ (a b : ℕ). keyOf (a, b)) (r .read-pair .ensures .row (good e) .0) (r .read-pair .ensures .column (good e) .0))
 
 key-requires : tie.Need-key-requires Inv-loop μ-loop
-key-requires c κs = let e = c .before .read-pair .ensures in (e .row (good c) .1, e .column (good c) .1)
+key-requires c κs =
+    let e = c .before .read-pair .ensures in
+    let row = e .row (good c) .1 in
+    let column = e .column (good c) .1 in
+    (omega (arith, row, column), omega (arith, row, column))
 
 returns : tie.Need-returns Inv-loop μ-loop
 returns c =
