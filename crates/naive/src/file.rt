@@ -18,7 +18,8 @@ ghost use mathlib.Core.Bool.{cond};
 ghost use Prim.Native.Nat.{_-_, _*_, _/_};
 ghost use lib.Dec.{ltb};
 
-fn byte(bytes: &[u8], at: usize) -> u8 {
+// A byte; 0 beyond the end.
+pub(crate) fn byte(bytes: &[u8], at: usize) -> u8 {
     if at < bytes.len() {
         return bytes[at];
     }

@@ -1,7 +1,7 @@
-// A second planner, and a second reader and writer of plan files and answers to questions, written from document 01 and the readings in
-// docs/DECISIONS.md, without the book or the proved code: dense, literal and small, for meshes of at most 64 nodes. Test programs compare the
-// proved code with it. Proved safe; what it answers is tested, and not proved.
-// Cost: every function is polynomial in 64 and in the lengths of what it is lent.
+// A second planner, a second reader and writer of plan files, a second reader of Matrix Market texts, and answers to questions, written from
+// documents 01 and 02 and the readings in docs/DECISIONS.md, without the book or the proved code: dense, literal and small, for meshes of at most 64
+// nodes or texts of at most 2,200 pairs. Test programs compare the proved code with it. Proved safe; what it answers is tested, and not proved.
+// Cost: every function is polynomial in 64, in 2,200 and in the lengths of what it is lent.
 mod check;
 mod contents;
 mod elimination;
@@ -10,6 +10,8 @@ mod lists;
 mod parts;
 mod questions;
 mod sets;
+mod text;
+mod words;
 
 use crate::elimination::eliminate;
 pub use file::NaiveFile;
@@ -21,8 +23,10 @@ pub use questions::NaiveColumn;
 pub use questions::NaivePair;
 pub use questions::column;
 pub use questions::pair;
+pub use text::NaiveMesh;
+pub use text::read_text;
 
-// The answer of reading or writing where the plan has more nodes than this code takes.
+// The answer of reading or writing where a plan has more nodes, or a text more pairs, than this code takes.
 pub const TOO_LARGE: u32 = 65535;
 
 // What planning and reading hand out. `refusal` is 0 where there is a plan; otherwise everything else is 0.

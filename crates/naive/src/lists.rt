@@ -9,12 +9,17 @@ pub(crate) fn entry(list: &[u16], i: usize) -> usize {
     0
 }
 
-// Where v's list begins, or column v.
-pub(crate) fn start(starts: &[u32], v: usize) -> usize {
-    if v < starts.len() {
-        return wide32(starts[v]);
+// The same for numbers of 32 bits.
+pub(crate) fn long_entry(list: &[u32], i: usize) -> usize {
+    if i < list.len() {
+        return wide32(list[i]);
     }
     0
+}
+
+// Where v's list begins, or column v.
+pub(crate) fn start(starts: &[u32], v: usize) -> usize {
+    long_entry(starts, v)
 }
 
 // Where it ends.

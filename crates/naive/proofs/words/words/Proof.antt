@@ -1,0 +1,26 @@
+-- `naive::words::words` is safe and ends.
+use Prim.Native.Nat.{_-_}
+use borrow.Author.Needs.{needs}
+use Rattle.naive.proofs.words.words.Statement.{statement}
+use Rattle.naive.proofs.words.words.Tie as tie
+
+abbrev Inv-loop : tie.InvT-loop
+Inv-loop text line found₀ i₀ i-end found i = Unit {0}
+
+abbrev μ-loop : tie.MeasureT-loop
+μ-loop text line found₀ i₀ i-end found i = i-end - i
+
+pub words-spec : {M : Type 1} → statement M
+words-spec =
+    tie.close
+    (tie.spec
+    Inv-loop
+    μ-loop
+    (λ c κs. search needs)
+    (λ c. search needs)
+    (λ c κs. search needs)
+    (λ c κs. search needs)
+    (λ c. search needs)
+    (λ c. search needs)
+    (λ c. search needs)
+    (λ c. search needs))
