@@ -1,14 +1,14 @@
-/* Runs the proved library and the plain C program on the same meshes, compares all their results, times both, and prints the table of
+/* Runs the proved library and the plain C program on the same meshes and texts, compares all their results, times both, and prints the table of
  * docs/PERFORMANCE.md. */
 #define _POSIX_C_SOURCE 199309L
-#include "meshes.h"
 #include "plain.h"
+#include "texts.h"
 #include <stdio.h>
 #include <string.h>
 #include <time.h>
 
-enum { NODES = NDP_MAX_NODES, SLOTS = NDP_MAX_SLOTS, FILE_BYTES = 17 + 8 * NODES + 2 * SLOTS };
-/* Every slice has GUARD entries more than the largest plan needs, and before a comparison every byte is FILL. */
+enum { NODES = NDP_MAX_NODES, ENTRIES = NDP_MAX_ENTRIES, SLOTS = NDP_MAX_SLOTS, FILE_BYTES = 17 + 8 * NODES + 2 * SLOTS };
+/* Every slice has GUARD entries more than the largest plan or mesh needs, and before a comparison every byte is FILL. */
 enum { GUARD = 8, FILL = 0xA5 };
 /* Questions for one timing, so that small layouts take long enough for the clock. */
 enum { QUESTIONS = 16 };
@@ -22,6 +22,8 @@ typedef struct {
     uint16_t order[NODES + GUARD], positions[NODES + GUARD], sizes[NODES + GUARD], parents[NODES + GUARD];
     uint32_t column_starts[NODES + 1 + GUARD];
     uint16_t rows[SLOTS + GUARD];
+    uint32_t starts[NODES + 1 + GUARD];
+    uint16_t neighbours[ENTRIES + GUARD];
     uint8_t file[FILE_BYTES + GUARD];
 } Memory;
 
@@ -33,25 +35,28 @@ typedef struct {
     __typeof__(ndp_read) *read;
     __typeof__(ndp_slot) *slot;
     __typeof__(ndp_rows) *rows;
+    __typeof__(ndp_matrix_market) *matrix_market;
     Memory *memory;
     NdpPlan reply, read_reply;
     size_t parts;
     NdpWritten written;
     NdpSlot pairs[QUESTIONS];
     NdpRows columns[QUESTIONS];
+    NdpMesh mesh_reply;
 } Program;
 
 enum { PLAIN, PROVED, PROGRAMS };
 static Memory plain_memory, proved_memory, untouched;
 static Program programs[PROGRAMS] = {
     {.plan = plain_plan, .stage_order = plain_stage_order, .write = plain_write, .read = plain_read, .slot = plain_slot, .rows = plain_rows,
-     .memory = &plain_memory},
+     .matrix_market = plain_matrix_market, .memory = &plain_memory},
     {.plan = ndp_plan, .stage_order = stage_order, .write = ndp_write, .read = ndp_read, .slot = ndp_slot, .rows = ndp_rows,
-     .memory = &proved_memory},
+     .matrix_market = ndp_matrix_market, .memory = &proved_memory},
 };
 
-/* The mesh and the plan at hand, and the positions that the questions ask about. */
+/* The mesh, the text and the plan at hand, and the positions that the questions ask about. */
 static Mesh mesh;
+static Text text;
 static NdpPlan plan;
 static uint16_t asked[QUESTIONS][2];
 
@@ -97,10 +102,15 @@ static void ask_columns(Program *p) {
         p->columns[k] = p->rows(plan.nodes, m->column_starts, plan.nodes + 1, m->rows, plan.slots, asked[k][0]);
 }
 
-/* The first four make the plan of a mesh, each as far as its name says; the others need a plan. */
-enum { CHECK, ORDER, COUNT, PLAN, WRITE, READ, PAIR, COLUMN, OPERATIONS };
-static void (*const operations[OPERATIONS])(Program *) = {up_to_check, up_to_order, up_to_count, whole_plan,
-                                                          write_file,  read_file,   ask_pairs,   ask_columns};
+static void read_text(Program *p) {
+    Memory *m = p->memory;
+    p->mesh_reply = p->matrix_market(text.bytes, text.length, m->starts, NODES + 1 + GUARD, m->neighbours, ENTRIES + GUARD);
+}
+
+/* The first four make the plan of a mesh, each as far as its name says; the next four need a plan, and the last a text. */
+enum { CHECK, ORDER, COUNT, PLAN, WRITE, READ, PAIR, COLUMN, TEXT, OPERATIONS };
+static void (*const operations[OPERATIONS])(Program *) = {up_to_check, up_to_order, up_to_count, whole_plan, write_file,
+                                                          read_file,   ask_pairs,   ask_columns, read_text};
 
 /* ---- comparing the results */
 
@@ -178,22 +188,41 @@ static int compare_file(void) {
            memcmp(plain->columns, proved->columns, sizeof plain->columns) == 0;
 }
 
+/* Whether the front of the memory for a mesh holds `expected`, and nothing is written past it. */
+static int holds_mesh(const Memory *m, size_t starts, size_t entries, const Mesh *expected) {
+    const Memory *u = &untouched;
+    return memcmp(m->starts, expected->starts, 4 * starts) == 0 && memcmp(m->neighbours, expected->neighbours, 2 * entries) == 0 &&
+           memcmp(m->starts + starts, u->starts + starts, sizeof m->starts - 4 * starts) == 0 &&
+           memcmp(m->neighbours + entries, u->neighbours + entries, sizeof m->neighbours - 2 * entries) == 0;
+}
+
+/* The text at hand gives the mesh at hand, or a refusal that leaves everything as it was. */
+static int compare_text(uint32_t refusal) {
+    size_t starts = refusal ? 0 : mesh.nodes + 1, entries = refusal ? 0 : mesh.entries;
+    NdpMesh reply = {refusal, refusal ? 0 : mesh.nodes, entries};
+    fill_results();
+    run_both(TEXT);
+    return memcmp(&programs[PLAIN].mesh_reply, &reply, sizeof reply) == 0 && memcmp(&programs[PROVED].mesh_reply, &reply, sizeof reply) == 0 &&
+           same_memory() && holds_mesh(&plain_memory, starts, entries, &mesh);
+}
+
 /* ---- timing */
 
-/* A line of the table. The times are in microseconds, for one question in the case of questions. */
+/* A line of the table, of a mesh with its plan, or of a text. The times are in microseconds, for one question in the case of questions. */
 typedef struct {
     char name[32];
     size_t entries;
     NdpPlan plan;
+    struct { size_t nodes, pairs, bytes; int shuffled; uint32_t refusal; } text;
     double best[OPERATIONS][PROGRAMS];
     int same;
 } Line;
 
-/* First the families, each at all its sizes; then the largest plan; then the other meshes. */
-enum { FAMILIES = 6, SIZES = 5, LARGEST = FAMILIES * SIZES, MOST_LINES = 48 };
+/* First the families, each at all its sizes; then the largest plan; then the other meshes; then the texts, from `first_text` on. */
+enum { FAMILIES = 6, SIZES = 5, LARGEST = FAMILIES * SIZES, MOST_LINES = 64 };
 static const char *const family_names[FAMILIES] = {"foot", "plate", "plate, holes", "grid", "path", "binary tree"};
 static Line lines[MOST_LINES];
-static int line_count;
+static int line_count, first_text;
 
 /* The processor time of this program in microseconds. What other programs take on a busy machine does not count. */
 static double now(void) {
@@ -216,7 +245,7 @@ static void time_once(Line *line, int operation, int program) {
     double from = now();
     operations[operation](&programs[program]);
     double time = now() - from - clock_cost, *best = &line->best[operation][program];
-    if (operation >= PAIR) time /= QUESTIONS;
+    if (operation == PAIR || operation == COLUMN) time /= QUESTIONS;
     if (*best == 0 || time < *best) *best = time;
 }
 
@@ -295,6 +324,39 @@ static void measure_largest_plan(void) {
     time_operations(line, WRITE, COLUMN);
 }
 
+/* Compares and times the reading of the text at hand. */
+static void measure_text(const char *name, int shuffled, uint32_t refusal) {
+    Line *line = new_line(name);
+    line->same = compare_text(refusal);
+    line->text.nodes = text.nodes;
+    line->text.pairs = text.pairs;
+    line->text.bytes = text.length;
+    line->text.shuffled = shuffled;
+    line->text.refusal = refusal;
+    time_operations(line, TEXT, TEXT);
+}
+
+/* The text of the mesh at hand, in both orders. */
+static void measure_text_of_mesh(const char *name, int diagonal) {
+    for (int shuffled = 0; shuffled < 2; shuffled++) {
+        make_text(&text, &mesh, diagonal, shuffled);
+        measure_text(name, shuffled, 0);
+    }
+}
+
+static void measure_texts(void) {
+    first_text = line_count;
+    make_foot(&mesh, 900); measure_text_of_mesh("foot 900", 0);
+    make_foot(&mesh, 4096); measure_text_of_mesh("foot 4096", 0);
+    make_plate(&mesh, 30, 900, 1, 0); measure_text_of_mesh("plate 900", 0);
+    make_plate(&mesh, 64, 4096, 1, 0); measure_text_of_mesh("plate 4096", 0);
+    make_random(&mesh, 4096, 32768); measure_text_of_mesh("densest", 0); measure_text_of_mesh("densest, diagonal", 1);
+    for (int shuffled = 0; shuffled < 2; shuffled++) for (int again = 0; again < 2; again++) {
+        make_band_text(&text, 5000, 60000, again, shuffled);
+        measure_text(again ? "too large, a repeat" : "too large", shuffled, again ? 25 : 1);
+    }
+}
+
 /* ---- the table */
 
 /* The time of an operation by itself: the first ones are timed from the start of planning, so the operation before is taken off. */
@@ -337,12 +399,25 @@ static void print_four(const char *title, const char *const names[4], int first,
 static void print_planning(void) {
     printf("Whole planning, microseconds\n");
     printf("%-19s %5s %7s %5s %9s %10s %10s %5s\n", "mesh", "nodes", "entries", "parts", "slots", "plain", "proved", "ratio");
-    for (int l = 0; l < line_count; l++) {
+    for (int l = 0; l < first_text; l++) {
         const Line *line = &lines[l];
         double plain = line->best[PLAN][PLAIN], proved = line->best[PLAN][PROVED];
         if (l == LARGEST) continue;
         printf("%-19s %5u %7zu %5u %9u", line->name, line->plan.nodes, line->entries, line->plan.parts, line->plan.slots);
         printf(" %10.1f %10.1f %5.2f\n", plain, proved, proved / plain);
+    }
+    printf("\n");
+}
+
+static void print_texts(void) {
+    printf("Reading Matrix Market texts, microseconds\n");
+    printf("%-19s %-8s %5s %6s %7s %7s %8s %8s %5s\n", "text", "order", "nodes", "pairs", "bytes", "refusal", "plain", "proved", "ratio");
+    for (int l = first_text; l < line_count; l++) {
+        const Line *line = &lines[l];
+        double plain = line->best[TEXT][PLAIN], proved = line->best[TEXT][PROVED];
+        printf("%-19s %-8s", line->name, line->text.shuffled ? "shuffled" : "file");
+        printf(" %5zu %6zu %7zu %7u", line->text.nodes, line->text.pairs, line->text.bytes, line->text.refusal);
+        printf(" %8.1f %8.1f %5.2f\n", plain, proved, proved / plain);
     }
     printf("\n");
 }
@@ -387,7 +462,7 @@ static void print_goal(const char *name, int operation, double goal) {
     printf("%s: ratio %.2f to %.2f, goal %.1f, met on %d of %d\n", name, least, most, goal, met, timed);
     for (int l = 0; l < line_count; l++) {
         double ratio = ratio_of(&lines[l], operation);
-        if (ratio > goal) printf("  above it: %s, %.2f\n", lines[l].name, ratio);
+        if (ratio > goal) printf("  above it: %s%s, %.2f\n", lines[l].name, lines[l].text.shuffled ? ", shuffled" : "", ratio);
     }
 }
 
@@ -407,12 +482,15 @@ int main(void) {
     measure_families();
     measure_largest_plan();
     measure_others();
+    measure_texts();
     print_four("Stages of planning", stages, CHECK, LARGEST);
     print_planning();
     print_four("File and questions", uses, WRITE, LARGEST + 1);
+    print_texts();
     print_growth();
     print_goal("Planning", PLAN, 1.5);
     print_goal("Writing", WRITE, 2.0);
     print_goal("Reading", READ, 2.0);
+    print_goal("Reading texts", TEXT, 2.0);
     return print_differences() ? 1 : 0;
 }

@@ -1,5 +1,6 @@
 /* The planner's C interface, in libndplan.a (`rt staticlib ndplan`, for x86-64). It cuts a mesh into parts by nested dissection, numbers the nodes
- * in the order of their elimination, lays out the triangular factor slot by slot, and writes and reads plan files.
+ * in the order of their elimination, lays out the triangular factor slot by slot, and writes and reads plan files. It also reads a mesh from a
+ * Matrix Market text.
  *
  * THE MESH has n nodes, 0 to n - 1, with n from 1 to NDP_MAX_NODES. `starts` has n + 1 entries: starts[0] is 0, they never fall, and starts[n] is
  * the length of `neighbours`, at most NDP_MAX_ENTRIES. The neighbours of node v are neighbours[starts[v]] up to, not including,
@@ -24,15 +25,22 @@
  * THE FILE, little-endian: bytes 0 to 2 are the letters NDP, 3 and 4 the version, 5 to 8 n, 9 to 12 p, 13 to 16 s. Numbers of 2 bytes follow: the
  * order, n of them; a size and a parent for each of the p parts; the number of rows for each of the n columns; the s rows.
  *
+ * THE TEXT is a Matrix Market text of the coordinate pattern symmetric kind. Its first line is %%MatrixMarket matrix coordinate pattern symmetric,
+ * the five words in any letter case. Lines that begin with % may follow. Then comes the size line: rows, columns, which are as many, and pairs; then
+ * the pairs, one to a line: a row number and a column number, counted from 1, the row number at least the column number. A line ends at a line feed,
+ * with or without a carriage return directly before it, or at the text's end. Words are separated by spaces or tabs, which may also stand at a line's
+ * ends; lines after the first that hold nothing else are skipped. Numbers are digits only, leading zeros allowed, and 4294967295 at most. Row r and
+ * column c make nodes r - 1 and c - 1 neighbours. Pairs come in any order, each once; a diagonal one, r = c, counts as a pair and gives no neighbour.
+ *
  * THE CALLS. A buffer is a pointer and a length in entries. The caller sees to it that a pointer is valid for its length and aligned as its type
  * asks, that it is null only where the length is 0, and that no buffer that is written overlaps another. Beyond that every function takes every
  * number and every content of its buffers, and ends. Where it refuses, the reply's other fields are 0 and every buffer is as it was; where it
  * accepts, entries past those used are as they were. Nothing is allocated and there is no static state: threads may call at once, each with result
- * buffers of its own. ndp_plan needs less than 128 KB of stack, every other function less than 80 KB.
+ * buffers of its own. ndp_matrix_market needs less than 320 KB of stack, ndp_plan less than 128 KB, every other function less than 80 KB.
  *
  * REFUSALS. A reply has the number of the first check that fails, or 0; ndp_refusal_text, at the end, says what each number means. Planning checks
- * 1 to 9, reading 10 to 19, then 8 and 9, writing 13, 15 to 19, then 8, a question 1, 22, then 21, in this order. Each check covers the whole input
- * before the next begins. */
+ * 1 to 9, reading 10 to 19, then 8 and 9, writing 13, 15 to 19, then 8, a question 1, 22, then 21, reading a text 23 to 25, 1, 3, then 8, in this
+ * order. Each check covers the whole input before the next begins. */
 #ifndef NDPLAN_H
 #define NDPLAN_H
 #include <stddef.h>
@@ -77,6 +85,11 @@ typedef struct {
     uint32_t refusal, start, count;
 } NdpRows;
 
+/* Reading a text: the nodes n, and the neighbour entries, two for each pair that is not diagonal. */
+typedef struct {
+    uint32_t refusal, nodes, entries;
+} NdpMesh;
+
 /* Plans a mesh of n nodes. `order`, `positions`, `sizes` and `parents` need room for n entries each, though only p of the sizes and parents are
  * written, `column_starts` for n + 1, and `rows` for as many as there are slots; n (n - 1) / 2 always suffice, and a refusal 9 does not tell how many
  * are needed. Refuses with 1 to 9. */
@@ -103,13 +116,19 @@ NdpSlot ndp_slot(size_t n, const uint32_t *column_starts, size_t column_starts_l
 /* The rows of column j: rows[start] up to, not including, rows[start + count]. The lengths are as in ndp_slot. Refuses with 1, 22 and 21. */
 NdpRows ndp_rows(size_t n, const uint32_t *column_starts, size_t column_starts_length, const uint16_t *rows, size_t rows_length, size_t j);
 
+/* Reads the mesh of a Matrix Market text of `text_length` bytes: n + 1 entries go to the front of `starts`, as many as the reply says to the front of
+ * `neighbours`. NDP_MAX_NODES + 1 and NDP_MAX_ENTRIES always suffice. The lists are those of the pairs, whatever order these came in, and what is
+ * accepted here passes ndp_plan's checks 1 to 7. Refuses with 23, 24, 25, 1, 3, and 8 where either buffer is too short. */
+NdpMesh ndp_matrix_market(const uint8_t *text, size_t text_length, uint32_t *starts, size_t starts_length, uint16_t *neighbours,
+                          size_t neighbours_length);
+
 /* What a refusal's number is about: a mesh 1 to 9, a file 10 to 19, the listing program 20, a question 21 and 22, and none of these any other. */
 enum { NDP_NONE = 0, NDP_MESH = 1, NDP_FILE = 2, NDP_PROGRAM = 3, NDP_QUESTION = 4 };
 uint32_t ndp_family(uint32_t number);
 
-/* What a refusal's number means. 8 is about the five other results of planning and reading, or about the writer's file. In 17 the column starts fit
- * where they begin at 0, never fall and end at s; in 22 where they are n + 1 exactly, begin at 0, never fall and end at the length of `rows` or
- * below. 20 comes from the listing program only. */
+/* What a refusal's number means. 8 is about the five other results of planning and reading, about the writer's file, or about a text's starts and
+ * neighbours. In 17 the column starts fit where they begin at 0, never fall and end at s; in 22 where they are n + 1 exactly, begin at 0, never fall
+ * and end at the length of `rows` or below. 20 comes from the listing program only. */
 static inline const char *ndp_refusal_text(uint32_t number) {
     static const char *const texts[] = {
         /*  0 */ "accepted",
@@ -135,6 +154,9 @@ static inline const char *ndp_refusal_text(uint32_t number) {
         /* 20 */ "the input of the listing program is cut short or over its size",
         /* 21 */ "a position is not below the number of nodes",
         /* 22 */ "the column starts do not fit the nodes and the rows, or a column's rows are not strictly ascending, above it and below the nodes",
+        /* 23 */ "the text is not of the coordinate pattern symmetric kind, a number is beyond 32 bits, or the pairs are not as many as stated",
+        /* 24 */ "the matrix is not square, an index is outside it, or a row number is less than its column's",
+        /* 25 */ "a pair is given again, diagonal ones too",
     };
     return number < sizeof texts / sizeof *texts ? texts[number] : "unknown refusal";
 }

@@ -1,8 +1,9 @@
 #!/usr/bin/env python3
-"""Writes foot.mesh: a triangulated outline of a foot, in the listing program's input format.
+"""Writes foot.mesh and foot.mtx: a triangulated outline of a foot, in the listing program's input format and as a Matrix Market text.
 
 The points of a triangular grid that lie inside a few ellipses (heel, arch, ball, toes) are the nodes, numbered row by row from the heel;
-grid neighbours are joined. Little-endian: n (16 bits), n + 1 starts (32 bits each), neighbours (16 bits each).
+grid neighbours are joined. foot.mesh, little-endian: n (16 bits), n + 1 starts (32 bits each), neighbours (16 bits each). foot.mtx: the pairs of
+neighbours, column by column, nodes counted from 1.
 """
 import struct
 
@@ -33,4 +34,11 @@ with open("foot.mesh", "wb") as out:
     out.write(struct.pack("<H", len(lists)))
     out.write(struct.pack("<%dI" % len(starts), *starts))
     out.write(struct.pack("<%dH" % starts[-1], *(w for entries in lists for w in entries)))
+pairs = [(row, column) for column, entries in enumerate(lists) for row in entries if row > column]
+with open("foot.mtx", "w", newline="\n") as out:
+    out.write("%%MatrixMarket matrix coordinate pattern symmetric\n")
+    out.write("% A triangulated outline of a foot, made by foot.py: the mesh of foot.mesh.\n")
+    out.write("% Rows, columns and pairs; then a row and a column for each pair of neighbours, nodes counted from 1.\n")
+    out.write("%d %d %d\n" % (len(lists), len(lists), len(pairs)))
+    out.writelines("%d %d\n" % (row + 1, column + 1) for row, column in pairs)
 print(len(lists), "nodes", starts[-1], "entries")

@@ -1,43 +1,74 @@
-/* Plans a path of five nodes, writes the plan to a file in memory, reads it back, and asks for a slot and a column. */
+/* Reads a mesh from a Matrix Market text (its path is the argument, samples/foot.mtx if there is none), plans it, writes the plan to a file in
+ * memory, reads it back, and asks for a slot and a column. */
 #include "ndplan.h"
 #include <stdio.h>
 
-enum { N = 5, SLOTS = N * (N - 1) / 2, BYTES = NDP_FILE_LENGTH(N, N, SLOTS) };
+/* Room for every mesh and every plan, and for a text of some size. */
+enum { NODES = NDP_MAX_NODES, ENTRIES = NDP_MAX_ENTRIES, SLOTS = NDP_MAX_SLOTS, BYTES = NDP_FILE_LENGTH(NODES, NODES, SLOTS), TEXT_BYTES = 1 << 22 };
+static uint8_t text[TEXT_BYTES], file[BYTES];
+static uint32_t starts[NODES + 1], column_starts[NODES + 1];
+static uint16_t neighbours[ENTRIES], order[NODES], positions[NODES], sizes[NODES], parents[NODES], rows[SLOTS];
 
 static int refused(uint32_t number) {
     printf("refused %u: %s\n", number, ndp_refusal_text(number));
     return 1;
 }
 
-int main(void) {
-    const uint32_t starts[N + 1] = {0, 1, 3, 5, 7, 8};
-    const uint16_t neighbours[8] = {1, 0, 2, 1, 3, 2, 4, 3};
-    uint16_t order[N], positions[N], sizes[N], parents[N], rows[SLOTS];
-    uint32_t column_starts[N + 1];
-    uint8_t file[BYTES];
+/* The bytes of a text into `text`. A text that fills it may be longer, so it counts as unreadable; so does an empty one. */
+static size_t load(const char *path) {
+    FILE *in = fopen(path, "rb");
+    size_t length = in ? fread(text, 1, TEXT_BYTES, in) : 0;
+    if (in) fclose(in);
+    return length < TEXT_BYTES ? length : 0;
+}
 
-    NdpPlan plan = ndp_plan(N, starts, N + 1, neighbours, 8, order, N, positions, N, sizes, N, parents, N, column_starts, N + 1, rows, SLOTS);
-    if (plan.refusal) return refused(plan.refusal);
-    printf("planned: %u nodes, %u parts, %u slots, order", plan.nodes, plan.parts, plan.slots);
-    for (int i = 0; i < N; i++) printf(" %u", order[i]);
+/* Reads the plan of so many bytes in `file`. */
+static NdpPlan read_plan(size_t length) {
+    return ndp_read(file, length, order, NODES, positions, NODES, sizes, NODES, parents, NODES, column_starts, NODES + 1, rows, SLOTS);
+}
 
-    NdpWritten written = ndp_write(N, plan.parts, plan.slots, order, N, sizes, N, parents, N, column_starts, N + 1, rows, SLOTS, file, BYTES);
+/* Writes the plan in the buffers to `file`, reads it back, and asks about it. Then shows what a file of a newer version gives. */
+static int write_and_ask(NdpPlan plan) {
+    uint32_t n = plan.nodes;
+    NdpWritten written =
+        ndp_write(n, plan.parts, plan.slots, order, NODES, sizes, NODES, parents, NODES, column_starts, NODES + 1, rows, SLOTS, file, BYTES);
     if (written.refusal) return refused(written.refusal);
-    printf("\nwritten: %u bytes\n", (unsigned)written.length);
+    printf("written: %u bytes\n", (unsigned)written.length);
 
-    NdpPlan read = ndp_read(file, written.length, order, N, positions, N, sizes, N, parents, N, column_starts, N + 1, rows, SLOTS);
+    NdpPlan read = read_plan(written.length);
     if (read.refusal) return refused(read.refusal);
-    NdpSlot pair = ndp_slot(N, column_starts, N + 1, rows, SLOTS, 4, 1);
+    NdpSlot pair = ndp_slot(n, column_starts, n + 1, rows, SLOTS, 4, 1);
     if (pair.refusal) return refused(pair.refusal);
-    NdpRows column = ndp_rows(N, column_starts, N + 1, rows, SLOTS, 1);
+    NdpRows column = ndp_rows(n, column_starts, n + 1, rows, SLOTS, 1);
     if (column.refusal) return refused(column.refusal);
     printf("read: %u slots; rows of column 1:", read.slots);
     for (uint32_t k = 0; k < column.count; k++) printf(" %u", rows[column.start + k]);
     printf("; positions 4 and 1: %s %u\n", pair.kind == NDP_SLOT ? "slot" : pair.kind == NDP_DIAGONAL ? "diagonal" : "no slot", pair.slot);
 
     file[3] = NDP_FILE_VERSION + 1; /* a version that this reader does not know */
-    NdpPlan newer = ndp_read(file, written.length, order, N, positions, N, sizes, N, parents, N, column_starts, N + 1, rows, SLOTS);
+    NdpPlan newer = read_plan(written.length);
     printf("version %u, family %u: ", file[3], ndp_family(newer.refusal));
     refused(newer.refusal);
     return newer.refusal == 12 ? 0 : 1;
+}
+
+int main(int count, char **arguments) {
+    const char *path = count > 1 ? arguments[1] : "samples/foot.mtx";
+    size_t length = load(path);
+    if (length == 0) {
+        printf("%s: no text of 1 to %d bytes\n", path, TEXT_BYTES - 1);
+        return 1;
+    }
+    NdpMesh mesh = ndp_matrix_market(text, length, starts, NODES + 1, neighbours, ENTRIES);
+    if (mesh.refusal) return refused(mesh.refusal);
+    printf("text: %u nodes, %u neighbour entries\n", mesh.nodes, mesh.entries);
+
+    uint32_t n = mesh.nodes;
+    NdpPlan plan = ndp_plan(n, starts, n + 1, neighbours, mesh.entries, order, NODES, positions, NODES, sizes, NODES, parents, NODES,
+                            column_starts, NODES + 1, rows, SLOTS);
+    if (plan.refusal) return refused(plan.refusal);
+    printf("planned: %u nodes, %u parts, %u slots, order", plan.nodes, plan.parts, plan.slots);
+    for (uint32_t i = 0; i < n && i < 10; i++) printf(" %u", order[i]);
+    printf("%s\n", n > 10 ? " .." : "");
+    return write_and_ask(plan);
 }

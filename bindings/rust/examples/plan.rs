@@ -1,23 +1,20 @@
-//! Plans a plate of three by three nodes, writes the plan to a file's bytes, reads it back and asks about it.
-use ndplan::{Mesh, Pair, Plan, Refusal};
+//! Reads a mesh from a Matrix Market text (its path is the argument, `samples/foot.mtx` if there is none), plans it, writes
+//! the plan to a file's bytes, reads it back and asks about it.
+use ndplan::{OwnedMesh, Pair, Plan};
+use std::{env, error, fs};
 
-/// The neighbour lists of a plate of side × side nodes, numbered row by row.
-fn plate(side: usize) -> (Vec<u32>, Vec<u16>) {
-    let (mut starts, mut neighbours) = (vec![0], vec![]);
-    for v in 0..side * side {
-        let near = |w: &usize| (v / side).abs_diff(w / side) + (v % side).abs_diff(w % side) == 1;
-        neighbours.extend((0..side * side).filter(near).map(|w| w as u16));
-        starts.push(neighbours.len() as u32);
-    }
-    (starts, neighbours)
-}
+const SAMPLE: &str = concat!(env!("CARGO_MANIFEST_DIR"), "/../../samples/foot.mtx");
 
-fn main() -> Result<(), Refusal> {
-    let (starts, neighbours) = plate(3);
-    let plan = Plan::of(&Mesh { nodes: 9, starts: &starts, neighbours: &neighbours })?;
+fn main() -> Result<(), Box<dyn error::Error>> {
+    let path = env::args().nth(1).unwrap_or(SAMPLE.into());
+    let mesh = OwnedMesh::read_matrix_market(&fs::read(path)?)?;
+    let lists = mesh.lists();
+    println!("{} nodes, {} neighbour entries", lists.nodes, lists.neighbours.len());
+
+    let plan = Plan::of(&lists)?;
     let counts = plan.counts();
     println!("{} parts, {} slots, {} multiplications", counts.parts, counts.slots, counts.multiplications);
-    println!("order {:?}", plan.order());
+    println!("the first nodes of the order: {:?}", &plan.order()[..lists.nodes.min(10)]);
 
     let file = plan.write()?;
     let again = Plan::read(&file)?;
@@ -29,8 +26,9 @@ fn main() -> Result<(), Refusal> {
         Pair::Diagonal => println!("positions 8 and 7 are the same"),
         Pair::NoSlot => println!("positions 8 and 7 have no slot"),
     }
-    if let Err(refusal) = again.column(9) {
-        println!("column 9, family {:?}: {refusal}", refusal.family());
+    let last = lists.nodes;
+    if let Err(refusal) = again.column(last) {
+        println!("column {last}, family {:?}: {refusal}", refusal.family());
     }
     Ok(())
 }

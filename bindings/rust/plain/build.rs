@@ -3,7 +3,8 @@ use std::path::{Path, PathBuf};
 use std::process::Command;
 use std::{env, fs};
 
-const SOURCES: [&str; 3] = ["bench/plain_plan.c", "bench/plain_file.c", "bindings/rust/plain/src/text.c"];
+const SOURCES: [&str; 4] =
+    ["bench/plain_plan.c", "bench/plain_file.c", "bench/plain_text.c", "bindings/rust/plain/src/text.c"];
 const HEADERS: [&str; 2] = ["bench/plain.h", "include/ndplan.h"];
 
 fn main() {

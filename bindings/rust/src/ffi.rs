@@ -34,6 +34,14 @@ pub struct NdpRows {
     pub count: u32,
 }
 
+#[repr(C)]
+#[derive(Clone, Copy, Debug, PartialEq, Eq)]
+pub struct NdpMesh {
+    pub refusal: u32,
+    pub nodes: u32,
+    pub entries: u32,
+}
+
 /// Values of `NdpSlot::kind`.
 pub const NDP_SLOT: u32 = 1;
 pub const NDP_DIAGONAL: u32 = 2;
@@ -120,6 +128,15 @@ extern "C" {
         rows_length: usize,
         j: usize,
     ) -> NdpRows;
+
+    pub fn ndp_matrix_market(
+        text: *const u8,
+        text_length: usize,
+        starts: *mut u32,
+        starts_length: usize,
+        neighbours: *mut u16,
+        neighbours_length: usize,
+    ) -> NdpMesh;
 
     pub fn ndp_family(number: u32) -> u32;
 }

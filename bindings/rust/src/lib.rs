@@ -2,10 +2,11 @@
 //!
 //! A mesh is lent as neighbour lists. Its plan is an order of the nodes, a tree of parts, and the layout of the factor:
 //! for each column the rows that have a slot. The functions of this module work on the caller's memory and allocate
-//! nothing; [`Plan`] owns its memory. A [`Refusal`] has a number and says what it means.
+//! nothing; [`Plan`] owns its memory. A [`Refusal`] has a number and says what it means. A mesh may also come as a Matrix
+//! Market text, which [`OwnedMesh`] reads.
 //!
 //! ```
-//! use ndplan::{Mesh, Pair, Plan, Refusal};
+//! use ndplan::{Mesh, OwnedMesh, Pair, Plan, Refusal};
 //!
 //! // The path 0-1-2-3-4.
 //! let mesh = Mesh { nodes: 5, starts: &[0, 1, 3, 5, 7, 8], neighbours: &[1, 0, 2, 1, 3, 2, 4, 3] };
@@ -19,6 +20,10 @@
 //! let file = plan.write()?;
 //! assert_eq!(file.len(), 59);
 //! assert_eq!(Plan::read(&file)?, plan);
+//!
+//! let text = b"%%MatrixMarket matrix coordinate pattern symmetric\n5 5 4\n2 1\n3 2\n4 3\n5 4\n";
+//! let mesh = OwnedMesh::read_matrix_market(text)?;
+//! assert_eq!(Plan::of(&mesh.lists())?, plan);
 //! # Ok::<(), Refusal>(())
 //! ```
 
@@ -27,7 +32,7 @@ pub mod ffi;
 mod owned;
 mod refusal;
 
-pub use owned::Plan;
+pub use owned::{OwnedMesh, Plan};
 use refusal::accepted;
 pub use refusal::{family, Family, Refusal};
 
@@ -46,6 +51,21 @@ pub struct Mesh<'a> {
     pub nodes: usize,
     pub starts: &'a [u32],
     pub neighbours: &'a [u16],
+}
+
+/// Memory for a mesh of n nodes: room for n + 1 starts, and in `neighbours` for as many as there are entries.
+/// The mesh goes to the front of each slice; entries past those used stay as they were.
+#[derive(Debug)]
+pub struct MeshBuffers<'a> {
+    pub starts: &'a mut [u32],
+    pub neighbours: &'a mut [u16],
+}
+
+/// How much of the buffers a mesh uses: one start more than nodes, and so many neighbour entries.
+#[derive(Clone, Copy, Debug, PartialEq, Eq)]
+pub struct MeshCounts {
+    pub nodes: usize,
+    pub entries: usize,
 }
 
 /// Memory for a plan of n nodes: room for n entries, n + 1 in `column_starts`, and in `rows` as many as there are slots.
@@ -206,6 +226,30 @@ pub fn rows<'r>(layout: &Layout<'_, 'r>, j: usize) -> Result<&'r [u16], Refusal>
     let start = reply.start as usize;
     // The library promises a place inside the rows. Were the promise broken, this would rather end the program than show too few.
     Ok(&rows[start..start + reply.count as usize])
+}
+
+/// Reads the mesh of a Matrix Market text, the whole of `text`, into `buffers`. Refuses with 23, 24, 25, 1, 3 and 8.
+///
+/// The text is of the coordinate pattern symmetric kind. Its first line is `%%MatrixMarket matrix coordinate pattern
+/// symmetric`, the five words in any letter case; lines that begin with % may follow; then come the size line (rows,
+/// columns, which are as many, and pairs) and the pairs, one to a line: a row number and a column number, counted from 1,
+/// the row number at least the column number. A line ends at a line feed, with or without a carriage return before it, or
+/// at the text's end. Spaces or tabs separate words and may stand at a line's ends; lines after the first that hold
+/// nothing else are skipped. Pairs come in any order, each once; diagonal ones are counted and dropped.
+pub fn read_matrix_market(text: &[u8], buffers: &mut MeshBuffers) -> Result<MeshCounts, Refusal> {
+    // SAFETY: as in `plan`.
+    let reply = unsafe {
+        ffi::ndp_matrix_market(
+            text.as_ptr(),
+            text.len(),
+            buffers.starts.as_mut_ptr(),
+            buffers.starts.len(),
+            buffers.neighbours.as_mut_ptr(),
+            buffers.neighbours.len(),
+        )
+    };
+    accepted(reply.refusal)?;
+    Ok(MeshCounts { nodes: reply.nodes as usize, entries: reply.entries as usize })
 }
 
 /// The counts of a reply to planning or reading.

@@ -1,8 +1,35 @@
-//! A plan that owns its memory.
+//! A mesh and a plan that own their memory.
 
-use crate::{plan, read, rows, slot, write};
-use crate::{Buffers, Counts, Layout, Mesh, Pair, PlanView, Refusal};
-use crate::{MAX_NODES, MAX_SLOTS};
+use crate::{plan, read, read_matrix_market, rows, slot, write};
+use crate::{Buffers, Counts, Layout, Mesh, MeshBuffers, Pair, PlanView, Refusal};
+use crate::{MAX_ENTRIES, MAX_NODES, MAX_SLOTS};
+
+/// A mesh with its own memory, each list as long as it is used.
+#[derive(Clone, Debug, PartialEq, Eq)]
+pub struct OwnedMesh {
+    starts: Vec<u32>,
+    neighbours: Vec<u16>,
+}
+
+impl OwnedMesh {
+    /// Reads a Matrix Market text, as [`read_matrix_market`] does. Refuses with 23, 24, 25, 1 and 3.
+    pub fn read_matrix_market(text: &[u8]) -> Result<OwnedMesh, Refusal> {
+        let mut starts = vec![0; MAX_NODES + 1];
+        // A pair takes four bytes, the last one of a text three, and gives two entries.
+        let mut neighbours = vec![0; MAX_ENTRIES.min(text.len() / 2 + 1)];
+        let counts = read_matrix_market(text, &mut MeshBuffers { starts: &mut starts, neighbours: &mut neighbours })?;
+        starts.truncate(counts.nodes + 1);
+        starts.shrink_to_fit();
+        neighbours.truncate(counts.entries);
+        neighbours.shrink_to_fit();
+        Ok(OwnedMesh { starts, neighbours })
+    }
+
+    /// The mesh as it is lent to [`Plan::of`] and [`plan`].
+    pub fn lists(&self) -> Mesh<'_> {
+        Mesh { nodes: self.starts.len() - 1, starts: &self.starts, neighbours: &self.neighbours }
+    }
+}
 
 /// A plan with its own memory, each list as long as it is used.
 #[derive(Clone, Debug, PartialEq, Eq)]

@@ -30,7 +30,7 @@ fn texts() {
     for number in (0..=40).chain([65536 + 7, u32::MAX]) {
         assert_eq!(Refusal(number).text(), plain::header_text(number), "text of {number}");
     }
-    let ends = [0, 1, 22, 23].map(|number| Refusal(number).text() == "unknown refusal");
+    let ends = [0, 1, 25, 26].map(|number| Refusal(number).text() == "unknown refusal");
     assert_eq!(ends, [false, false, false, true]);
 }
 

@@ -1,6 +1,7 @@
 //! The C interface where a slice is a null pointer with length 0, and the lifetime of shown rows.
 
-use ndplan::ffi::{ndp_plan, ndp_read, ndp_rows, ndp_slot, ndp_write, NdpPlan, NdpRows, NdpSlot, NdpWritten};
+use ndplan::ffi::{ndp_matrix_market, ndp_plan, ndp_read, ndp_rows, ndp_slot, ndp_write};
+use ndplan::ffi::{NdpMesh, NdpPlan, NdpRows, NdpSlot, NdpWritten};
 use ndplan::{Layout, Plan, Refusal};
 use std::ptr::{null, null_mut};
 
@@ -56,6 +57,21 @@ fn other_functions_without_memory() {
     unsafe {
         assert_eq!(ndp_slot(1, starts.as_ptr(), 2, null(), 0, 0, 0), NdpSlot { refusal: 0, kind: 2, slot: 0 });
         assert_eq!(ndp_rows(1, starts.as_ptr(), 2, null(), 0, 0), NdpRows { refusal: 0, start: 0, count: 0 });
+    }
+}
+
+#[test]
+fn texts_without_memory() {
+    let text = b"%%MatrixMarket matrix coordinate pattern symmetric\n1 1 1\n1 1";
+    let mut starts = [7u32, 7];
+    // SAFETY: each pointer and length is that of an array, or null with length 0.
+    unsafe {
+        let nothing = ndp_matrix_market(null(), 0, null_mut(), 0, null_mut(), 0);
+        assert_eq!(nothing, NdpMesh { refusal: 23, nodes: 0, entries: 0 });
+        let short = ndp_matrix_market(text.as_ptr(), text.len(), null_mut(), 0, null_mut(), 0);
+        assert_eq!(short, NdpMesh { refusal: 8, nodes: 0, entries: 0 });
+        let one = ndp_matrix_market(text.as_ptr(), text.len(), starts.as_mut_ptr(), 2, null_mut(), 0);
+        assert_eq!((one, starts), (NdpMesh { refusal: 0, nodes: 1, entries: 0 }, [0, 0]));
     }
 }
 

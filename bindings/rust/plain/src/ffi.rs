@@ -29,6 +29,13 @@ pub struct NdpRows {
     pub count: u32,
 }
 
+#[repr(C)]
+pub struct NdpMesh {
+    pub refusal: u32,
+    pub nodes: u32,
+    pub entries: u32,
+}
+
 extern "C" {
     pub fn plain_plan(
         n: usize,
@@ -103,6 +110,15 @@ extern "C" {
         rows_length: usize,
         j: usize,
     ) -> NdpRows;
+
+    pub fn plain_matrix_market(
+        text: *const u8,
+        text_length: usize,
+        starts: *mut u32,
+        starts_length: usize,
+        neighbours: *mut u16,
+        neighbours_length: usize,
+    ) -> NdpMesh;
 
     pub fn plain_family(number: u32) -> u32;
 

@@ -1,14 +1,14 @@
-//! The plain C program of `bench/`, a planner, reader, writer and answerer of questions that was written apart from the
-//! library, for the tests: each function takes lists and gives lists or the number of a refusal.
+//! The plain C program of `bench/`, a planner, reader of files and texts, writer and answerer of questions that was written
+//! apart from the library, for the tests: each function takes lists and gives lists or the number of a refusal.
 
 mod ffi;
 
-use ffi::{NdpPlan, NdpRows, NdpSlot, NdpWritten};
+use ffi::{NdpMesh, NdpPlan, NdpRows, NdpSlot, NdpWritten};
 use std::ffi::CStr;
 use std::sync::{Mutex, MutexGuard, PoisonError};
 
 /// A mesh as lent.
-#[derive(Clone, Debug)]
+#[derive(Clone, Debug, PartialEq)]
 pub struct MeshLists {
     pub n: usize,
     pub starts: Vec<u32>,
@@ -214,6 +214,27 @@ pub fn column(n: usize, starts: &[u32], rows: &[u16], j: usize) -> Result<(u32, 
     let NdpRows { refusal, start, count } =
         unsafe { ffi::plain_rows(n, starts.as_ptr(), starts.len(), rows.as_ptr(), rows.len(), j) };
     accepted(refusal, (start, count))
+}
+
+/// Reads a Matrix Market text into so many starts and neighbours.
+pub fn matrix_market(text: &[u8], starts: usize, neighbours: usize) -> Result<MeshLists, u32> {
+    let (mut starts, mut neighbours) = (vec![0; starts], vec![0; neighbours]);
+    let turn = turn();
+    // SAFETY: as in `plan`.
+    let NdpMesh { refusal, nodes, entries } = unsafe {
+        ffi::plain_matrix_market(
+            text.as_ptr(),
+            text.len(),
+            starts.as_mut_ptr(),
+            starts.len(),
+            neighbours.as_mut_ptr(),
+            neighbours.len(),
+        )
+    };
+    drop(turn);
+    starts.truncate(nodes as usize + 1);
+    neighbours.truncate(entries as usize);
+    accepted(refusal, MeshLists { n: nodes as usize, starts, neighbours })
 }
 
 /// 1 for a mesh, 2 for a file, 3 for the program, 4 for a question, 0 for none.
