@@ -1,4 +1,4 @@
-pub mod Keys
+pub mod KeyOrder
 pub mod Joining
 pub mod Filling
 pub mod FirstKeys

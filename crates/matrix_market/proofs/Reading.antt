@@ -25,7 +25,7 @@ use Rattle.sorting.specs.Sorted.{sorted}
 use Rattle.sorting.proofs.Sorted.{sorted-alike}
 use Rattle.matrix_market.specs.declared.size.Size.{Size}
 use Rattle.matrix_market.specs.Lines.{HeadOf, keysIn}
-use Rattle.matrix_market.proofs.Keys.{keys-bad, keys-lists}
+use Rattle.matrix_market.proofs.KeyOrder.{keys-bad, keys-lists}
 use Rattle.matrix_market.proofs.Blocks.{sorted-ascends}
 
 module _ (text : List ℕ) where

@@ -1,5 +1,6 @@
 // The reader of Matrix Market texts, "the coordinate pattern symmetric kind": checks 23, 24, 25, then 1, 3 and 8, then the mesh in the lent buffers.
 mod banner;
+mod keys;
 mod lists;
 mod pairs;
 mod repeats;
@@ -49,8 +50,9 @@ fn made_refusal(n: usize, entries: usize, starts: usize, neighbours: usize) -> u
 }
 
 // Reading a text: checks 23, 24, 25, 1, 3 and 8 in this order, then the mesh in the lent buffers. Nothing is written before all checks have passed.
-// O(bytes + pairs · log pairs) for a text of at most 36,864 pairs, as an accepted one is; a longer one is searched for a pair given again in
-// (pairs / 36,864) runs. It works in less than 320 KB of stack, nearly all of it the keys of one block.
+// O(36,864 + bytes) for an accepted text whose pairs come sorted or are spread evenly over the columns, O(pairs^1.5) more at most; it is one block. A
+// text of more than 36,864 pairs is searched for a pair given again in (pairs / 36,864) runs. It works in less than 320 KB of stack, nearly all of it
+// the keys of one block.
 pub fn read(text: &[u8], starts: &mut [u32], neighbours: &mut [u16]) -> MeshAnswer
     ensures { λ r. ⌜ TextRead (now (text .entry)) r (meshBuffers (now (starts .entry)) (now (neighbours .entry))) (meshBuffers (now (starts .exit)) (now (neighbours .exit))) ⌝ }
 {

@@ -1,13 +1,13 @@
 // The lines of the pairs, one after the other.
+use crate::keys::key;
 use lexer::line_over;
 use lexer::number;
 ghost use mathlib.Core.Path.{_≡_};
 ghost use mathlib.Core.Bool.{cond, _||_};
 ghost use Prim.Native.Nat.{_+_, _≤_, _<_};
 ghost use lib.ListN.{length, set};
-ghost use Rattle.plan.specs.MatrixMarket.{maxNumber, badPair};
+ghost use Rattle.plan.specs.MatrixMarket.{badPair};
 ghost use Rattle.plan.specs.AcceptedTexts.{offDiagonal};
-ghost use Rattle.theory.specs.Keys.{keyOf};
 ghost use Rattle.lexer.specs.Suffixes.{linesAt};
 ghost use Rattle.matrix_market.specs.Lines.{PairAt, Surveyed};
 
@@ -100,14 +100,6 @@ impl Tally {
             links: self.links + link(row, column),
         }
     }
-}
-
-// A pair as one number, its key. O(1).
-pub(crate) fn key(row: u64, column: u64) -> u64
-    requires { ⌜ (row ≤ maxNumber) × (column ≤ maxNumber) ⌝ }
-    ensures { λ r. ⌜ r ≡ keyOf (row, column) ⌝ }
-{
-    column * 4294967296 + row
 }
 
 // A key at a place, if there is such a place. O(1).

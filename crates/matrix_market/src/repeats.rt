@@ -1,6 +1,6 @@
 // Check 25, "a pair given again, diagonal ones too": the pairs block by block. A block's keys are sorted and compared with one another, then each key
 // behind the block is looked up in it. So a text of any length is searched in the memory of one block, by (pairs / block) runs over what is left of it.
-use crate::pairs::key;
+use crate::keys::key;
 use crate::pairs::read_pair;
 use sorting::contains;
 use sorting::has_repeat;
@@ -63,7 +63,7 @@ fn meets(text: &[u8], at: usize, keys: &[u64]) -> bool
     false
 }
 
-// The first keys sorted, and whether one of them stands there twice. O(count · log count) where they come in no order.
+// The first keys sorted, and whether one of them stands there twice. As `sort`: O(count) for keys that are spread evenly, O(count^1.5) at most.
 fn sort_block(count: usize, keys: &mut [u64]) -> bool
     requires { ⌜ count ≤ length (now keys) ⌝ }
     ensures { λ r. ⌜ (r ≡ twice (take count (now (keys .entry)))) × (now (keys .exit) ≡ written (sorted (take count (now (keys .entry)))) (now (keys .entry))) ⌝ }
@@ -101,7 +101,7 @@ fn crowded(n: u64, pairs: u64) -> bool
 }
 
 // Check 25, where 23 and 24 found no fault and the keys of the pairs, as many as the buffer holds, stand in it. Where it holds all of them they are
-// sorted afterwards. O(bytes + pairs · log pairs) for one block, and for more as above.
+// sorted afterwards. As `sort_block` for one block, and for more as above.
 pub(crate) fn repeated(text: &[u8], at: usize, n: u64, pairs: usize, keys: &mut [u64]) -> bool
     requires { ⌜ (at ≤ length (now text)) × (0 < length (now keys)) × (n ≤ maxNumber) × (pairs ≤ maxNumber) ⌝ }
     requires { ⌜ (every (holdsNumbers 2) (linesAt (now text) at) ≡ true) × (exists (badPair n) (pairsIn (linesAt (now text) at)) ≡ false) × (pairs ≡ length (linesAt (now text) at)) ⌝ }

@@ -41,7 +41,7 @@ fn size_line(text: &[u8], at: usize) -> usize
     i
 }
 
-// a line that is no size line
+// A line that is no size line. O(1).
 fn no_size(at: usize) -> Size
     ensures { λ r. ⌜ r ≡ record { good = false; rows = 0; columns = 0; pairs = 0; next = at } ⌝ }
 {
