@@ -1,30 +1,32 @@
 -- Reading as a whole: what each check of a text finds, by what was read of it, and what is then handed out.
 use mathlib.Core.Path.{_≡_, refl, sym, ap, ap₂, _∙_}
-use mathlib.Core.Logic.{_≢_}
+use mathlib.Core.Logic.{inl, inr, _≢_}
 use mathlib.Core.Bool.{Bool, true, false, not, _&&_, _||_}
 use mathlib.Core.List.{List, [], _∷_, map, flatten}
 use Prim.Native.Nat.{ℕ, suc, _+_, _*_, _≤_, _<_}
 use native.Mathlib.Omega.{arith}
 use lib.Dec.{ltb, eqb}
 use lib.ListN.{length, getD, length-map}
-use borrow.Author.Tests.{eq-eqb, ne-eqb, ltb-false, not-false}
+use borrow.Author.Tests.{eqb-true, ltb-false, not-false}
 use Rattle.plan.specs.declared.MeshAnswer.the-variants.{Accepted, Refused}
 use Rattle.plan.specs.declared.MeshCounts.{MeshCounts}
 use Rattle.plan.specs.Lists.{exists, every, ascending, written}
 use Rattle.plan.specs.Refusals.{firstFault}
 use Rattle.plan.specs.Mesh.{maxNodes, maxEntries, tooManyEntries}
-use Rattle.plan.specs.MatrixMarket.{wordLines, isBanner, holdsNumbers, sizeLine, rowCount, columnCount, statedPairs, pairLines, pairOf, pairsOf, badText, badPair, badMatrix, repeatedPair, listsOf, meshOf, textMesh, MeshBuffers, meshBuffers, MeshCapacity, meshCapacity, meshBuffersTooShort, madeChecks, textChecks, handMesh, readingText, fillMesh, MeshFilled, TextRead}
+use Rattle.plan.specs.MatrixMarket.{Line, wordLines, isBanner, holdsNumbers, sizeLine, rowCount, columnCount, statedPairs, pairLines, pairOf, pairsOf, badText, badPair, badMatrix, repeatedPair, listsOf, meshOf, textMesh, MeshBuffers, meshBuffers, MeshCapacity, meshCapacity, meshBuffersTooShort, madeChecks, textChecks, handMesh, readingText, fillMesh, MeshFilled, TextRead}
 use Rattle.theory.specs.Keys.{pairOfKey}
-use Rattle.theory.proofs.Bools.{or-left, or-right, or-neither, or-false-left, or-false-right}
-use Rattle.theory.proofs.Refusals.{fault-here, fault-later}
+use Rattle.theory.proofs.Bools.{or-left, or-false-left, or-false-right, tested}
+use Rattle.theory.proofs.Refusals.{fault-here, fault-later, first-nil}
 use Rattle.theory.proofs.Checked.{node-count}
 use Rattle.theory.proofs.TextMesh.{TextPassed, text-pairs-good}
 use Rattle.theory.proofs.TextEntries.{entries-by-pairs, diagonal-few}
 use Rattle.theory.proofs.TextRepeats.{text-narrow, text-again}
 use Rattle.sorting.specs.Sorted.{sorted}
 use Rattle.sorting.proofs.Sorted.{sorted-alike}
+use Rattle.lexer.specs.Suffixes.{linesAt}
 use Rattle.matrix_market.specs.declared.size.Size.{Size}
-use Rattle.matrix_market.specs.Lines.{HeadOf, keysIn}
+use Rattle.matrix_market.specs.declared.pairs.Tally.{Tally}
+use Rattle.matrix_market.specs.Lines.{HeadOf, pairsIn, keysIn, wrongLines, wrongMatrix, pairsChecks, Surveyed}
 use Rattle.matrix_market.proofs.KeyOrder.{keys-bad, keys-lists}
 use Rattle.matrix_market.proofs.Blocks.{sorted-ascends}
 
@@ -51,38 +53,36 @@ module _ (text : List ℕ) where
   neither true false h = sym h
   neither false b h = sym h
 
-  -- 23: the head is none, a line is none of a pair, or their number is another
+  -- 23: the head is none
   pub kind-head : (r : Size) → HeadOf text r → r .good ≡ false → badText text ≡ true
   unfolding badText
   kind-head r h g = or-left (noBanner || noSize || noPairs) _ (or-left (noBanner || noSize) _ (both (isBanner (getD (wordLines text) 0 [])) _ (sym (h .good) ∙ g)))
 
-  pub kind-lines : every (holdsNumbers 2) (pairLines text) ≡ false → badText text ≡ true
-  unfolding badText
-  kind-lines h = or-left (noBanner || noSize || noPairs) _ (or-right (noBanner || noSize) _ (ap not h))
+  -- with a head, 23 and 24 are what the lines of the pairs tell
+  module _ (r : Size) (h : HeadOf text r) (g : r .good ≡ true) (n : ℕ) (t : Tally) (found left : List ℕ) (same : n ≡ r .rows) (v : Surveyed (linesAt text (r .next)) n t found left) where
+    read-lines : every (holdsNumbers 2) (pairLines text) ≡ t .good
+    read-lines = ap (every (holdsNumbers 2)) (sym (h .lines g)) ∙ sym (v .good)
 
-  pub kind-count : length (pairLines text) ≢ statedPairs text → badText text ≡ true
-  unfolding badText
-  kind-count h = or-right (noBanner || noSize || noPairs) _ (ap not (ne-eqb (length (pairLines text)) (statedPairs text) h))
+    pub text-lines : badText text ≡ wrongLines r t
+    unfolding badText
+    text-lines =
+        ap₂ (λ (a b : Bool). (a || not b) || miscounted) (neither (isBanner (getD (wordLines text) 0 [])) _ (sym (h .good) ∙ g)) read-lines
+        ∙ elim (tested (t .good)) [
+          | inl y ↦ ap₂ (λ (p q : ℕ). not (t .good) || not (eqb p q))
+              (sym (ap (λ (s : Tally). s .pairs) (v .told y) ∙ ap length (h .lines g))) (sym (h .pairs g .0))
+          | inr f ↦ ap (λ (b : Bool). not b || miscounted) f ∙ sym (ap (λ (b : Bool). not b || not (eqb (t .pairs) (r .pairs))) f)
+        ]
 
-  pub kind-good : (r : Size) → HeadOf text r → r .good ≡ true → every (holdsNumbers 2) (pairLines text) ≡ true → length (pairLines text) ≡ statedPairs text → badText text ≡ false
-  unfolding badText
-  kind-good r h g lines count =
-      or-neither (noBanner || noSize || noPairs) _
-      (or-neither (noBanner || noSize) _ (neither (isBanner (getD (wordLines text) 0 [])) _ (sym (h .good) ∙ g)) (ap not lines))
-      (ap not (eq-eqb (length (pairLines text)) (statedPairs text) count))
+    pub text-matrix : t .good ≡ true → badMatrix text ≡ wrongMatrix r t
+    unfolding badMatrix pairsOf
+    text-matrix y =
+        ap₂ (λ (a b : Bool). not a || b)
+        (ap₂ eqb (sym (h .rows g .0)) (sym (h .columns g)))
+        (sym (ap (λ (s : Tally). s .bad) (v .told y) ∙ ap₂ (λ (k : ℕ) (l : List Line). exists (badPair k) (pairsIn l)) (same ∙ h .rows g .0) (h .lines g)))
 
-  -- 24
-  pub not-square : rowCount text ≢ columnCount text → badMatrix text ≡ true
-  unfolding badMatrix
-  not-square h = or-left (not (eqb (rowCount text) (columnCount text))) _ (ap not (ne-eqb (rowCount text) (columnCount text) h))
-
-  pub pair-bad : exists (badPair (rowCount text)) (pairsOf text) ≡ true → badMatrix text ≡ true
-  unfolding badMatrix
-  pair-bad h = or-right (not (eqb (rowCount text) (columnCount text))) _ h
-
-  pub matrix-good : rowCount text ≡ columnCount text → exists (badPair (rowCount text)) (pairsOf text) ≡ false → badMatrix text ≡ false
-  unfolding badMatrix
-  matrix-good e h = or-neither (not (eqb (rowCount text) (columnCount text))) _ (ap not (eq-eqb (rowCount text) (columnCount text) e)) h
+    -- the lines are good, and as many as stated
+    pub lines-good : wrongLines r t ≡ false → (t .good ≡ true) × (t .pairs ≡ r .pairs)
+    lines-good e = (not-false _ (or-false-left (not (t .good)) _ e), eqb-true (t .pairs) (r .pairs) (not-false _ (or-false-right (not (t .good)) _ e)))
 
   -- ---- the first fault
 
@@ -103,6 +103,20 @@ module _ (text : List ℕ) where
         → firstFault (textChecks text room) ≡ firstFault (madeChecks (textMesh text) room)
     unfolding textChecks
     fault-made k m h = fault-later 23 (badText text) _ k ∙ fault-later 24 (badMatrix text) _ m ∙ fault-later 25 (repeatedPair text) _ h
+
+  -- where the lines of the pairs are at fault, theirs is the first
+  module _ (room : MeshCapacity) (r : Size) (h : HeadOf text r) (g : r .good ≡ true) (n : ℕ) (t : Tally) (found left : List ℕ) (same : n ≡ r .rows) (v : Surveyed (linesAt text (r .next)) n t found left) where
+    pub fault-pairs : firstFault (pairsChecks r t) ≢ 0 → firstFault (textChecks text room) ≡ firstFault (pairsChecks r t)
+    unfolding pairsChecks
+    fault-pairs some = elim (tested (wrongLines r t)) [
+      | inl y ↦ fault-23 room (text-lines r h g n t found left same v ∙ y) ∙ sym (fault-here 23 (wrongLines r t) _ y)
+      | inr f ↦ (let kind = text-lines r h g n t found left same v ∙ f in
+          let matrix = text-matrix r h g n t found left same v (lines-good r h g n t found left same v f .0) in
+          elim (tested (wrongMatrix r t)) [
+            | inl y ↦ fault-24 room kind (matrix ∙ y) ∙ sym (fault-later 23 (wrongLines r t) _ f ∙ fault-here 24 (wrongMatrix r t) _ y)
+            | inr e ↦ absurd (some (fault-later 23 (wrongLines r t) _ f ∙ fault-later 24 (wrongMatrix r t) _ e ∙ first-nil))
+          ])
+    ]
 
   -- ---- what is handed out
 

@@ -1,10 +1,12 @@
 -- What is read of the lines of a text: the size line, a line of the pairs, and all of these lines together.
 use mathlib.Core.Path.{_≡_}
-use mathlib.Core.Bool.{Bool, true, not, _&&_}
-use mathlib.Core.List.{List, [], map}
+use mathlib.Core.Bool.{Bool, true, not, _&&_, _||_}
+use mathlib.Core.List.{List, [], _∷_, map}
 use Prim.Native.Nat.{ℕ, _≤_}
+use lib.Dec.{eqb}
 use lib.ListN.{length, take, drop, getD}
 use Rattle.plan.specs.Lists.{exists, every, keep, written}
+use Rattle.plan.specs.Refusals.{Checks}
 use Rattle.plan.specs.MatrixMarket.{notEmpty, Line, wordLines, isBanner, maxNumber, holdsNumbers, numberAt, sizeLine, rowCount, columnCount, statedPairs, pairLines, Pair, pairOf, badPair}
 use Rattle.plan.specs.AcceptedTexts.{offDiagonal}
 use Rattle.theory.specs.Keys.{keyOf}
@@ -54,6 +56,16 @@ tallyOf n lines = record {
   bad = exists (badPair n) (pairsIn lines);
   links = length (keep offDiagonal (pairsIn lines));
 }
+
+-- what checks 23 and 24 ask of the lines of the pairs, by what was read
+abbrev pub wrongLines : Size → Tally → Bool
+wrongLines size tally = not (tally .good) || not (eqb (tally .pairs) (size .pairs))
+
+abbrev pub wrongMatrix : Size → Tally → Bool
+wrongMatrix size tally = not (eqb (size .rows) (size .columns)) || tally .bad
+
+unfoldable pub pairsChecks : Size → Tally → Checks
+pairsChecks size tally = (23, wrongLines size tally) ∷ (24, wrongMatrix size tally) ∷ []
 
 -- all lines of the pairs: whether each is good, and if so what they hold, and their keys, as many as the buffer has places, at its front
 pub record Surveyed (lines : List Line) (n : ℕ) (r : Tally) (found left : List ℕ) : Type 0 where

@@ -7,8 +7,10 @@ mod repeats;
 mod size;
 
 use crate::lists::write_lists;
+use crate::pairs::Tally;
 use crate::pairs::survey;
 use crate::repeats::repeated;
+use crate::size::Size;
 use crate::size::read_head;
 use mesh::bad_node_count;
 use plan::MeshAnswer;
@@ -19,6 +21,7 @@ ghost use lib.ListN.{length};
 ghost use Rattle.plan.specs.Refusals.{firstFault};
 ghost use Rattle.plan.specs.Mesh.{Mesh};
 ghost use Rattle.plan.specs.MatrixMarket.{meshBuffers, meshLengths, madeChecks, TextRead};
+ghost use Rattle.matrix_market.specs.Lines.{wrongLines, wrongMatrix, pairsChecks};
 
 // the most pairs that an accepted text has: one for every two entries, and a diagonal one for every node
 const BLOCK: usize = Plan::ENTRIES / 2 + Plan::NODES;
@@ -28,6 +31,39 @@ fn no_keys() -> [u64; BLOCK]
     ensures { λ r. ⌜ length r ≡ 36864 ⌝ }
 {
     [0; BLOCK]
+}
+
+// Check 23 of the lines of the pairs: one holds no pair, or they are not as many as stated. O(1).
+fn wrong_lines(size: Size, tally: Tally) -> bool
+    ensures { λ r. ⌜ r ≡ wrongLines size tally ⌝ }
+{
+    if !tally.good {
+        return true;
+    }
+    tally.pairs as u64 != size.pairs
+}
+
+// Check 24: the matrix is not square, or a pair is bad. O(1).
+fn wrong_matrix(size: Size, tally: Tally) -> bool
+    ensures { λ r. ⌜ r ≡ wrongMatrix size tally ⌝ }
+{
+    if size.rows != size.columns {
+        return true;
+    }
+    tally.bad
+}
+
+// The first refusal of checks 23 and 24 of a text whose head is good, 0 for none. O(1).
+fn pairs_refusal(size: Size, tally: Tally) -> u32
+    ensures { λ r. ⌜ r ≡ firstFault (pairsChecks size tally) ⌝ }
+{
+    if wrong_lines(size, tally) {
+        return 23;
+    }
+    if wrong_matrix(size, tally) {
+        return 24;
+    }
+    0
 }
 
 // The first refusal of checks 1, 3 and 8 of a mesh that is made, 0 for none, by its numbers of nodes and entries and the lengths of the buffers. O(1).
@@ -62,19 +98,11 @@ pub fn read(text: &[u8], starts: &mut [u32], neighbours: &mut [u16]) -> MeshAnsw
     }
     let mut keys = no_keys();
     let tally = survey(text, size.next, size.rows, &mut keys);
+    let wrong = pairs_refusal(size, tally);
+    if wrong != 0 {
+        return MeshAnswer::Refused(wrong);
+    }
     let pairs = tally.pairs;
-    if !tally.good {
-        return MeshAnswer::Refused(23);
-    }
-    if pairs as u64 != size.pairs {
-        return MeshAnswer::Refused(23);
-    }
-    if size.rows != size.columns {
-        return MeshAnswer::Refused(24);
-    }
-    if tally.bad {
-        return MeshAnswer::Refused(24);
-    }
     if repeated(text, size.next, size.rows, pairs, &mut keys) {
         return MeshAnswer::Refused(25);
     }

@@ -1,9 +1,10 @@
 -- `read` meets its contract.
 use mathlib.Core.Path.{_≡_, refl, sym, ap, ap₂, _∙_}
-use mathlib.Core.Bool.{Bool, true, false}
+use mathlib.Core.Bool.{true, false, not}
 use mathlib.Core.List.{List, map, flatten}
 use Prim.Native.Nat.{ℕ, _*_, _≤_, _<_}
 use native.Mathlib.Omega.{arith}
+use lib.Dec.{eqb}
 use lib.ListN.{length, take, length-map, length-take}
 use lib.Seq.{take-all, length-take-le}
 use borrow.Author.Needs.{needs}
@@ -15,15 +16,17 @@ use Rattle.plan.specs.Mesh.{Mesh, maxEntries}
 use Rattle.plan.specs.MatrixMarket.{Line, maxNumber, holdsNumbers, rowCount, columnCount, statedPairs, pairLines, pairOf, pairsOf, badText, badPair, badMatrix, givenAgain, repeatedPair, listsOf, meshOf, textMesh, MeshBuffers, meshBuffers, meshCapacity, textChecks, TextRead}
 use Rattle.plan.specs.AcceptedTexts.{offDiagonal}
 use Rattle.theory.specs.Keys.{pairOfKey}
+use Rattle.theory.proofs.Bools.{or-false-right}
+use Rattle.theory.proofs.Refusals.{no-fault}
 use Rattle.theory.proofs.TextMesh.{TextPassed, text-passed}
 use Rattle.theory.proofs.TextEntries.{entries-by-pairs}
 use Rattle.theory.proofs.Written.{front-written}
 use Rattle.sorting.specs.Sorted.{sorted}
 use Rattle.lexer.specs.Suffixes.{linesAt}
 use Rattle.matrix_market.specs.declared.pairs.Tally.{Tally}
-use Rattle.matrix_market.specs.Lines.{pairsIn, keysIn, tallyOf}
+use Rattle.matrix_market.specs.Lines.{pairsIn, keysIn, tallyOf, wrongLines, wrongMatrix, pairsChecks}
 use Rattle.matrix_market.proofs.Runs.{links-few, keys-long}
-use Rattle.matrix_market.proofs.Reading.{kind-head, kind-lines, kind-count, kind-good, not-square, pair-bad, matrix-good, fault-23, fault-24, fault-25, fault-made, refused-read, accepted-read, text-nodes, text-starts, text-neighbours, text-entries, text-pairs, keys-ascend, keys-good, keys-mesh}
+use Rattle.matrix_market.proofs.Reading.{kind-head, text-lines, text-matrix, lines-good, fault-23, fault-pairs, fault-25, fault-made, refused-read, accepted-read, text-nodes, text-starts, text-neighbours, text-entries, text-pairs, keys-ascend, keys-good, keys-mesh}
 use Rattle.matrix_market.proofs.read.Statement.{statement}
 use Rattle.matrix_market.proofs.read.Tie as tie
 
@@ -64,194 +67,172 @@ lines c = linesAt (text (head c)) (head c .read-head .result .next)
 lines-pairs : (c : tie.After-survey) → lines c ≡ pairLines (text (head c))
 lines-pairs c = head c .read-head .ensures .lines (sized (sizedAt c))
 
+-- ---- 23 and 24
+
+abbrev headed : tie.After-pairs-refusal → tie.After-survey
+headed c = c .before .before
+
 returns-2 : tie.Need-returns-2
 returns-2 c =
-    let v = c .before .before .before in
+    let p = c .before in
+    let v = headed p in
     let h = head v in
-    refused h 23 (omega arith) (fault-23 (text h) _
-    (kind-lines (text h) (ap (every (holdsNumbers 2)) (sym (lines-pairs v)) ∙ sym (v .survey .ensures .good) ∙ not-true _ (c .if2 .taken))))
+    let e = p .pairs-refusal .ensures in
+    refused h (p .pairs-refusal .result) (omega (arith, c .if2 .taken))
+    (fault-pairs (text h) _ (h .read-head .result) (h .read-head .ensures) (sized (sizedAt v)) _ (v .survey .result) _ _ refl (v .survey .ensures) (λ z. c .if2 .taken (e ∙ z)) ∙ sym e)
+
+-- ---- both found no fault
 
 abbrev surveyed : tie.Else2 → tie.After-survey
-surveyed c = c .before .before .before
+surveyed c = headed (c .before)
+
+abbrev whole : tie.Else2 → tie.After-read-head
+whole c = head (surveyed c)
+
+right : (c : tie.Else2) → let t = surveyed c .survey .result in (wrongLines (whole c .read-head .result) t ≡ false) × (wrongMatrix (whole c .read-head .result) t ≡ false)
+unfolding pairsChecks
+right c =
+    let none = no-fault 23 _ _ (omega arith) (sym (c .before .pairs-refusal .ensures) ∙ c .if2 .left) in
+    (none .0, no-fault 24 _ _ (omega arith) (none .1) .0)
+
+listed : (c : tie.Else2) → let t = surveyed c .survey .result in (t .good ≡ true) × (t .pairs ≡ whole c .read-head .result .pairs)
+listed c =
+    let v = surveyed c in
+    let h = whole c in
+    lines-good (text h) (h .read-head .result) (h .read-head .ensures) (sized (sizedAt v)) _ (v .survey .result) _ _ refl (v .survey .ensures) (right c .0)
+
+kind : (c : tie.Else2) → badText (text (whole c)) ≡ false
+kind c =
+    let v = surveyed c in
+    let h = whole c in
+    text-lines (text h) (h .read-head .result) (h .read-head .ensures) (sized (sizedAt v)) _ (v .survey .result) _ _ refl (v .survey .ensures) ∙ right c .0
+
+matrix : (c : tie.Else2) → badMatrix (text (whole c)) ≡ false
+matrix c =
+    let v = surveyed c in
+    let h = whole c in
+    text-matrix (text h) (h .read-head .result) (h .read-head .ensures) (sized (sizedAt v)) _ (v .survey .result) _ _ refl (v .survey .ensures) (listed c .0) ∙ right c .1
+
+none-bad : (c : tie.Else2) → surveyed c .survey .result .bad ≡ false
+none-bad c = let r = whole c .read-head .result in or-false-right (not (eqb (r .rows) (r .columns))) _ (right c .1)
 
 told : (c : tie.Else2) → let v = surveyed c in v .survey .result ≡ tallyOf (head v .read-head .result .rows) (lines v)
-told c = surveyed c .survey .ensures .told (not-false _ (c .if2 .left))
+told c = surveyed c .survey .ensures .told (listed c .0)
 
-counted : (c : tie.Else2) → surveyed c .survey .result .pairs ≡ length (pairLines (text (head (surveyed c))))
+counted : (c : tie.Else2) → surveyed c .survey .result .pairs ≡ length (pairLines (text (whole c)))
 counted c = ap (λ (t : Tally). t .pairs) (told c) ∙ ap length (lines-pairs (surveyed c))
 
-stated : (c : tie.Else2) → let h = head (surveyed c) in (h .read-head .result .pairs ≡ statedPairs (text h)) × (h .read-head .result .pairs ≤ maxNumber)
-stated c = head (surveyed c) .read-head .ensures .pairs (sized (sizedAt (surveyed c)))
+rows : (c : tie.Else2) → (whole c .read-head .result .rows ≡ rowCount (text (whole c))) × (whole c .read-head .result .rows ≤ maxNumber)
+rows c = whole c .read-head .ensures .rows (sized (sizedAt (surveyed c)))
 
-returns-3 : tie.Need-returns-3
-returns-3 c =
-    let d = c .before .before in
-    let h = head (surveyed d) in
-    refused h 23 (omega arith) (fault-23 (text h) _ (kind-count (text h) (λ e. c .if3 .taken (counted d ∙ e ∙ sym (stated d .0)))))
-
--- ---- 23 found no fault
-
-abbrev counting : tie.Else3 → tie.Else2
-counting c = c .before .before
-
-abbrev whole : tie.Else3 → tie.After-read-head
-whole c = head (surveyed (counting c))
-
-good : (c : tie.Else3) → every (holdsNumbers 2) (lines (surveyed (counting c))) ≡ true
-good c = let d = counting c in sym (surveyed d .survey .ensures .good) ∙ not-false _ (d .if2 .left)
-
-kind : (c : tie.Else3) → badText (text (whole c)) ≡ false
-kind c =
-    let d = counting c in
-    let h = whole c in
-    kind-good (text h) (h .read-head .result) (h .read-head .ensures) (sized (sizedAt (surveyed d)))
-    (ap (every (holdsNumbers 2)) (sym (lines-pairs (surveyed d))) ∙ good c) (sym (counted d) ∙ c .if3 .left ∙ stated d .0)
-
-rows : (c : tie.Else3) → (whole c .read-head .result .rows ≡ rowCount (text (whole c))) × (whole c .read-head .result .rows ≤ maxNumber)
-rows c = whole c .read-head .ensures .rows (sized (sizedAt (surveyed (counting c))))
-
-columns : (c : tie.Else3) → whole c .read-head .result .columns ≡ columnCount (text (whole c))
-columns c = whole c .read-head .ensures .columns (sized (sizedAt (surveyed (counting c))))
-
-returns-4 : tie.Need-returns-4
-returns-4 c =
-    let d = c .before .before in
-    let h = whole d in
-    refused h 24 (omega arith) (fault-24 (text h) _ (kind d) (not-square (text h) (λ e. c .if4 .taken (rows d .0 ∙ e ∙ sym (columns d)))))
-
--- whether a pair is bad
-pairs-bad : (c : tie.Else3) → surveyed (counting c) .survey .result .bad ≡ exists (badPair (rowCount (text (whole c)))) (pairsOf (text (whole c)))
-unfolding pairsOf
-pairs-bad c =
-    ap (λ (t : Tally). t .bad) (told (counting c))
-    ∙ ap₂ (λ (n : ℕ) (l : List Line). exists (badPair n) (pairsIn l)) (rows c .0) (lines-pairs (surveyed (counting c)))
-
-returns-5 : tie.Need-returns-5
-returns-5 c =
-    let d = c .before .before .before in
-    let h = whole d in
-    refused h 24 (omega arith) (fault-24 (text h) _ (kind d) (pair-bad (text h) (sym (pairs-bad d) ∙ c .if5 .taken)))
-
--- ---- 24 found none
-
-abbrev square : tie.Else5 → tie.Else3
-square c = c .before .before .before
-
-matrix : (c : tie.Else5) → badMatrix (text (whole (square c))) ≡ false
-matrix c =
-    let d = square c in
-    matrix-good (text (whole d)) (sym (rows d .0) ∙ c .before .if4 .left ∙ columns d) (sym (pairs-bad d) ∙ c .if5 .left)
+good : (c : tie.Else2) → every (holdsNumbers 2) (lines (surveyed c)) ≡ true
+good c = sym (surveyed c .survey .ensures .good) ∙ listed c .0
 
 -- the keys' buffer holds a block
 block-long : (c : tie.After-survey) → length (c .survey .last .1 .1 .1 .0) ≡ 36864
 block-long c = c .survey .ensures .long ∙ c .before .before .no-keys .ensures
 
 -- the number of pairs is one of 32 bits, and so is that of links
-pairs-small : (c : tie.Else3) → surveyed (counting c) .survey .result .pairs ≤ maxNumber
-pairs-small c = omega (arith, c .if3 .left, stated (counting c) .1)
+pairs-small : (c : tie.Else2) → surveyed c .survey .result .pairs ≤ maxNumber
+pairs-small c = let v = surveyed c in omega (arith, listed c .1, whole c .read-head .ensures .pairs (sized (sizedAt v)) .1)
 
-links-small : (c : tie.Else3) → surveyed (counting c) .survey .result .links ≤ maxNumber
+links-small : (c : tie.Else2) → surveyed c .survey .result .links ≤ maxNumber
 links-small c =
-    let d = counting c in
-    let v = surveyed d in
-    omega (arith, pairs-small c, ap (λ (t : Tally). t .pairs) (told d), ap (λ (t : Tally). t .links) (told d), links-few (lines v))
+    omega (arith, pairs-small c, ap (λ (t : Tally). t .pairs) (told c), ap (λ (t : Tally). t .links) (told c), links-few (lines (surveyed c)))
 
 -- the keys that the search for a repeat begins with
-first-block : (c : tie.Else3) → let v = surveyed (counting c) in
+first-block : (c : tie.Else2) → let v = surveyed c in
     v .survey .result .pairs ≤ length (v .survey .last .1 .1 .1 .0) → take (v .survey .result .pairs) (v .survey .last .1 .1 .1 .0) ≡ keysIn (lines v)
 first-block c le =
-    let d = counting c in
-    let v = surveyed d in
+    let v = surveyed c in
     let left = v .survey .last .1 .1 .1 .0 in
-    let keys = v .survey .ensures .keys (not-false _ (d .if2 .left)) in
-    let many : length (keysIn (lines v)) ≡ v .survey .result .pairs = keys-long (lines v) ∙ sym (ap (λ (t : Tally). t .pairs) (told d)) in
+    let keys = v .survey .ensures .keys (listed c .0) in
+    let many : length (keysIn (lines v)) ≡ v .survey .result .pairs = keys-long (lines v) ∙ sym (ap (λ (t : Tally). t .pairs) (told c)) in
     let blank = v .before .before .no-keys .result in
     let all = take-all (length blank) (keysIn (lines v)) (omega (arith, le, many, v .survey .ensures .long)) in
     front-written (v .survey .result .pairs) (keysIn (lines v)) blank left (keys ∙ ap (λ (l : List ℕ). written l blank) all) many
 
 repeated-requires : tie.Need-repeated-requires
 repeated-requires c κs =
-    let e = c .before in
-    let d = square e in
-    let v = surveyed (counting d) in (
+    let d = c .before in
+    let v = surveyed d in (
       (head v .read-head .ensures .within (sized (sizedAt v)), omega (arith, block-long v), rows d .1, pairs-small d),
       (
-        (good d, sym (ap (λ (t : Tally). t .bad) (told (counting d))) ∙ e .if5 .left, ap (λ (t : Tally). t .pairs) (told (counting d))),
+        (good d, sym (ap (λ (t : Tally). t .bad) (told d)) ∙ none-bad d, ap (λ (t : Tally). t .pairs) (told d)),
         first-block d,
       ),
     )
 
-again : (c : tie.After-repeated) → let h = whole (square (c .before .before)) in c .repeated .result ≡ repeatedPair (text h)
+again : (c : tie.After-repeated) → let h = whole (c .before .before) in c .repeated .result ≡ repeatedPair (text h)
 unfolding repeatedPair pairsOf
-again c = c .repeated .ensures .0 .0 ∙ ap (λ (l : List Line). givenAgain (pairsIn l)) (lines-pairs (surveyed (counting (square (c .before .before)))))
+again c = c .repeated .ensures .0 .0 ∙ ap (λ (l : List Line). givenAgain (pairsIn l)) (lines-pairs (surveyed (c .before .before)))
 
-returns-6 : tie.Need-returns-6
-returns-6 c =
+returns-3 : tie.Need-returns-3
+returns-3 c =
     let r = c .before .before in
-    let e = r .before .before in
-    let d = square e in
+    let d = r .before .before in
     let h = whole d in
-    refused h 25 (omega arith) (fault-25 (text h) _ (kind d) (matrix e) (sym (again r) ∙ c .if6 .taken))
+    refused h 25 (omega arith) (fault-25 (text h) _ (kind d) (matrix d) (sym (again r) ∙ c .if3 .taken))
 
 -- ---- 25 found none
 
-abbrev searched : tie.Else6 → tie.Else5
+abbrev searched : tie.Else3 → tie.Else2
 searched c = c .before .before .before .before
 
-abbrev once : tie.Else6 → tie.After-read-head
-once c = whole (square (searched c))
+abbrev once : tie.Else3 → tie.After-read-head
+once c = whole (searched c)
 
-entries : (c : tie.Else6) → length (textMesh (text (once c)) .neighbours) ≡ 2 * surveyed (counting (square (searched c))) .survey .result .links
+entries : (c : tie.Else3) → length (textMesh (text (once c)) .neighbours) ≡ 2 * surveyed (searched c) .survey .result .links
 unfolding pairsOf
 entries c =
-    let d = square (searched c) in
-    entries-by-pairs (text (whole d)) (matrix (searched c)) (sym (again (c .before .before)) ∙ c .if6 .left)
-    ∙ ap (λ (k : ℕ). 2 * k) (sym (ap (λ (t : Tally). t .links) (told (counting d))
-    ∙ ap (λ (l : List Line). length (keep offDiagonal (pairsIn l))) (lines-pairs (surveyed (counting d)))))
+    let d = searched c in
+    entries-by-pairs (text (whole d)) (matrix d) (sym (again (c .before .before)) ∙ c .if3 .left)
+    ∙ ap (λ (k : ℕ). 2 * k) (sym (ap (λ (t : Tally). t .links) (told d)
+    ∙ ap (λ (l : List Line). length (keep offDiagonal (pairsIn l))) (lines-pairs (surveyed d))))
 
 fault : (c : tie.After-made-refusal) → let e = c .before .before in
     firstFault (textChecks (text (once e)) (meshCapacity (found (once e)))) ≡ c .made-refusal .result
 unfolding meshCapacity textMesh meshOf
 fault c =
     let e = c .before .before in
-    let d = square (searched e) in
+    let d = searched e in
     let h = once e in
-    fault-made (text h) (meshCapacity (found h)) (kind d) (matrix (searched e)) (sym (again (e .before .before)) ∙ e .if6 .left)
+    fault-made (text h) (meshCapacity (found h)) (kind d) (matrix d) (sym (again (e .before .before)) ∙ e .if3 .left)
     ∙ sym (c .made-refusal .ensures (textMesh (text h)) (sym (rows d .0)) (entries e))
 
-returns-7 : tie.Need-returns-7
-returns-7 c =
+returns-4 : tie.Need-returns-4
+returns-4 c =
     let m = c .before in
-    refused (once (m .before .before)) (m .made-refusal .result) (omega (arith, c .if7 .taken)) (fault m)
+    refused (once (m .before .before)) (m .made-refusal .result) (omega (arith, c .if4 .taken)) (fault m)
 
 -- ---- all checks are passed
 
-abbrev last : tie.Else7 → tie.Else6
+abbrev last : tie.Else4 → tie.Else3
 last c = c .before .before .before
 
-passed : (c : tie.Else7) → TextPassed (text (once (last c))) (meshCapacity (found (once (last c))))
-passed c = text-passed (text (once (last c))) (meshCapacity (found (once (last c)))) (fault (c .before) ∙ c .if7 .left)
+passed : (c : tie.Else4) → TextPassed (text (once (last c))) (meshCapacity (found (once (last c))))
+passed c = text-passed (text (once (last c))) (meshCapacity (found (once (last c)))) (fault (c .before) ∙ c .if4 .left)
 
 -- the pairs are one block, and their keys are sorted
-one-block : (c : tie.Else7) → let v = surveyed (counting (square (searched (last c)))) in v .survey .result .pairs ≤ length (v .survey .last .1 .1 .1 .0)
+one-block : (c : tie.Else4) → let v = surveyed (searched (last c)) in v .survey .result .pairs ≤ length (v .survey .last .1 .1 .1 .0)
 one-block c =
-    let d = square (searched (last c)) in
-    omega (arith, text-pairs (text (whole d)) (found (whole d)) (passed c), counted (counting d), block-long (surveyed (counting d)))
+    let d = searched (last c) in
+    omega (arith, text-pairs (text (whole d)) (found (whole d)) (passed c), counted d, block-long (surveyed d))
 
-block-room : (c : tie.Else7) → let r = last c .before .before in surveyed (counting (square (searched (last c)))) .survey .result .pairs ≤ length (r .repeated .last .1 .1 .1 .1 .0)
+block-room : (c : tie.Else4) → let r = last c .before .before in surveyed (searched (last c)) .survey .result .pairs ≤ length (r .repeated .last .1 .1 .1 .1 .0)
 block-room c = omega (arith, one-block c, last c .before .before .repeated .ensures .0 .1)
 
-sorted-keys : (c : tie.Else7) → let r = last c .before .before in let v = surveyed (counting (square (searched (last c)))) in
+sorted-keys : (c : tie.Else4) → let r = last c .before .before in let v = surveyed (searched (last c)) in
     take (v .survey .result .pairs) (r .repeated .last .1 .1 .1 .1 .0) ≡ sorted (keysIn (pairLines (text (once (last c)))))
 sorted-keys c =
     let r = last c .before .before in
-    r .repeated .ensures .1 (one-block c) ∙ ap (λ (l : List Line). sorted (keysIn l)) (lines-pairs (surveyed (counting (square (searched (last c))))))
+    r .repeated .ensures .1 (one-block c) ∙ ap (λ (l : List Line). sorted (keysIn l)) (lines-pairs (surveyed (searched (last c))))
 
 write-lists-requires : tie.Need-write-lists-requires
 unfolding meshOf
 write-lists-requires c κs =
     let e = c .before .before .before in
-    let d = square (searched (last e)) in
+    let d = searched (last e) in
     let t = text (whole d) in
     let f = found (whole d) in
     let p = passed e in
@@ -262,29 +243,29 @@ write-lists-requires c κs =
     )
 
 -- the mesh of the keys' lists is that of the text
-lists-mesh : (c : tie.Else7) → let r = last c .before .before in let d = square (searched (last c)) in
-    meshOf (whole d .read-head .result .rows) (listsOf (whole d .read-head .result .rows) (map pairOfKey (take (surveyed (counting d) .survey .result .pairs) (r .repeated .last .1 .1 .1 .1 .0))))
+lists-mesh : (c : tie.Else4) → let r = last c .before .before in let d = searched (last c) in
+    meshOf (whole d .read-head .result .rows) (listsOf (whole d .read-head .result .rows) (map pairOfKey (take (surveyed d .survey .result .pairs) (r .repeated .last .1 .1 .1 .1 .0))))
     ≡ textMesh (text (whole d))
 lists-mesh c =
-    let d = square (searched (last c)) in
-    let pairs = map pairOfKey (take (surveyed (counting d) .survey .result .pairs) (last c .before .before .repeated .last .1 .1 .1 .1 .0)) in
+    let d = searched (last c) in
+    let pairs = map pairOfKey (take (surveyed d .survey .result .pairs) (last c .before .before .repeated .last .1 .1 .1 .1 .0)) in
     ap (λ (n : ℕ). meshOf n (listsOf n pairs)) (rows d .0) ∙ sym (keys-mesh (text (whole d)) (found (whole d)) (passed c) _ (sorted-keys c))
 
-abbrev written-at : tie.After-slice-known4 → tie.Else7
+abbrev written-at : tie.After-slice-known4 → tie.Else4
 written-at c = c .before .before .before .before .before .before .before .before
 
-entries-few : (c : tie.Else7) → 2 * surveyed (counting (square (searched (last c)))) .survey .result .links ≤ maxEntries
+entries-few : (c : tie.Else4) → 2 * surveyed (searched (last c)) .survey .result .links ≤ maxEntries
 entries-few c = omega (arith, sym (entries (last c)), text-entries (text (once (last c))) (found (once (last c))) (passed c))
 
-returns-8 : tie.Need-returns-8
+returns-5 : tie.Need-returns-5
 unfolding meshOf
-returns-8 c =
+returns-5 c =
     let w = c .before .before .before .before in
     let e = written-at c in
-    let d = square (searched (last e)) in
+    let d = searched (last e) in
     let t = text (whole d) in
     let f = found (whole d) in
-    accepted-read t f _ _ (fault (e .before) ∙ e .if7 .left) (rows d .0) (sym (entries (last e)))
+    accepted-read t f _ _ (fault (e .before) ∙ e .if4 .left) (rows d .0) (sym (entries (last e)))
     (w .write-lists .ensures .0 ∙ ap (λ (m : Mesh). written (m .starts) (f .starts)) (lists-mesh e))
     (w .write-lists .ensures .1 ∙ ap (λ (m : Mesh). written (m .neighbours) (f .neighbours)) (lists-mesh e))
 
@@ -297,21 +278,19 @@ read-spec =
     (λ c κs. search needs)
     (λ c. search needs)
     (λ c κs. let e = c .before .before in e .before .before .read-head .ensures .within (sized e))
-    returns-2
-    returns-3
-    returns-4
-    returns-5
-    (λ c. sym (block-long (surveyed (counting (square (c .before))))))
-    repeated-requires
-    returns-6
-    (λ c. omega (arith, links-small (square (searched (c .before)))))
     (λ c κs. search needs)
-    returns-7
+    returns-2
+    (λ c. sym (block-long (surveyed (c .before))))
+    repeated-requires
+    returns-3
+    (λ c. omega (arith, links-small (searched (c .before))))
+    (λ c κs. search needs)
+    returns-4
     (λ c. block-room c)
     (λ c. sym (length-take-le _ _ (block-room (c .before))))
     write-lists-requires
-    (λ c. omega (arith, rows (square (searched (last (written-at c)))) .1))
+    (λ c. omega (arith, rows (searched (last (written-at c))) .1))
     (λ c. omega (arith, entries-few (written-at c)))
     (λ c. search needs)
     (λ c. search needs)
-    returns-8)
+    returns-5)
