@@ -1,14 +1,14 @@
 -- A pair given again, block by block: in the block, between it and the lines behind it, or behind it.
 use mathlib.Core.Path.{_≡_, refl, sym, ap, ap₂, _∙_}
-use mathlib.Core.Bool.{Bool, true, false, not, _&&_, _||_}
+use mathlib.Core.Bool.{Bool, true, false, _||_}
 use mathlib.Core.List.{List, [], _∷_, _++_, map, map-append}
-use Prim.Native.Nat.{ℕ, suc, _+_, _*_, _≤_, _<_}
+use Prim.Native.Nat.{ℕ, suc, _+_, _≤_}
 use native.Mathlib.Omega.{arith}
 use lib.ListN.{length, take}
 use lib.Seq.{length-take-le}
 use borrow.Author.Tests.{not-false, ltb-true}
 use Rattle.plan.specs.Lists.{exists, every, isIn, ascending, written}
-use Rattle.plan.specs.MatrixMarket.{Line, maxNumber, holdsNumbers, numberAt, Pair, pairOf, samePair, givenAgain}
+use Rattle.plan.specs.MatrixMarket.{Line, holdsNumbers, numberAt, Pair, pairOf, givenAgain}
 use Rattle.theory.specs.Keys.{keyOf, twice}
 use Rattle.theory.specs.Counting.{count}
 use Rattle.theory.proofs.Bools.{or-left, or-right, and-left, and-right, iff-eq}

@@ -2,8 +2,8 @@
 use mathlib.Core.Path.{_≡_, refl, sym, ap, ap₂, _∙_}
 use mathlib.Core.Logic.{inl, inr, _≢_}
 use mathlib.Core.Bool.{Bool, true, false, not, _&&_, _||_}
-use mathlib.Core.List.{List, [], _∷_, map, flatten}
-use Prim.Native.Nat.{ℕ, suc, _+_, _*_, _≤_, _<_}
+use mathlib.Core.List.{List, [], map}
+use Prim.Native.Nat.{ℕ, suc, _+_, _≤_, _<_}
 use native.Mathlib.Omega.{arith}
 use lib.Dec.{ltb, eqb}
 use lib.ListN.{length, getD, length-map}
@@ -13,7 +13,7 @@ use Rattle.plan.specs.declared.MeshCounts.{MeshCounts}
 use Rattle.plan.specs.Lists.{exists, every, ascending, written}
 use Rattle.plan.specs.Refusals.{firstFault}
 use Rattle.plan.specs.Mesh.{maxNodes, maxEntries, tooManyEntries}
-use Rattle.plan.specs.MatrixMarket.{Line, wordLines, isBanner, holdsNumbers, sizeLine, rowCount, columnCount, statedPairs, pairLines, pairOf, pairsOf, badText, badPair, badMatrix, repeatedPair, listsOf, meshOf, textMesh, MeshBuffers, meshBuffers, MeshCapacity, meshCapacity, meshBuffersTooShort, madeChecks, textChecks, handMesh, readingText, fillMesh, MeshFilled, TextRead}
+use Rattle.plan.specs.MatrixMarket.{Line, wordLines, isBanner, holdsNumbers, sizeLine, rowCount, statedPairs, pairLines, pairOf, pairsOf, badText, badPair, badMatrix, repeatedPair, listsOf, meshOf, textMesh, MeshBuffers, MeshCapacity, meshCapacity, meshBuffersTooShort, madeChecks, textChecks, handMesh, readingText, fillMesh, TextRead}
 use Rattle.theory.specs.Keys.{pairOfKey}
 use Rattle.theory.proofs.Bools.{or-left, or-false-left, or-false-right, tested}
 use Rattle.theory.proofs.Refusals.{fault-here, fault-later, first-nil}

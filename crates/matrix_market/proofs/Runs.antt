@@ -1,11 +1,11 @@
 -- A run over the lines of the pairs: those that are passed, and those that are left.
 use mathlib.Core.Path.{_≡_, refl, sym, ap, ap₂, _∙_}
 use mathlib.Core.Logic.{inl, inr}
-use mathlib.Core.Bool.{Bool, true, false, not, cond, _&&_, _||_, false≢true, or-false}
+use mathlib.Core.Bool.{Bool, true, false, cond, _&&_, _||_, or-false}
 use mathlib.Core.List.{List, [], _∷_, _++_, map, append-nil, map-append}
 use Prim.Native.Nat.{ℕ, _+_, _≤_, _<_}
 use native.Mathlib.Omega.{arith}
-use lib.ListN.{length, take, drop, set, length-append, length-take, length-drop, length-map, drop-of-length-le}
+use lib.ListN.{length, take, set, length-append, length-take, length-map}
 use lib.Seq.{take-all, take-append-le, set-out, append-snoc}
 use borrow.Author.Tests.{not-true, not-false}
 use Rattle.plan.specs.Lists.{exists, every, keep, written}
@@ -17,7 +17,7 @@ use Rattle.theory.proofs.Written.{written-push, written-length}
 use Rattle.theory.proofs.AnyLists.{some-append, all-append, kept-append}
 use Rattle.matrix_market.specs.declared.pairs.PairLine.{PairLine}
 use Rattle.matrix_market.specs.declared.pairs.Tally.{Tally}
-use Rattle.lexer.specs.Suffixes.{wordsAt, linesAt, At}
+use Rattle.lexer.specs.Suffixes.{wordsAt, linesAt}
 use Rattle.matrix_market.specs.Lines.{PairAt, pairsIn, keysIn, tallyOf}
 use Rattle.matrix_market.proofs.Words.{numbers-some}
 use Rattle.lexer.proofs.Suffixes.{lines-blank, lines-words, lines-over, lines-begin, line-passed}

@@ -2,13 +2,13 @@
 use mathlib.Core.Path.{_≡_, refl, sym, ap, _∙_}
 use mathlib.Core.Bool.{Bool, true, false, not, cond, _&&_, false≢true}
 use mathlib.Core.List.{List, [], _∷_, map}
-use Prim.Native.Nat.{ℕ, zero, suc, _+_, _≤_}
+use Prim.Native.Nat.{ℕ, suc, _+_, _≤_}
 use native.Mathlib.Omega.{arith}
-use lib.Dec.{eqb, leb}
+use lib.Dec.{eqb}
 use lib.ListN.{length, drop, getD}
 use lib.Seq.{drop-drop, getD-drop}
 use borrow.Author.Tests.{eq-eqb, ne-eqb, eqb-true, leb-true}
-use Rattle.plan.specs.Lists.{every, same}
+use Rattle.plan.specs.Lists.{every}
 use Rattle.plan.specs.MatrixMarket.{bytes, notEmpty, Line, lower, sameWords, banner, isBanner, wordsOf, maxNumber, isDigit, valueOf, isNumber, holdsNumbers, numberAt}
 use Rattle.theory.proofs.Bools.{and-right, iff-eq}
 use Rattle.lexer.specs.declared.NumberScan.{NumberScan}

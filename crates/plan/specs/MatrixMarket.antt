@@ -8,7 +8,7 @@ use Prim.Native.String.{String}
 use lib.Dec.{leb, ltb, eqb}
 use lib.ListN.{length, drop, getD}
 use Rattle.plan.specs.declared.MeshAnswer.{MeshAnswer}
-use Rattle.plan.specs.Lists.{exists, every, keep, below, same, written}
+use Rattle.plan.specs.Lists.{exists, every, keep, same, written}
 use Rattle.plan.specs.Refusals.{Checks, firstFault, within}
 use Rattle.plan.specs.Answers.{Reply, accepted, refused, meshReply}
 use Rattle.plan.specs.Mesh.{Mesh, lent, badNodeCount, tooManyEntries}

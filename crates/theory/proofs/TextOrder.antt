@@ -9,7 +9,7 @@ use lib.Dec.{eqb}
 use lib.ListN.{length, getD}
 use borrow.Author.Tests.{eqb-true}
 use Rattle.plan.specs.Lists.{exists, every, keep}
-use Rattle.plan.specs.MatrixMarket.{Line, wordLines, isBanner, holdsNumbers, numberAt, sizeLine, pairLines, Pair, pairOf, rowCount, columnCount, pairsOf, badText, badPair, badMatrix, samePair, hasPair, givenAgain, repeatedPair, textMesh, textChecks, readingText}
+use Rattle.plan.specs.MatrixMarket.{Line, wordLines, holdsNumbers, numberAt, sizeLine, pairLines, Pair, pairOf, rowCount, columnCount, pairsOf, badText, badPair, badMatrix, samePair, hasPair, givenAgain, repeatedPair, textMesh, textChecks, readingText}
 use Rattle.plan.specs.AcceptedTexts.{Reordered, LinesInAnyOrder, OrderIsFree}
 use Rattle.theory.proofs.Bools.{or-cases, or-left, or-right, and-left, and-right, and-both, iff-eq, eqb-same}
 use Rattle.theory.proofs.AnyLists.{some-kept, kept-some}

@@ -1,19 +1,16 @@
 -- A pair given again: by blocks, and by keys.
 use mathlib.Core.Path.{_≡_, refl, sym, ap, ap₂, _∙_}
-use mathlib.Core.Logic.{inl, inr}
 use mathlib.Core.Bool.{Bool, true, false, not, _&&_, _||_, false≢true}
 use mathlib.Core.List.{List, [], _∷_, _++_, map}
-use Prim.Native.Nat.{ℕ, _+_, _*_, _≤_, _<_, suc}
+use Prim.Native.Nat.{ℕ, _+_, _≤_}
 use native.Mathlib.Omega.{arith}
 use lib.Dec.{eqb, ltb}
 use lib.ListN.{take, drop, take-append-drop, length, getD}
-use borrow.Author.Tests.{eq-eqb, ne-eqb, eqb-true, lt-ltb, le-ltb, ltb-true, ltb-false, leb-true, not-false}
-use Rattle.plan.specs.Lists.{exists, every, isIn, ascending, falls}
+use borrow.Author.Tests.{eq-eqb, eqb-true, lt-ltb, ltb-true, leb-true, not-false}
+use Rattle.plan.specs.Lists.{exists, every, isIn}
 use Rattle.plan.specs.MatrixMarket.{maxNumber, Line, wordLines, isBanner, isDigit, valueOf, isNumber, holdsNumbers, numberAt, sizeLine, pairLines, Pair, pairOf, pairsOf, badText, samePair, givenAgain, repeatedPair}
 use Rattle.theory.specs.Keys.{keyOf, twice}
-use Rattle.theory.proofs.Bools.{or-cases, or-left, or-right, or-false-left, or-false-right, and-left, and-right, and-both, refuted, iff-eq, eqb-same, eqb-comm, eq-or-ne}
-use Rattle.theory.proofs.Lists.{isIn-cons}
-use Rattle.theory.proofs.Counting.{unit, count-cons, exists-count, count-exists}
+use Rattle.theory.proofs.Bools.{or-false-left, or-false-right, and-left, and-right, and-both, iff-eq, eqb-comm}
 use Rattle.theory.proofs.AnyLists.{some-append}
 
 -- ---- by blocks

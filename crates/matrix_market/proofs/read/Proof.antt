@@ -1,19 +1,19 @@
 -- `read` meets its contract.
-use mathlib.Core.Path.{_≡_, refl, sym, ap, ap₂, _∙_}
+use mathlib.Core.Path.{_≡_, refl, sym, ap, _∙_}
 use mathlib.Core.Bool.{true, false, not}
-use mathlib.Core.List.{List, map, flatten}
+use mathlib.Core.List.{List, map}
 use Prim.Native.Nat.{ℕ, _*_, _≤_, _<_}
 use native.Mathlib.Omega.{arith}
 use lib.Dec.{eqb}
-use lib.ListN.{length, take, length-map, length-take}
+use lib.ListN.{length, take}
 use lib.Seq.{take-all, length-take-le}
 use borrow.Author.Needs.{needs}
 use borrow.Author.Tests.{not-true, not-false}
 use Rattle.plan.specs.declared.MeshAnswer.the-variants.{Refused}
-use Rattle.plan.specs.Lists.{every, exists, keep, written}
+use Rattle.plan.specs.Lists.{every, keep, written}
 use Rattle.plan.specs.Refusals.{firstFault}
 use Rattle.plan.specs.Mesh.{Mesh, maxEntries}
-use Rattle.plan.specs.MatrixMarket.{Line, maxNumber, holdsNumbers, rowCount, columnCount, statedPairs, pairLines, pairOf, pairsOf, badText, badPair, badMatrix, givenAgain, repeatedPair, listsOf, meshOf, textMesh, MeshBuffers, meshBuffers, meshCapacity, textChecks, TextRead}
+use Rattle.plan.specs.MatrixMarket.{Line, maxNumber, holdsNumbers, rowCount, pairLines, pairsOf, badText, badMatrix, givenAgain, repeatedPair, listsOf, meshOf, textMesh, MeshBuffers, meshBuffers, meshCapacity, textChecks, TextRead}
 use Rattle.plan.specs.AcceptedTexts.{offDiagonal}
 use Rattle.theory.specs.Keys.{pairOfKey}
 use Rattle.theory.proofs.Bools.{or-false-right}

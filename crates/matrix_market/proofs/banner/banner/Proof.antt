@@ -1,10 +1,8 @@
 -- `banner::banner` meets its contract.
-use mathlib.Core.Path.{_≡_, sym, _∙_}
-use mathlib.Core.List.{List, [], _∷_}
+use mathlib.Core.Path.{sym}
 use lib.ListN.{drop}
 use borrow.Author.Needs.{needs}
 use borrow.Author.Tests.{not-true, not-false}
-use Rattle.lexer.specs.Suffixes.{wordsAt}
 use Rattle.matrix_market.proofs.Words.{Banner, bannerWords, banner-start, banner-next, banner-other, banner-over}
 use Rattle.matrix_market.proofs.banner.banner.Statement.{statement}
 use Rattle.matrix_market.proofs.banner.banner.Tie as tie

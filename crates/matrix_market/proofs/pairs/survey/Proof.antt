@@ -1,19 +1,18 @@
 -- `pairs::survey` meets its contract.
 use mathlib.Core.Path.{_≡_, refl, sym, ap, _∙_}
-use mathlib.Core.Bool.{true, false, false≢true}
-use mathlib.Core.List.{List, [], _∷_, _++_, map-append}
-use Prim.Native.Nat.{ℕ, _-_, _≤_, _<_, _+_}
+use mathlib.Core.Bool.{false≢true}
+use mathlib.Core.List.{List, [], _∷_, _++_}
+use Prim.Native.Nat.{ℕ, _-_, _<_, _+_}
 use native.Mathlib.Omega.{arith}
-use lib.ListN.{length, take, length-set, length-append, length-map}
+use lib.ListN.{length, take, length-set}
 use lib.Seq.{take-nil}
 use borrow.Author.Needs.{needs}
 use borrow.Author.Tests.{not-true, not-false}
 use Rattle.plan.specs.Lists.{written}
-use Rattle.plan.specs.MatrixMarket.{Line, pairOf}
-use Rattle.plan.specs.AcceptedTexts.{offDiagonal}
+use Rattle.plan.specs.MatrixMarket.{Line}
 use Rattle.matrix_market.specs.declared.pairs.Tally.{Tally}
 use Rattle.lexer.specs.Suffixes.{wordsAt, linesAt}
-use Rattle.matrix_market.specs.Lines.{pairsIn, keysIn, tallyOf}
+use Rattle.matrix_market.specs.Lines.{keysIn, tallyOf}
 use Rattle.lexer.proofs.Suffixes.{line-passed}
 use Rattle.matrix_market.proofs.Runs.{Passed, passed-start, passed-all, passed-blank, passed-pair, passed-bad, told-next, stored-next, links-few}
 use Rattle.matrix_market.proofs.pairs.survey.Statement.{statement}

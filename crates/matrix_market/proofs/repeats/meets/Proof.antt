@@ -1,16 +1,14 @@
 -- `repeats::meets` meets its contract.
 use mathlib.Core.Path.{_≡_, refl, sym, ap, ap₂, _∙_}
-use mathlib.Core.Bool.{Bool, true, false, _||_, or-comm}
+use mathlib.Core.Bool.{true, false}
 use mathlib.Core.List.{List, [], _∷_, _++_}
-use Prim.Native.Nat.{ℕ, _+_, _-_, _≤_, _<_}
+use Prim.Native.Nat.{ℕ, _+_, _-_, _<_}
 use native.Mathlib.Omega.{arith}
 use lib.ListN.{length}
 use borrow.Author.Needs.{needs}
-use borrow.Author.Tests.{not-true, not-false}
 use Rattle.plan.specs.Lists.{exists, isIn}
 use Rattle.plan.specs.MatrixMarket.{Line}
 use Rattle.theory.specs.Keys.{keyOf}
-use Rattle.theory.proofs.AnyLists.{some-append}
 use Rattle.lexer.specs.Suffixes.{wordsAt}
 use Rattle.lexer.proofs.Suffixes.{line-passed}
 use Rattle.matrix_market.proofs.Runs.{Passed, passed-start, passed-all, passed-blank, passed-pair, passed-good}

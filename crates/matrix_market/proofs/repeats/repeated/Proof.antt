@@ -5,7 +5,6 @@ use mathlib.Core.Bool.{true}
 use Prim.Native.Nat.{_+_, _*_, _<_}
 use native.Mathlib.Omega.{arith}
 use lib.ListN.{length-map}
-use borrow.Author.Needs.{needs}
 use borrow.Author.Tests.{ltb-true}
 use Rattle.plan.specs.MatrixMarket.{givenAgain, pairOf}
 use Rattle.theory.specs.Keys.{twice}
@@ -13,7 +12,7 @@ use Rattle.theory.proofs.Bools.{tested}
 use Rattle.theory.proofs.TextEntries.{pairs-few}
 use Rattle.sorting.specs.Sorted.{sorted}
 use Rattle.lexer.specs.Suffixes.{linesAt}
-use Rattle.matrix_market.specs.Lines.{pairsIn, keysIn}
+use Rattle.matrix_market.specs.Lines.{pairsIn}
 use Rattle.matrix_market.proofs.Blocks.{sorted-front, again-in-one}
 use Rattle.matrix_market.proofs.repeats.repeated.Statement.{statement}
 use Rattle.matrix_market.proofs.repeats.repeated.Tie as tie

@@ -1,7 +1,7 @@
 -- `repeats::repeated_in_blocks` meets its contract.
 use mathlib.Core.Path.{_≡_, refl, sym, ap, _∙_}
-use mathlib.Core.Bool.{true, false}
-use mathlib.Core.List.{List, []}
+use mathlib.Core.Bool.{true}
+use mathlib.Core.List.{List}
 use Prim.Native.Nat.{ℕ, _-_, _≤_, _<_}
 use native.Mathlib.Omega.{arith}
 use lib.ListN.{length, take}
@@ -12,9 +12,8 @@ use Rattle.plan.specs.MatrixMarket.{holdsNumbers, givenAgain}
 use Rattle.sorting.specs.Sorted.{sorted}
 use Rattle.lexer.specs.Suffixes.{linesAt}
 use Rattle.matrix_market.specs.Lines.{pairsIn}
-use Rattle.matrix_market.specs.Blocks.{Blocked}
 use Rattle.lexer.proofs.Suffixes.{lines-over}
-use Rattle.matrix_market.proofs.Blocks.{block-keys, block-long, block-fits, block-rest, block-twice, block-met, block-passed, block-ascends, sorted-front}
+use Rattle.matrix_market.proofs.Blocks.{block-long, block-fits, block-rest, block-twice, block-met, block-passed, block-ascends, sorted-front}
 use Rattle.matrix_market.proofs.repeats.repeated_in_blocks.Statement.{statement}
 use Rattle.matrix_market.proofs.repeats.repeated_in_blocks.Tie as tie
 

@@ -1,5 +1,5 @@
 -- `size::read_head` meets its contract.
-use mathlib.Core.Path.{_≡_, sym, _∙_}
+use mathlib.Core.Path.{sym, _∙_}
 use borrow.Author.Needs.{needs}
 use borrow.Author.Tests.{not-true, not-false}
 use Rattle.matrix_market.proofs.Heads.{head-of, no-head}

@@ -1,9 +1,6 @@
 -- `size::read_size` meets its contract: three numbers, then the line is over.
-use mathlib.Core.Path.{_≡_, sym, ap, _∙_}
 use borrow.Author.Needs.{needs}
 use borrow.Author.Tests.{not-true, not-false}
-use Rattle.matrix_market.specs.declared.size.Size.{Size}
-use Rattle.matrix_market.specs.Lines.{SizeAt}
 use Rattle.matrix_market.proofs.Words.{Numbers, numbers-start, numbers-next, numbers-value, numbers-none, numbers-over, numbers-behind}
 use Rattle.matrix_market.proofs.Heads.{no-size-at}
 use Rattle.matrix_market.proofs.size.read_size.Statement.{statement}

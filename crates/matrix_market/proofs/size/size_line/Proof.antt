@@ -1,11 +1,10 @@
 -- `size::size_line` meets its contract: blank lines and comments are passed.
-use mathlib.Core.Path.{_≡_, refl, sym, ap, _∙_}
-use mathlib.Core.Bool.{true, false}
-use Prim.Native.Nat.{ℕ, _-_, _≤_, _<_}
+use mathlib.Core.Path.{_≡_, refl, sym, _∙_}
+use Prim.Native.Nat.{_-_, _≤_, _<_}
 use native.Mathlib.Omega.{arith}
 use lib.ListN.{length}
 use borrow.Author.Needs.{needs}
-use borrow.Author.Tests.{not-true, not-false}
+use borrow.Author.Tests.{not-false}
 use Rattle.plan.specs.MatrixMarket.{skipComments}
 use Rattle.lexer.specs.Suffixes.{linesAt}
 use Rattle.lexer.proofs.Suffixes.{line-passed}
