@@ -26,7 +26,7 @@ use Rattle.sorting.proofs.Sorted.{sorted-alike, sorted-rises, twice-alike, twic
 
 -- ---- sorted keys
 
-pub sorted-isIn : (l : List ℕ) (x : ℕ) → isIn x (sorted l) ≡ isIn x l
+sorted-isIn : (l : List ℕ) (x : ℕ) → isIn x (sorted l) ≡ isIn x l
 sorted-isIn l x = iff-eq _ _ (same-members (sorted l) l (sorted-alike l) x) (same-members l (sorted l) (λ p. sym (sorted-alike l p)) x)
 
 pub sorted-long : (l : List ℕ) → length (sorted l) ≡ length l
@@ -57,7 +57,7 @@ shared-keys block narrow (l ∷ lines) good =
     ap₂ (λ (a b : Bool). a || b) (has-key (pairOf l) block (omega (arith, lt)) narrow) (shared-keys block narrow lines (and-right (holdsNumbers 2 l) _ good))
 
 -- a repeat among the pairs of lines that fall into a block and a rest
-pub again-by-block : (front rest : List Line) → every (holdsNumbers 2) (front ++ rest) ≡ true
+again-by-block : (front rest : List Line) → every (holdsNumbers 2) (front ++ rest) ≡ true
     → givenAgain (pairsIn (front ++ rest)) ≡ (twice (keysIn front) || (exists (keyAmong (keysIn front)) rest || givenAgain (pairsIn rest)))
 again-by-block front rest good =
     let both = sym (all-append (holdsNumbers 2) front rest) ∙ good in
@@ -72,7 +72,7 @@ pub again-in-one : (lines : List Line) → every (holdsNumbers 2) lines ≡ true
 again-in-one lines good = again-keys (pairsIn lines) (lines-narrow lines good)
 
 -- the sorted keys find what the keys would
-pub among-sorted : (keys : List ℕ) (lines : List Line) → exists (keyAmong (sorted keys)) lines ≡ exists (keyAmong keys) lines
+among-sorted : (keys : List ℕ) (lines : List Line) → exists (keyAmong (sorted keys)) lines ≡ exists (keyAmong keys) lines
 among-sorted keys [] = refl
 among-sorted keys (l ∷ lines) = ap₂ (λ (a b : Bool). a || b) (sorted-isIn keys (keyOf (pairOf l))) (among-sorted keys lines)
 
@@ -91,7 +91,7 @@ among-more keys front line none h = some-append (keyAmong keys) front (line ∷ 
 
 module _ (text : List ℕ) (at : ℕ) (r : Block) (found left : List ℕ) (b : Blocked text at r found left) where
   -- the block's keys stand at the front of the buffer
-  pub block-keys : take (r .count) left ≡ keysIn (b .front)
+  block-keys : take (r .count) left ≡ keysIn (b .front)
   block-keys = front-written (r .count) (keysIn (b .front)) found left (b .keys) (keys-long (b .front) ∙ sym (b .many))
 
   pub block-long : length left ≡ length found

@@ -91,7 +91,7 @@ module _ (text : List ℕ) where
     unfolding textChecks
     fault-23 h = fault-here 23 (badText text) _ h
 
-    pub fault-24 : badText text ≡ false → badMatrix text ≡ true → firstFault (textChecks text room) ≡ 24
+    fault-24 : badText text ≡ false → badMatrix text ≡ true → firstFault (textChecks text room) ≡ 24
     unfolding textChecks
     fault-24 k h = fault-later 23 (badText text) _ k ∙ fault-here 24 (badMatrix text) _ h
 

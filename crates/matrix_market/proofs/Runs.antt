@@ -94,7 +94,7 @@ pub links-few : (lines : List Line) → length (keep offDiagonal (pairsIn lines)
 links-few lines = omega (arith, kept-few offDiagonal (pairsIn lines), length-map lines pairOf)
 
 -- one line more
-pub tally-more : (n : ℕ) (front : List Line) (line : Line)
+tally-more : (n : ℕ) (front : List Line) (line : Line)
     → tallyOf n (front ++ (line ∷ [])) ≡ record {
       good = true;
       pairs = tallyOf n front .pairs + 1;
@@ -116,7 +116,7 @@ tally-more n front line =
     one false p = refl
 
 -- one key more, as many as the buffer holds
-pub stored-more : (keys found : List ℕ) (x : ℕ) → set (written (take (length found) keys) found) (length keys) x ≡ written (take (length found) (keys ++ (x ∷ []))) found
+stored-more : (keys found : List ℕ) (x : ℕ) → set (written (take (length found) keys) found) (length keys) x ≡ written (take (length found) (keys ++ (x ∷ []))) found
 stored-more keys found x = elim (lt-or-le (length keys) (length found)) [
   | inl lt ↦ (
       let l : length (keys ++ (x ∷ [])) ≡ length keys + 1 = length-append keys (x ∷ []) in

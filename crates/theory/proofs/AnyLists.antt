@@ -1,26 +1,17 @@
 -- Tests over lists of any elements, one list behind the other or one element more.
 use mathlib.Core.Path.{_≡_, refl, sym, ap}
-use mathlib.Core.Bool.{Bool, true, false, not, cond, _&&_, _||_, false≢true, or-false, or-assoc}
+use mathlib.Core.Bool.{Bool, true, false, not, cond, _&&_, _||_, false≢true, or-assoc}
 use mathlib.Core.List.{List, [], _∷_, _++_, map}
-use Prim.Native.Nat.{ℕ, _+_, _<_}
+use Prim.Native.Nat.{_+_, _<_}
 use native.Mathlib.Omega.{arith}
-use lib.ListN.{length, getD, take}
+use lib.ListN.{length}
 use Rattle.plan.specs.Lists.{exists, every, keep}
 use Rattle.theory.proofs.Bools.{or-false-left, or-false-right}
-use Rattle.theory.proofs.Lists.{take-more}
 
 module _ {A : Type 0} where
   pub some-append : (p : A → Bool) (xs ys : List A) → exists p (xs ++ ys) ≡ (exists p xs || exists p ys)
   some-append p [] ys = refl
   some-append p (x ∷ xs) ys = rw (some-append p xs ys) (sym (or-assoc (p x) (exists p xs) (exists p ys)))
-
-  pub some-more : (p : A → Bool) (l : List A) (i : ℕ) (d : A) → i < length l → exists p (take (i + 1) l) ≡ (exists p (take i l) || p (getD l i d))
-  some-more p l i d h = rw (take-more l i d h, some-append p (take i l) (getD l i d ∷ []), or-false (p (getD l i d)))
-
-  -- tests that agree everywhere pass together
-  pub some-ext : (p q : A → Bool) → ((x : A) → p x ≡ q x) → (l : List A) → exists p l ≡ exists q l
-  some-ext p q h [] = refl
-  some-ext p q h (x ∷ l) = rw (h x, some-ext p q h l)
 
   pub all-append : (p : A → Bool) (xs ys : List A) → every p (xs ++ ys) ≡ (every p xs && every p ys)
   all-append p [] ys = refl

@@ -5,7 +5,7 @@ use mathlib.Core.List.{List, [], _∷_, _++_, map}
 use Prim.Native.Nat.{ℕ, _+_, _≤_}
 use native.Mathlib.Omega.{arith}
 use lib.Dec.{eqb, ltb}
-use lib.ListN.{take, drop, take-append-drop, length, getD}
+use lib.ListN.{length, getD}
 use borrow.Author.Tests.{eq-eqb, eqb-true, lt-ltb, ltb-true, leb-true, not-false}
 use Rattle.plan.specs.Lists.{exists, every, isIn}
 use Rattle.plan.specs.MatrixMarket.{maxNumber, Line, wordLines, isBanner, isDigit, valueOf, isNumber, holdsNumbers, numberAt, sizeLine, pairLines, Pair, pairOf, pairsOf, badText, samePair, givenAgain, repeatedPair}
@@ -33,12 +33,8 @@ again-append (x ∷ xs) ys =
     mix false false true d e = refl
     mix false false false d e = refl
 
--- the next block of k pairs, and the pairs behind it
-pub again-block : (k : ℕ) (ps : List Pair) → givenAgain ps ≡ (givenAgain (take k ps) || (shared (take k ps) (drop k ps) || givenAgain (drop k ps)))
-again-block k ps = ap givenAgain (sym (take-append-drop k ps)) ∙ again-append (take k ps) (drop k ps)
-
 -- it does not matter which of the two lists is gone over
-pub same-comm : (p q : Pair) → samePair p q ≡ samePair q p
+same-comm : (p q : Pair) → samePair p q ≡ samePair q p
 same-comm p q = ap₂ (λ (a b : Bool). a && b) (eqb-comm (p .0) (q .0)) (eqb-comm (p .1) (q .1))
 
 pub shared-comm : (xs ys : List Pair) → shared xs ys ≡ shared ys xs
@@ -66,7 +62,7 @@ shared-comm (x ∷ xs) ys = ap (λ (b : Bool). exists (samePair x) ys || b) (sha
 abbrev pub Narrow : Pair → Type 0
 Narrow p = p .0 ≤ maxNumber
 
-pub same-key : (p q : Pair) → Narrow p → Narrow q → samePair p q ≡ eqb (keyOf p) (keyOf q)
+same-key : (p q : Pair) → Narrow p → Narrow q → samePair p q ≡ eqb (keyOf p) (keyOf q)
 same-key p q a b = iff-eq _ _
     (λ h. let e = eqb-true (p .0) (q .0) (and-left (eqb (p .0) (q .0)) _ h) in
     let f = eqb-true (p .1) (q .1) (and-right (eqb (p .0) (q .0)) _ h) in
