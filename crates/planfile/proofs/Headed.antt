@@ -21,9 +21,11 @@ use Rattle.theory.proofs.Compressed.{sums-starts}
 use Rattle.theory.proofs.Coding.{decode16s-length, decode16s-drop}
 use Rattle.theory.proofs.Fitting.{Limits, header-limits, counts-few}
 use Rattle.theory.proofs.RoundTrips.{Header, header-says, read-whole}
-use Rattle.planfile.specs.Supplied.{orderAndParts, orderAndPartsChecks, partsAndRows, Exact, SoundParts, Started}
+use Rattle.filechecks.specs.Fields.{orderAndParts, orderAndPartsChecks}
+use Rattle.filechecks.proofs.Fields.{order-checks}
+use Rattle.planfile.specs.Supplied.{partsAndRows, Exact, SoundParts, Started}
 use Rattle.planfile.specs.Filed.{rowsIn, rowCountsIn, Headed}
-use Rattle.planfile.proofs.Passing.{order-checks, exact-few, passed-parts}
+use Rattle.planfile.proofs.Passing.{exact-few, passed-parts}
 
 -- ---- the counts and the length
 

@@ -1,5 +1,3 @@
-pub mod Once
-pub mod Climbs
 pub mod Nesting
 pub mod Passing
 pub mod Loaded

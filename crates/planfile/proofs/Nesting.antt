@@ -17,7 +17,8 @@ use Rattle.theory.proofs.PartOf.{part-mono, part-lt}
 use Rattle.theory.proofs.PartChecks.{parents-may, passes-tree}
 use Rattle.mesh.specs.Lists.{ListWithin}
 use Rattle.mesh.proofs.Lists.{good-starts-within}
-use Rattle.planfile.specs.Supplied.{orderAndParts, SoundParts, SoundParents, PartNumbers, outside, Started, LaidOut}
+use Rattle.filechecks.specs.Fields.{orderAndParts, SoundParents, PartNumbers, outside}
+use Rattle.planfile.specs.Supplied.{SoundParts, Started, LaidOut}
 
 -- ---- parts that passed check 16
 

@@ -1,4 +1,4 @@
--- Checks 13 and 15 to 19 of a plan: which is the first fault, what each check looks at, and what those passed tell the ones behind them.
+-- Checks 15 to 19 of a plan: which is the first fault, what 17 to 19 look at, and what those passed, and 13, tell the ones behind them.
 use mathlib.Core.Path.{_≡_, refl, sym, _∙_}
 use mathlib.Core.Bool.{true, false}
 use mathlib.Core.List.{[], _∷_}
@@ -8,10 +8,11 @@ use lib.ListN.{length}
 use Rattle.plan.specs.Refusals.{Checks, firstFault}
 use Rattle.plan.specs.Mesh.{maxNodes}
 use Rattle.plan.specs.Planning.{Contents}
-use Rattle.plan.specs.File.{Whole, badHeader, badOrder, badParts, badRows, notNested, notCovered, contentsChecks}
+use Rattle.plan.specs.File.{Whole, badOrder, badParts, badRows, notNested, notCovered, contentsChecks}
 use Rattle.theory.proofs.Refusals.{no-fault, first-some, first-none}
 use Rattle.theory.proofs.Fitting.{header-limits, counts-few, GoodRows, good-rows}
-use Rattle.planfile.specs.Supplied.{countsOnly, orderAndParts, orderAndPartsChecks, partsAndRows, Exact, SoundParts, LaidOut}
+use Rattle.filechecks.specs.Fields.{orderAndPartsChecks}
+use Rattle.planfile.specs.Supplied.{partsAndRows, Exact, SoundParts, LaidOut}
 
 -- ---- the first fault
 
@@ -47,16 +48,6 @@ module _ (c : Contents) (ordered : firstFault (orderAndPartsChecks c) ≡ 0) whe
   all-passed good nested covered = row-fault ∙ rw (good, nested, covered)
 
 -- ---- what a check looks at
-
--- 13 at the counts
-pub header-counts : (c : Contents) → badHeader (countsOnly (c .nodes) (c .parts) (c .slots)) ≡ badHeader c
-unfolding badHeader
-header-counts c = refl
-
--- 15 and 16 at the order and the parts
-pub order-checks : (c : Contents) → Whole c → firstFault (orderAndPartsChecks (orderAndParts (length (c .order)) (c .order) (c .sizes) (c .parents))) ≡ firstFault (orderAndPartsChecks c)
-unfolding badOrder badParts
-order-checks c w = rw (w .order, w .sizes)
 
 -- 17 at the rows
 pub rows-check : (c : Contents) → Whole c → badRows (partsAndRows (c .nodes) [] [] (c .columnStarts) (c .rows)) ≡ badRows c

@@ -1,30 +1,19 @@
--- What the functions' contracts cite of a plan, besides the book: plans of some of their lists, checks 15 and 16 by themselves, and what is known of
--- a plan once they are passed.
+-- What the functions' contracts cite of a plan, besides the book and `filechecks`: a plan of its parts and rows, what is known of a plan that passed
+-- checks 13, 16 or 17, and the writer's checks behind 13.
 use mathlib.Core.Path.{_≡_}
-use mathlib.Core.Bool.{Bool, true, false, not}
+use mathlib.Core.Bool.{false}
 use mathlib.Core.List.{List, [], _∷_, _++_}
 use Prim.Native.Nat.{ℕ, _+_, _-_, _≤_, _<_}
 use lib.ListN.{length, getD}
 use Rattle.plan.specs.declared.WriteAnswer.{WriteAnswer}
-use Rattle.plan.specs.Lists.{exists, written}
+use Rattle.plan.specs.Lists.{written}
 use Rattle.plan.specs.Refusals.{Checks, firstFault}
 use Rattle.plan.specs.Answers.{writeReply}
 use Rattle.plan.specs.Mesh.{maxNodes, badStarts}
-use Rattle.plan.specs.Parts.{atOrAbove}
 use Rattle.plan.specs.Planning.{Contents, contents}
-use Rattle.plan.specs.File.{Whole, badHeader, mayBeParent, badOrder, badParts, badColumns, contentsChecks}
+use Rattle.plan.specs.File.{Whole, badHeader, badParts, badColumns, contentsChecks}
 use Rattle.plan.specs.Writing.{outputTooShort, writeOut}
-
--- a plan of its three counts alone: what check 13 looks at
-abbrev pub countsOnly : ℕ → ℕ → ℕ → Contents
-countsOnly n p s = contents n p s [] [] [] [] []
-
--- a plan of its order and its tree of parts: what checks 15 and 16 look at
-abbrev pub orderAndParts : ℕ → List ℕ → List ℕ → List ℕ → Contents
-orderAndParts n order sizes parents = contents n (length sizes) 0 order sizes parents [] []
-
-abbrev pub orderAndPartsChecks : Contents → Checks
-orderAndPartsChecks c = (15, badOrder c) ∷ (16, badParts c) ∷ []
+use Rattle.filechecks.specs.Fields.{orderAndParts}
 
 -- a plan of its tree of parts and its layout: what checks 17 to 19 look at
 abbrev pub partsAndRows : ℕ → List ℕ → List ℕ → List ℕ → List ℕ → Contents
@@ -40,21 +29,6 @@ pub record SoundParts (n : ℕ) (sizes parents : List ℕ) : Type 0 where
   pub few : n ≤ maxNodes
   pub asMany : length parents ≡ length sizes
   pub good : badParts (orderAndParts n [] sizes parents) ≡ false
-
--- parents that passed check 16
-pub record SoundParents (parents : List ℕ) : Type 0 where
-  pub few : length parents ≤ maxNodes
-  pub good : (q : ℕ) → q < length parents → mayBeParent (length parents) q (getD parents q 0) ≡ true
-
--- numbers that may be the parts of n positions: each is a part, and a later position has no earlier one
-pub record PartNumbers (n : ℕ) (parents numbers : List ℕ) : Type 0 where
-  pub long : n ≤ length numbers
-  pub inside : (i : ℕ) → i < n → getD numbers i 0 < length parents
-  pub rising : (i k : ℕ) → i ≤ k → k < n → getD numbers i 0 ≤ getD numbers k 0
-
--- whether rows of column j break 18's rule, where the part of position i stands in place i of a list
-abbrev pub outside : List ℕ → List ℕ → ℕ → List ℕ → Bool
-outside numbers parents j r = exists (λ i. not (atOrAbove parents (getD numbers j 0) (getD numbers i 0))) r
 
 -- the starts of n columns, whose rows are `rows`, as many as the last start says
 pub record Started (n : ℕ) (columnStarts rows : List ℕ) : Type 0 where

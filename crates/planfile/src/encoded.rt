@@ -1,9 +1,9 @@
 // Checks 17 to 19 of the rows in a file: `bytes` are its last ones, two for each row, and a column's rows are read into working memory when they are
 // looked at.
-use crate::rules::contains_all;
-use crate::rules::number_parts;
-use crate::rules::outside;
+use crate::numbers::number_parts;
 use coding::read16s;
+use filechecks::contains_all;
+use filechecks::outside;
 use layout::bad_column;
 use mesh::filled;
 use mesh::index;
@@ -15,7 +15,8 @@ ghost use Prim.Native.Nat.{_+_, _-_, _≤_, _<_};
 ghost use lib.ListN.{length, take, getD};
 ghost use Rattle.plan.specs.Lists.{listAt};
 ghost use Rattle.plan.specs.File.{badColumn as badColumnOf, badColumns, notNested, covered, notCovered};
-ghost use Rattle.planfile.specs.Supplied.{partsAndRows, SoundParts, SoundParents, PartNumbers, outside as outsideOf, Started, LaidOut};
+ghost use Rattle.filechecks.specs.Fields.{SoundParents, PartNumbers, outside as outsideOf};
+ghost use Rattle.planfile.specs.Supplied.{partsAndRows, SoundParts, Started, LaidOut};
 ghost use Rattle.planfile.specs.Filed.{rowsIn};
 
 // How many rows column j has. O(1).

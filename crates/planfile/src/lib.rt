@@ -1,9 +1,7 @@
 // The plan file, version 1: reading it into lent buffers, and writing it from lent slices.
 mod encoded;
-mod header;
-mod order;
+mod numbers;
 mod reader;
-mod rules;
 mod slices;
 mod writer;
 

@@ -2,11 +2,11 @@
 use crate::encoded::bad_columns;
 use crate::encoded::not_covered;
 use crate::encoded::not_nested;
-use crate::header::HEADER;
-use crate::header::header_refusal;
-use crate::header::read_counts;
-use crate::order::order_and_parts_refusal;
 use coding::read16s;
+use filechecks::HEADER;
+use filechecks::header_refusal;
+use filechecks::order_and_parts_refusal;
+use filechecks::read_counts;
 use layout::buffers_too_short;
 use layout::invert;
 use layout::sum;

@@ -1,8 +1,8 @@
 // Checks 15 to 19 of a plan in lent slices, each as long as its count says: the writer's.
-use crate::order::order_and_parts_refusal;
-use crate::rules::contains_all;
-use crate::rules::number_parts;
-use crate::rules::outside;
+use crate::numbers::number_parts;
+use filechecks::contains_all;
+use filechecks::order_and_parts_refusal;
+use filechecks::outside;
 use layout::bad_layout;
 use mesh::filled;
 use mesh::index;

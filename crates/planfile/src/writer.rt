@@ -1,15 +1,15 @@
 // Writing a plan file from lent slices: checks 13 and 15 to 19, then 8, then the bytes.
-use crate::header::D;
-use crate::header::HEADER;
-use crate::header::N;
-use crate::header::P;
-use crate::header::VERSION;
-use crate::header::bad_header;
-use crate::header::file_length;
 use crate::slices::contents_refusal;
 use coding::write16;
 use coding::write16s;
 use coding::write32;
+use filechecks::D;
+use filechecks::HEADER;
+use filechecks::N;
+use filechecks::P;
+use filechecks::VERSION;
+use filechecks::bad_header;
+use filechecks::file_length;
 use plan::WriteAnswer;
 ghost use mathlib.Core.Path.{_≡_};
 ghost use mathlib.Core.Bool.{false};
@@ -20,7 +20,8 @@ ghost use Rattle.plan.specs.Lists.{written};
 ghost use Rattle.plan.specs.Planning.{rowCounts, contents};
 ghost use Rattle.plan.specs.File.{fileLength, encode, encodeParts, encode16s, badHeader};
 ghost use Rattle.plan.specs.Writing.{badSupply, Wrote};
-ghost use Rattle.planfile.specs.Supplied.{countsOnly, orderAndParts, partsAndRows, Exact, NarrowColumns, WroteExact};
+ghost use Rattle.filechecks.specs.Fields.{countsOnly, orderAndParts};
+ghost use Rattle.planfile.specs.Supplied.{partsAndRows, Exact, NarrowColumns, WroteExact};
 ghost use Rattle.planfile.specs.Filed.{headerOf};
 
 // Check 13: the counts are out of their limits, or a slice is shorter than its count says. O(1).

@@ -4,7 +4,7 @@ use native.Mathlib.Omega.{arith}
 use borrow.Author.Needs.{needs}
 use Rattle.plan.specs.File.{badColumn}
 use Rattle.theory.proofs.Written.{front-within, front-long}
-use Rattle.planfile.specs.Supplied.{outside}
+use Rattle.filechecks.specs.Fields.{outside}
 use Rattle.planfile.specs.Filed.{rowsIn}
 use Rattle.planfile.proofs.Nesting.{laid-good, laid-few}
 use Rattle.planfile.proofs.encoded.outside_at.Statement.{statement}

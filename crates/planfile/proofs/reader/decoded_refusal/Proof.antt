@@ -7,7 +7,8 @@ use borrow.Author.Needs.{needs}
 use Rattle.plan.specs.Refusals.{firstFault}
 use Rattle.plan.specs.Planning.{Contents}
 use Rattle.plan.specs.File.{parse, badRows, notNested, notCovered}
-use Rattle.planfile.specs.Supplied.{orderAndPartsChecks, LaidOut}
+use Rattle.filechecks.specs.Fields.{orderAndPartsChecks}
+use Rattle.planfile.specs.Supplied.{LaidOut}
 use Rattle.planfile.specs.Filed.{rowsIn}
 use Rattle.planfile.proofs.Passing.{order-fault, fault-17, fault-18, fault-19, all-passed}
 use Rattle.planfile.proofs.Headed.{Sizes, headed-sizes, behind, order-few, file-ordered, file-parts, starts-long, rows-apart, rows-started, rows-columns, file-nested, file-covered}

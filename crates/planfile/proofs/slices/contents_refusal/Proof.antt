@@ -6,8 +6,9 @@ use lib.ListN.{length}
 use Rattle.plan.specs.Refusals.{firstFault}
 use Rattle.plan.specs.Planning.{Contents, contents}
 use Rattle.plan.specs.File.{badRows, notNested, notCovered}
-use Rattle.planfile.specs.Supplied.{orderAndPartsChecks}
-use Rattle.planfile.proofs.Passing.{order-fault, fault-17, fault-18, fault-19, all-passed, order-checks, rows-check, nested-check, covered-check, exact-few, passed-parts, passed-laid}
+use Rattle.filechecks.specs.Fields.{orderAndPartsChecks}
+use Rattle.filechecks.proofs.Fields.{order-checks}
+use Rattle.planfile.proofs.Passing.{order-fault, fault-17, fault-18, fault-19, all-passed, rows-check, nested-check, covered-check, exact-few, passed-parts, passed-laid}
 use Rattle.planfile.proofs.slices.contents_refusal.Statement.{statement}
 use Rattle.planfile.proofs.slices.contents_refusal.Tie as tie
 

@@ -8,7 +8,7 @@ use borrow.Author.Needs.{needs}
 use Rattle.plan.specs.Lists.{listAt}
 use Rattle.plan.specs.File.{outsideAncestors, notNested}
 use Rattle.theory.proofs.Scans.{Clear, clear-more, found-below, none-below}
-use Rattle.planfile.specs.Supplied.{PartNumbers, outside}
+use Rattle.filechecks.specs.Fields.{PartNumbers, outside}
 use Rattle.planfile.proofs.Nesting.{parts-total, parts-few, parts-parents, parts-numbers, outside-is, laid-within, laid-good, laid-between}
 use Rattle.planfile.proofs.slices.not_nested.Statement.{statement}
 use Rattle.planfile.proofs.slices.not_nested.Tie as tie

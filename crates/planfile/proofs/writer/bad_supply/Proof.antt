@@ -9,7 +9,7 @@ use borrow.Author.Needs.{needs}
 use Rattle.plan.specs.Planning.{Contents, contents}
 use Rattle.plan.specs.File.{badHeader}
 use Rattle.plan.specs.Writing.{badSupply}
-use Rattle.planfile.proofs.Passing.{header-counts}
+use Rattle.filechecks.proofs.Fields.{header-counts}
 use Rattle.planfile.proofs.writer.bad_supply.Statement.{statement}
 use Rattle.planfile.proofs.writer.bad_supply.Tie as tie
 

@@ -12,7 +12,7 @@ use Rattle.theory.proofs.Written.{written-push, Reached, lentFrom, reached-long
 use Rattle.theory.proofs.Coding.{encode16-length}
 use Rattle.theory.proofs.FileFields.{word-length}
 use Rattle.theory.proofs.Fitting.{counts-few}
-use Rattle.planfile.specs.Supplied.{countsOnly}
+use Rattle.filechecks.specs.Fields.{countsOnly}
 use Rattle.planfile.proofs.WrittenFile.{header-fields}
 use Rattle.planfile.proofs.writer.write_header.Statement.{statement}
 use Rattle.planfile.proofs.writer.write_header.Tie as tie
