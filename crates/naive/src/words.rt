@@ -2,37 +2,25 @@
 use crate::file::byte;
 use crate::lists::plus;
 
-// What a word says that is no number of 32 bits.
+// What a word says, this or more, that is no number of 32 bits.
 pub(crate) const NO_NUMBER: usize = 4294967296;
 
-pub(crate) fn begins_line(text: &[u8], at: usize) -> bool {
-    if at == 0 {
-        return true;
+// "A line ends at a line feed, a carriage return before it allowed"
+fn ends_line(text: &[u8], at: usize) -> bool {
+    if byte(text, at) == b'\r' {
+        return byte(text, plus(at, 1)) == b'\n';
     }
-    byte(text, at - 1) == b'\n'
+    byte(text, at) == b'\n'
 }
 
-// Where the line feed of a line stands, or the text's end where it has none.
-fn line_feed(text: &[u8], line: usize) -> usize {
+// Where a line ends, so or "at the text's end".
+fn line_end(text: &[u8], line: usize) -> usize {
     for i in line..text.len() {
-        if byte(text, i) == b'\n' {
+        if ends_line(text, i) {
             return i;
         }
     }
     text.len()
-}
-
-// Where a line ends: "at a line feed, a carriage return before it allowed, or at the text's end".
-fn line_end(text: &[u8], line: usize) -> usize {
-    let end = line_feed(text, line);
-    if line < end {
-        if end < text.len() {
-            if byte(text, end - 1) == b'\r' {
-                return end - 1;
-            }
-        }
-    }
-    end
 }
 
 // "Spaces or tabs separate"
@@ -42,30 +30,19 @@ fn separates(x: u8) -> bool {
 
 // Whether a word of the line begins at a place of it.
 fn begins_word(text: &[u8], line: usize, at: usize) -> bool {
-    if separates(byte(text, at)) {
-        return false;
-    }
-    if at <= line {
-        return true;
-    }
-    separates(byte(text, at - 1))
-}
-
-// How many words a line has.
-pub(crate) fn words(text: &[u8], line: usize) -> usize {
-    let mut found = 0usize;
-    for i in line..line_end(text, line) {
-        if begins_word(text, line, i) {
-            found = plus(found, 1);
+    if line < at {
+        if !separates(byte(text, at - 1)) {
+            return false;
         }
     }
-    found
+    !separates(byte(text, at))
 }
 
 // Where word k begins, or the line's end where there are not so many.
 pub(crate) fn word(text: &[u8], line: usize, k: usize) -> usize {
+    let end = line_end(text, line);
     let mut passed = 0usize;
-    for i in line..line_end(text, line) {
+    for i in line..end {
         if begins_word(text, line, i) {
             if passed == k {
                 return i;
@@ -73,80 +50,88 @@ pub(crate) fn word(text: &[u8], line: usize, k: usize) -> usize {
             passed = plus(passed, 1);
         }
     }
-    line_end(text, line)
+    end
 }
 
-// Where word k ends.
-fn word_end(text: &[u8], line: usize, k: usize) -> usize {
-    for i in word(text, line, k)..line_end(text, line) {
-        if separates(byte(text, i)) {
-            return i;
-        }
-    }
-    line_end(text, line)
+// Whether a line has a word k.
+fn has_word(text: &[u8], line: usize, k: usize) -> bool {
+    word(text, line, k) < line_end(text, line)
 }
 
-// A to Z as a to z, any other byte as it is.
-fn lowered(x: u8) -> u8 {
-    if x < b'A' {
-        return x;
-    }
-    if b'Z' < x {
-        return x;
-    }
-    x + 32
-}
-
-// Whether word k is `name`, which has no capital, in any letter case.
-pub(crate) fn says(text: &[u8], line: usize, k: usize, name: &[u8]) -> bool {
-    let first = word(text, line, k);
-    if plus(first, name.len()) != word_end(text, line, k) {
+// Whether a line after the first begins at a place, and is not empty.
+pub(crate) fn is_line(text: &[u8], at: usize) -> bool {
+    if at == 0 {
         return false;
     }
-    for i in 0..name.len() {
-        if lowered(byte(text, plus(first, i))) != byte(name, i) {
-            return false;
+    if byte(text, at - 1) != b'\n' {
+        return false;
+    }
+    has_word(text, at, 0)
+}
+
+// The place behind `next` where the banner has x there, "in any letter case"; otherwise one far behind its end.
+fn follows(next: usize, x: u8) -> usize {
+    let y = byte(b" %%matrixmarket matrix coordinate pattern symmetric", next);
+    if x == y {
+        return plus(next, 1);
+    }
+    if b'a' <= y {
+        if x == y - 32 {
+            return plus(next, 1);
         }
     }
-    true
+    100
+}
+
+// "The first line is %%MatrixMarket matrix coordinate pattern symmetric": its words, with one space before each.
+pub(crate) fn has_banner(text: &[u8]) -> bool {
+    let mut next = 0usize;
+    for i in 0..line_end(text, 0) {
+        if begins_word(text, 0, i) {
+            next = follows(next, b' ');
+        }
+        let x = byte(text, i);
+        if !separates(x) {
+            next = follows(next, x);
+        }
+    }
+    next == 51
 }
 
 // The number with one more digit behind it. What is no number stays none.
 fn with_digit(x: usize, digit: u8) -> usize {
-    if NO_NUMBER <= x {
-        return NO_NUMBER;
+    if x < NO_NUMBER {
+        if b'0' <= digit {
+            if digit <= b'9' {
+                return x * 10 + (digit - b'0') as usize;
+            }
+        }
     }
-    if digit < b'0' {
-        return NO_NUMBER;
-    }
-    if b'9' < digit {
-        return NO_NUMBER;
-    }
-    let y = x * 10 + (digit - b'0') as usize;
-    if NO_NUMBER <= y {
-        return NO_NUMBER;
-    }
-    y
+    NO_NUMBER
 }
 
 // The number that word k says: "numbers are digits only", of at most 32 bits.
 pub(crate) fn number(text: &[u8], line: usize, k: usize) -> usize {
     let mut x = 0usize;
-    for i in word(text, line, k)..word_end(text, line, k) {
-        x = with_digit(x, byte(text, i));
+    for i in word(text, line, k)..line_end(text, line) {
+        let digit = byte(text, i);
+        if separates(digit) {
+            return x;
+        }
+        x = with_digit(x, digit);
     }
     x
 }
 
 // Whether the words of a line are so many numbers and nothing else.
 pub(crate) fn numbers_only(text: &[u8], line: usize, count: usize) -> bool {
-    if words(text, line) != count {
-        return false;
-    }
     for k in 0..count {
-        if number(text, line, k) == NO_NUMBER {
+        if !has_word(text, line, k) {
+            return false;
+        }
+        if NO_NUMBER <= number(text, line, k) {
             return false;
         }
     }
-    true
+    !has_word(text, line, count)
 }

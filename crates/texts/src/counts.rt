@@ -1,114 +1,104 @@
 // How often each answer was met, and how often the proved reader and the naive one differed.
+use crate::text::piece;
 use libc::STDOUT_FILENO;
 use meshes::more;
 use meshes::print_difference;
 use meshes::print_number;
-use naive::TOO_LARGE;
+use naive::NaiveMesh;
 
-// The subjects, by the number of their first: texts written out, whose answer is known; a text damaged in each byte; texts that a seed draws;
-// texts of many pairs.
-pub(crate) const GIVEN: usize = 0;
+// The counts, in the order in which they are printed. The comparisons whose answer is a refusal have its number, counted from `ACCEPTED`.
+const NUMBERS: usize = 30;
 
-pub(crate) const DAMAGED: usize = 1000;
+pub(crate) const TEXTS: usize = 0;
 
-pub(crate) const DRAWN: usize = 2000;
+pub(crate) const ACCEPTED: usize = 1;
 
-pub(crate) const LARGE: usize = 10000;
+const TOO_LARGE: usize = 27;
 
-// `met` counts the comparisons by refusal; 0 is a mesh. `wrong` counts the texts whose known answer was not given by the naive reader. `subject` is
-// what is tried, and `turn` how many comparisons of it were made: they tell where a difference is.
+// Texts whose known answer was not given by the naive reader.
+pub(crate) const NOT_AS_KNOWN: usize = 28;
+
+pub(crate) const DIFFERENT: usize = 29;
+
+// `subject` is what is tried, a line of the input or a number that draws, and `turn` how many comparisons of it were made: they tell where a
+// difference is. `answer` is the last one.
 pub(crate) struct Counts {
-    met: [usize; 26],
-    texts: usize,
-    too_large: usize,
-    wrong: usize,
-    different: usize,
+    numbers: [usize; NUMBERS],
     subject: usize,
     turn: usize,
+    pub(crate) answer: NaiveMesh,
 }
 
 pub(crate) fn none() -> Counts {
     Counts {
-        met: [0; 26],
-        texts: 0,
-        too_large: 0,
-        wrong: 0,
-        different: 0,
+        numbers: [0; NUMBERS],
         subject: 0,
         turn: 0,
+        answer: NaiveMesh {
+            refusal: 0,
+            nodes: 0,
+            entries: 0,
+        },
     }
 }
 
-// The next subject, `number` behind `first`.
-pub(crate) fn begun(mut c: Counts, first: usize, number: u64) -> Counts {
-    c.subject = first % 65536 + number as usize % 65536;
+pub(crate) fn begun(mut c: Counts, subject: usize) -> Counts {
+    c.subject = subject;
     c.turn = 0;
     c
 }
 
-// One more text.
-pub(crate) fn one_more(mut c: Counts) -> Counts {
-    c.texts = more(c.texts);
+// One more at a place of the counts.
+pub(crate) fn raised(mut c: Counts, k: usize) -> Counts {
+    if k < NUMBERS {
+        c.numbers[k] = more(c.numbers[k]);
+    }
     c
 }
 
-// One more comparison, whose answer should be this one. The first twenty differences have a line each.
-pub(crate) fn counted(mut c: Counts, refusal: u32, same: bool) -> Counts {
+// One more failure. The first twenty of a kind have a line each, with a number.
+pub(crate) fn failed(c: Counts, k: usize, what: &[u8], number: usize) -> Counts {
+    if k < NUMBERS {
+        if c.numbers[k] < 20 {
+            print_difference(what, c.subject, number);
+        }
+    }
+    raised(c, k)
+}
+
+// One more comparison, whose answer should be this one.
+pub(crate) fn counted(mut c: Counts, answer: NaiveMesh, same: bool) -> Counts {
     c.turn = more(c.turn);
-    let number = refusal as usize;
-    if number < 26 {
-        c.met[number] = more(c.met[number]);
+    c.answer = answer;
+    if answer.refusal == naive::TOO_LARGE {
+        return raised(c, TOO_LARGE);
     }
-    if refusal == TOO_LARGE {
-        c.too_large = more(c.too_large);
-        return c;
+    let d = raised(c, ACCEPTED + answer.refusal as usize);
+    if same {
+        return d;
     }
-    if !same {
-        if c.different < 20 {
-            print_difference(b"subject and turn", c.subject, c.turn);
-        }
-        c.different = more(c.different);
-    }
-    c
+    failed(d, DIFFERENT, b"subject and turn", c.turn)
 }
 
-// One more text whose answer is known: the naive reader gave `refusal`.
-pub(crate) fn checked(mut c: Counts, refusal: u32, known: u32) -> Counts {
-    if refusal != known {
-        if c.wrong < 20 {
-            io::write_all(STDOUT_FILENO, b"not as known, ");
-            print_difference(b"subject and answer", c.subject, refusal as usize);
-        }
-        c.wrong = more(c.wrong);
-    }
-    c
-}
-
-fn print_met(c: Counts, refusal: usize) {
-    if refusal < 26 {
-        let times = c.met[refusal];
-        if 0 < times {
-            io::write_all(STDOUT_FILENO, b"refused ");
-            io::print_decimal(STDOUT_FILENO, refusal as u64);
-            io::write_all(STDOUT_FILENO, b": ");
-            print_number(times);
+// A line of its own, none for a refusal that was not met.
+fn print_line(k: usize, x: usize) {
+    if x == 0 {
+        if ACCEPTED < k {
+            if k < TOO_LARGE {
+                return;
+            }
         }
     }
+    let labels =
+        b"texts |accepted |refused 1: |refused 2: |refused 3: |refused 4: |refused 5: |refused 6: |refused 7: |refused 8: |refused 9: |\
+        refused 10: |refused 11: |refused 12: |refused 13: |refused 14: |refused 15: |refused 16: |refused 17: |refused 18: |refused 19: |\
+        refused 20: |refused 21: |refused 22: |refused 23: |refused 24: |refused 25: |too large to compare |not as known |different |";
+    io::write_all(STDOUT_FILENO, piece(labels, k, b'|'));
+    print_number(x);
 }
 
-// A line for each answer that was met.
 pub(crate) fn print(c: Counts) {
-    io::write_all(STDOUT_FILENO, b"texts ");
-    print_number(c.texts);
-    io::write_all(STDOUT_FILENO, b"accepted ");
-    print_number(c.met[0]);
-    for refusal in 1..26usize {
-        print_met(c, refusal);
+    for k in 0..NUMBERS {
+        print_line(k, c.numbers[k]);
     }
-    io::write_all(STDOUT_FILENO, b"too large to compare ");
-    print_number(c.too_large);
-    io::write_all(STDOUT_FILENO, b"not as known ");
-    print_number(c.wrong);
-    io::write_all(STDOUT_FILENO, b"different ");
-    print_number(c.different);
 }

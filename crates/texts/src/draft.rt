@@ -1,58 +1,40 @@
 // What a text says: the numbers of its size line, and its pairs.
+use meshes::draw;
 
 // The most pairs of a draft.
-pub(crate) const PAIRS: usize = 300;
+const PAIRS: usize = 300;
 
-// The last two lists have the pairs, `count` of them.
+// The list has the numbers of the pairs, `count` of them, each row before its column.
 pub(crate) struct Draft {
     pub(crate) height: usize,
     pub(crate) width: usize,
     pub(crate) stated: usize,
     pub(crate) count: usize,
-    pub(crate) rows: [usize; PAIRS],
-    pub(crate) columns: [usize; PAIRS],
+    pub(crate) numbers: [usize; 600],
 }
 
-// A square matrix without pairs.
-pub(crate) fn square(n: usize) -> Draft {
-    Draft {
-        height: n,
-        width: n,
-        stated: 0,
-        count: 0,
-        rows: [0; PAIRS],
-        columns: [0; PAIRS],
-    }
-}
-
-pub(crate) fn row(d: Draft, k: usize) -> usize {
+// The row (0) or the column (1) of pair k.
+pub(crate) fn side(d: Draft, k: usize, s: usize) -> usize {
     if k < PAIRS {
-        return d.rows[k];
-    }
-    0
-}
-
-pub(crate) fn column(d: Draft, k: usize) -> usize {
-    if k < PAIRS {
-        return d.columns[k];
+        return d.numbers[k * 2 + s % 2];
     }
     0
 }
 
 // The draft with another pair k.
-pub(crate) fn with_pair(mut d: Draft, k: usize, r: usize, s: usize) -> Draft {
+pub(crate) fn with_pair(mut d: Draft, k: usize, row: usize, column: usize) -> Draft {
     if k < PAIRS {
-        d.rows[k] = r;
-        d.columns[k] = s;
+        d.numbers[k * 2] = row;
+        d.numbers[k * 2 + 1] = column;
     }
     d
 }
 
 // The draft with one more pair, and one more stated, where there is room.
-pub(crate) fn with_more(d: Draft, r: usize, s: usize) -> Draft {
+pub(crate) fn with_more(d: Draft, row: usize, column: usize) -> Draft {
     let count = d.count;
     if count < PAIRS {
-        let mut e = with_pair(d, count, r, s);
+        let mut e = with_pair(d, count, row, column);
         e.count = count + 1;
         e.stated = e.stated % 4294967296 + 1;
         return e;
@@ -60,12 +42,12 @@ pub(crate) fn with_more(d: Draft, r: usize, s: usize) -> Draft {
     d
 }
 
-// Pairs k and m, each in the other's place.
-pub(crate) fn swapped(d: Draft, k: usize, m: usize) -> Draft {
-    with_pair(
-        with_pair(d, k, row(d, m), column(d, m)),
-        m,
-        row(d, k),
-        column(d, k),
-    )
+// The draft with one more pair, in a place that the seed draws, where there is room: the pair there becomes the last.
+pub(crate) fn with_mixed(d: Draft, seed: u64, row: usize, column: usize) -> Draft {
+    let count = d.count;
+    if count < PAIRS {
+        let m = draw(seed, count, 30, count + 1);
+        return with_pair(with_more(d, side(d, m, 0), side(d, m, 1)), m, row, column);
+    }
+    d
 }

@@ -1,62 +1,47 @@
 // Texts that a seed draws: a pattern with its pairs in any order, written in any way that is allowed, and the same with one damage and with two.
-use crate::bytes::DAMAGES;
-use crate::bytes::damaged;
 use crate::counts::Counts;
-use crate::counts::DRAWN;
 use crate::counts::begun;
+use crate::damage::DAMAGES;
+use crate::damage::damaged;
 use crate::draft::Draft;
-use crate::draft::PAIRS;
-use crate::draft::column;
-use crate::draft::row;
-use crate::draft::square;
-use crate::draft::swapped;
+use crate::draft::side;
+use crate::draft::with_mixed;
 use crate::draft::with_more;
 use crate::draft::with_pair;
 use crate::style::written;
 use crate::text::Text;
-use crate::trial::try_known;
+use crate::trial::ANY;
 use crate::trial::try_text;
 use meshes::draw;
 use meshes::less;
 use meshes::more;
 
-// The draft with some pairs of row r, as many tenths of them as told.
-fn with_row(d: Draft, seed: u64, r: usize, tenths: usize) -> Draft {
-    let mut e = d;
-    for s in 0..r {
-        if draw(seed, r, s, 10) < tenths {
-            e = with_more(e, r, more(s));
-        }
-    }
-    e
-}
+// The subject of the first, behind every line of the input.
+const FIRST: usize = 10000;
 
-fn pattern(seed: u64, n: usize, tenths: usize) -> Draft {
-    let mut d = square(n);
-    for r in 0..n {
-        d = with_row(d, seed, r + 1, tenths);
+// A sound draft: of at most 12 nodes, one in eight of at most 60; the pairs are some tenths of all, in an order that the seed draws.
+fn sound(seed: u64) -> Draft {
+    let mut most = 12usize;
+    if draw(seed, 1, 31, 8) == 0 {
+        most = 60;
+    }
+    let n = more(draw(seed, 2, 31, most));
+    let tenths = more(draw(seed, 0, 31, 10));
+    let mut d = Draft {
+        height: n,
+        width: n,
+        stated: 0,
+        count: 0,
+        numbers: [0; 600],
+    };
+    for k in 0..n % 65536 * 64 {
+        let r = k / 64 + 1;
+        let s = k % 64;
+        if (s < r) & (draw(seed, r, s, 10) < tenths) {
+            d = with_mixed(d, seed, r, s + 1);
+        }
     }
     d
-}
-
-// The pairs in an order that the seed draws.
-fn shuffled(d: Draft, seed: u64) -> Draft {
-    let mut e = d;
-    for k in 0..PAIRS {
-        if k < d.count {
-            e = swapped(e, k, draw(seed, k, 30, k + 1));
-        }
-    }
-    e
-}
-
-// A sound draft: of at most 12 nodes, one in eight of at most 60.
-fn sound(seed: u64) -> Draft {
-    let tenths = more(draw(seed, 0, 31, 10));
-    if draw(seed, 1, 31, 8) == 0 {
-        return shuffled(pattern(seed, more(draw(seed, 2, 31, 60)), tenths), seed);
-    }
-    shuffled(pattern(seed, more(draw(seed, 2, 31, 12)), tenths), seed)
 }
 
 // A number at which a check may change its mind.
@@ -101,15 +86,17 @@ fn other_size(d: Draft, what: usize) -> Draft {
 
 // The draft with another pair k, which a number draws: an index at a border, the pair turned about, or one that stands elsewhere too.
 fn other_pair(d: Draft, seed: u64, k: usize, what: usize) -> Draft {
+    let row = side(d, k, 0);
+    let column = side(d, k, 1);
     let m = draw(seed, 3, 32, d.count);
     let x = border(d.height, draw(seed, 4, 32, 7));
     match what {
-        0 => with_pair(d, k, x, column(d, k)),
-        1 => with_pair(d, k, row(d, k), x),
-        2 => with_pair(d, k, column(d, k), row(d, k)),
-        3 => with_more(d, row(d, k), column(d, k)),
-        4 => with_more(d, row(d, 0), column(d, 0)),
-        5 => with_pair(d, k, row(d, m), column(d, m)),
+        0 => with_pair(d, k, x, column),
+        1 => with_pair(d, k, row, x),
+        2 => with_pair(d, k, column, row),
+        3 => with_more(d, row, column),
+        4 => with_more(d, side(d, 0, 0), side(d, 0, 1)),
+        5 => with_pair(d, k, side(d, m, 0), side(d, m, 1)),
         _ => with_more(d, more(draw(seed, 5, 32, d.height)), 1),
     }
 }
@@ -129,23 +116,26 @@ fn damaged_text(t: Text, seed: u64) -> Text {
 
 // The text of a seed; the same with one damage and with two to what it says, to how, and to both.
 fn drawn(c: Counts, seed: u64) -> Counts {
+    let next = seed % 4294967296 + 7;
     let d = sound(seed);
     let once = damaged_draft(d, seed);
-    let twice = damaged_draft(once, seed % 4294967296 + 7);
     let t = written(d, seed);
-    let u = damaged_text(t, seed);
+    let u = written(once, seed);
+    let v = damaged_text(t, seed);
+    let sound = try_text(c, t, 0);
     let said = try_text(
-        try_text(try_known(c, t, 0), written(once, seed)),
-        written(twice, seed),
+        try_text(sound, u, ANY),
+        written(damaged_draft(once, next), seed),
+        ANY,
     );
-    let changed = try_text(try_text(said, u), damaged_text(u, seed % 4294967296 + 7));
-    try_text(changed, damaged_text(written(once, seed), seed))
+    let changed = try_text(try_text(said, v, ANY), damaged_text(v, next), ANY);
+    try_text(changed, damaged_text(u, seed), ANY)
 }
 
 pub(crate) fn all(c: Counts) -> Counts {
     let mut d = c;
-    for number in 0..2000u64 {
-        d = drawn(begun(d, DRAWN, number), number * 5003);
+    for number in 0..2000usize {
+        d = drawn(begun(d, FIRST + number), (number * 5003) as u64);
     }
     d
 }

@@ -1,14 +1,33 @@
 // A draft written as a text, in ways that are all allowed: the seed draws each separator, line end, comment and letter case.
 use crate::draft::Draft;
-use crate::draft::column;
-use crate::draft::row;
-use crate::given::BANNER;
-use crate::text::SIZE;
+use crate::draft::side;
 use crate::text::Text;
-use crate::text::put;
-use crate::text::put_all;
-use crate::text::put_number;
+use crate::text::byte_of;
+use crate::text::empty;
+use crate::text::head;
+use crate::text::piece;
+use crate::text::with;
+use crate::text::with_all;
+use crate::text::with_pair;
 use meshes::draw;
+use meshes::less;
+
+// What is put before a number, in place of a space and of a line feed, and behind the first line's: sixteen pieces each, of which the draws take
+// the first.
+const PIECES: [u8; 142] = *b"\
+    ;;;;;;;;;;;;;;;00000000000;\
+    \x20; ; ; ; ; ;\t;  ; \t\t ;;;;;;;;\
+    \n;\n;\n;\n;\n;\r\n; \t\n;\n\n;\t\r\n \r\n;\n \t;;;;;;;\
+    ;;%\n; \t% 1 1 1\r\n;%%\x00\xff\r 2 1\n\n;% a|b\n%c\n;;;;;;;;;;;";
+
+// What the draws are for; the pieces stand at these numbers' remainders by 4.
+const ZEROS: usize = 44;
+
+const GAP: usize = 41;
+
+const END: usize = 42;
+
+const COMMENT: usize = 43;
 
 // One text in three has nothing but single spaces and line feeds.
 fn choice(seed: u64, at: usize, what: usize, bound: usize) -> usize {
@@ -18,43 +37,10 @@ fn choice(seed: u64, at: usize, what: usize, bound: usize) -> usize {
     draw(seed, at, what, bound)
 }
 
-fn put_gap(bytes: &mut [u8], at: usize, seed: u64) -> usize {
-    match choice(seed, at, 41, 9) {
-        6 => put_all(bytes, at, b"\t"),
-        7 => put_all(bytes, at, b"  "),
-        8 => put_all(bytes, at, b" \t\t "),
-        _ => put_all(bytes, at, b" "),
-    }
-}
-
-fn put_end(bytes: &mut [u8], at: usize, seed: u64) -> usize {
-    match choice(seed, at, 42, 10) {
-        5 => put_all(bytes, at, b"\r\n"),
-        6 => put_all(bytes, at, b" \t\n"),
-        7 => put_all(bytes, at, b"\n\n"),
-        8 => put_all(bytes, at, b"\t\r\n \r\n"),
-        9 => put_all(bytes, at, b"\n \t"),
-        _ => put_all(bytes, at, b"\n"),
-    }
-}
-
-fn put_comment(bytes: &mut [u8], at: usize, seed: u64) -> usize {
-    match choice(seed, at, 43, 6) {
-        2 => put_all(bytes, at, b"%\n"),
-        3 => put_all(bytes, at, b" \t% 1 1 1\r\n"),
-        4 => put_all(bytes, at, b"%%\x00\xff\r 2 1\n\n"),
-        5 => put_all(bytes, at, b"% a|b\n%c\n"),
-        _ => at,
-    }
-}
-
-// A number, at times behind zeros.
-fn put_value(bytes: &mut [u8], at: usize, seed: u64, x: usize) -> usize {
-    if choice(seed, at, 44, 16) == 15 {
-        let next = put_all(bytes, at, b"00000000000");
-        return put_number(bytes, next, x);
-    }
-    put_number(bytes, at, x)
+// The text with a piece of a kind.
+fn with_piece(t: Text, seed: u64, kind: usize, bound: usize) -> Text {
+    let drawn = choice(seed, t.length, kind, bound);
+    with_all(t, piece(&PIECES, kind % 4 * 16 + drawn % 16, b';'))
 }
 
 // A letter in a case that the seed draws; any other byte as it is.
@@ -67,61 +53,47 @@ fn cased(x: u8, seed: u64, i: usize) -> u8 {
     x
 }
 
-// A space of the banner as a separator, any other byte in some letter case.
-fn put_cased(bytes: &mut [u8], at: usize, seed: u64, x: u8, i: usize) -> usize {
+// The text with byte i of a plain one, in a way that the seed draws. The first line ends at 50; behind it are numbers.
+fn with_byte(t: Text, plain: Text, i: usize, seed: u64) -> Text {
+    let x = byte_of(plain, i);
     if x == b' ' {
-        return put_gap(bytes, at, seed);
+        return with_piece(t, seed, GAP, 9);
     }
-    put(bytes, at, cased(x, seed, i))
-}
-
-fn put_banner(bytes: &mut [u8], at: usize, seed: u64) -> usize {
-    let mut next = at;
-    for i in 0..50usize {
-        next = put_cased(bytes, next, seed, BANNER[i], i);
+    if x == b'\n' {
+        let u = with_piece(t, seed, END, 10);
+        if i == 50 {
+            return with_piece(u, seed, COMMENT, 6);
+        }
+        return u;
     }
-    next
+    if (50 < i) & (byte_of(plain, less(i)) < b'0') {
+        return with(with_piece(t, seed, ZEROS, 16), x);
+    }
+    with(t, cased(x, seed, i))
 }
 
-fn put_size(bytes: &mut [u8], at: usize, d: Draft, seed: u64) -> usize {
-    let a = put_value(bytes, at, seed, d.height);
-    let b = put_gap(bytes, a, seed);
-    let e = put_value(bytes, b, seed, d.width);
-    let f = put_gap(bytes, e, seed);
-    put_value(bytes, f, seed, d.stated)
+fn styled(plain: Text, seed: u64) -> Text {
+    let mut t = empty();
+    for i in 0..plain.length {
+        t = with_byte(t, plain, i, seed);
+    }
+    t
 }
 
-// A pair in a line of its own: it begins with the end of the line before.
-fn put_pair(bytes: &mut [u8], at: usize, d: Draft, seed: u64, k: usize) -> usize {
-    let a = put_end(bytes, at, seed);
-    let b = put_value(bytes, a, seed, row(d, k));
-    let e = put_gap(bytes, b, seed);
-    put_value(bytes, e, seed, column(d, k))
-}
-
-fn put_pairs(bytes: &mut [u8], at: usize, d: Draft, seed: u64) -> usize {
-    let mut next = at;
+// What a draft says, plainly.
+fn plain(d: Draft) -> Text {
+    let mut t = head(d.height, d.width, d.stated);
     for k in 0..d.count {
-        next = put_pair(bytes, next, d, seed, k);
+        t = with_pair(t, side(d, k, 0), side(d, k, 1));
     }
-    next
+    t
 }
 
-// The last line's end, which may be missing.
-fn put_last(bytes: &mut [u8], at: usize, seed: u64) -> usize {
-    if choice(seed, 1, 46, 3) == 2 {
-        return at;
-    }
-    put_end(bytes, at, seed)
-}
-
+// The last line's end may be missing.
 pub(crate) fn written(d: Draft, seed: u64) -> Text {
-    let mut bytes = [0u8; SIZE];
-    let banner = put_banner(&mut bytes, 0, seed);
-    let head = put_end(&mut bytes, banner, seed);
-    let comment = put_comment(&mut bytes, head, seed);
-    let size = put_size(&mut bytes, comment, d, seed);
-    let pairs = put_pairs(&mut bytes, size, d, seed);
-    let length = put_last(&mut bytes, pairs, seed);
-    Text { bytes, length }
+    let t = styled(plain(d), seed);
+    if choice(seed, 1, 46, 3) == 2 {
+        return t;
+    }
+    with_piece(t, seed, END, 10)
 }

@@ -1,5 +1,7 @@
-// Texts of at most 4,096 bytes, and texts made of others. What does not fit is left out.
-use meshes::first8;
+// Texts of at most 4,096 bytes, what is put into texts, and parts of them. What does not fit is left out.
+use meshes::more;
+
+const BANNER: [u8; 50] = *b"%%MatrixMarket matrix coordinate pattern symmetric";
 
 pub(crate) const SIZE: usize = 4096;
 
@@ -8,74 +10,47 @@ pub(crate) struct Text {
     pub(crate) length: usize,
 }
 
-// Puts a byte and gives where the next one goes.
-pub(crate) fn put(bytes: &mut [u8], at: usize, x: u8) -> usize {
-    if at < bytes.len() {
-        bytes[at] = x;
-        return at + 1;
+pub(crate) fn empty() -> Text {
+    Text {
+        bytes: [0; SIZE],
+        length: 0,
     }
-    at
 }
 
-pub(crate) fn put_all(bytes: &mut [u8], at: usize, piece: &[u8]) -> usize {
-    let mut next = at;
+// The text with one more byte.
+pub(crate) fn with(mut t: Text, x: u8) -> Text {
+    let at = t.length;
+    if at < SIZE {
+        t.bytes[at] = x;
+        t.length = at + 1;
+    }
+    t
+}
+
+pub(crate) fn with_all(t: Text, piece: &[u8]) -> Text {
+    let mut u = t;
     for i in 0..piece.len() {
-        next = put(bytes, next, piece[i]);
+        u = with(u, piece[i]);
     }
-    next
+    u
 }
 
-// 10 to the power k, for k of at most 10.
-fn power(k: usize) -> usize {
-    match k {
-        0 => 1,
-        1 => 10,
-        2 => 100,
-        3 => 1000,
-        4 => 10000,
-        5 => 100000,
-        6 => 1000000,
-        7 => 10000000,
-        8 => 100000000,
-        9 => 1000000000,
-        _ => 10000000000,
-    }
+// The text with a number behind a byte.
+fn with_number(t: Text, before: u8, x: usize) -> Text {
+    let mut digits = [0u8; 20];
+    let count = io::decimal(x as u64, &mut digits);
+    with_all(with(t, before), &digits[..count])
 }
 
-// The digit of x at a power of ten.
-fn digit(x: usize, p: usize) -> u8 {
-    if p == 0 {
-        return b'0';
-    }
-    b'0' + (x / p % 10) as u8
+// The text with the line of a pair, plainly; the line feed comes first.
+pub(crate) fn with_pair(t: Text, row: usize, column: usize) -> Text {
+    with_number(with_number(t, b'\n', row), b' ', column)
 }
 
-// Puts the digit of x at a power of ten, unless it stands before the number's first.
-fn put_digit(bytes: &mut [u8], at: usize, x: usize, p: usize) -> usize {
-    if x < p {
-        if p != 1 {
-            return at;
-        }
-    }
-    put(bytes, at, digit(x, p))
-}
-
-// Puts a number of at most 11 digits.
-pub(crate) fn put_number(bytes: &mut [u8], at: usize, x: usize) -> usize {
-    let mut next = at;
-    for k in 0..11usize {
-        next = put_digit(bytes, next, x, power(10 - k));
-    }
-    next
-}
-
-// Three pieces, one behind the other.
-pub(crate) fn joined(first: &[u8], second: &[u8], third: &[u8]) -> Text {
-    let mut bytes = [0u8; SIZE];
-    let a = put_all(&mut bytes, 0, first);
-    let b = put_all(&mut bytes, a, second);
-    let length = put_all(&mut bytes, b, third);
-    Text { bytes, length }
+// The banner and the size line.
+pub(crate) fn head(height: usize, width: usize, stated: usize) -> Text {
+    let banner = with_all(empty(), &BANNER);
+    with_number(with_pair(banner, height, width), b' ', stated)
 }
 
 // The bytes from one place up to another.
@@ -88,16 +63,33 @@ pub(crate) fn part<'a>(s: &'a [u8], from: usize, end: usize) -> &'a [u8] {
     &s[0..0]
 }
 
-// The text with a piece in place of what stands from one place up to another.
-pub(crate) fn spliced(t: Text, from: usize, end: usize, piece: &[u8]) -> Text {
-    let bytes = t.bytes;
-    let length = t.length;
-    joined(first8(&bytes, from), piece, part(&bytes, end, length))
+// Piece k of pieces that each end at a byte, or the last at the end.
+pub(crate) fn piece<'a>(s: &'a [u8], k: usize, end: u8) -> &'a [u8] {
+    let mut from = 0usize;
+    let mut passed = 0usize;
+    for i in 0..s.len() {
+        if s[i] == end {
+            if passed == k {
+                return part(s, from, i);
+            }
+            from = i + 1;
+            passed = more(passed);
+        }
+    }
+    part(s, from, s.len())
 }
 
-pub(crate) fn byte(t: Text, at: usize) -> u8 {
+pub(crate) fn byte_of(t: Text, at: usize) -> u8 {
     if at < SIZE {
         return t.bytes[at];
+    }
+    0
+}
+
+// A byte; 0 beyond the end.
+pub(crate) fn byte(s: &[u8], at: usize) -> u8 {
+    if at < s.len() {
+        return s[at];
     }
     0
 }

@@ -5,10 +5,10 @@ use Rattle.naive.proofs.words.word.Statement.{statement}
 use Rattle.naive.proofs.words.word.Tie as tie
 
 abbrev Inv-loop : tie.InvT-loop
-Inv-loop text line k passed₀ i₀ i-end passed i = Unit {0}
+Inv-loop text line k end passed₀ i₀ passed i = Unit {0}
 
 abbrev μ-loop : tie.MeasureT-loop
-μ-loop text line k passed₀ i₀ i-end passed i = i-end - i
+μ-loop text line k end passed₀ i₀ passed i = end - i
 
 pub word-spec : {M : Type 1} → statement M
 word-spec =
@@ -24,5 +24,4 @@ word-spec =
     (λ c. search needs)
     (λ c. search needs)
     (λ c. search needs)
-    (λ c κs. search needs)
     (λ c. search needs))

@@ -5,10 +5,10 @@ use Rattle.texts.proofs.counts.print.Statement.{statement}
 use Rattle.texts.proofs.counts.print.Tie as tie
 
 abbrev Inv-loop : tie.InvT-loop
-Inv-loop c refusal₀ t6 t7 t8 refusal = Unit {0}
+Inv-loop c k₀ k = Unit {0}
 
 abbrev μ-loop : tie.MeasureT-loop
-μ-loop c refusal₀ t6 t7 t8 refusal = 26 - refusal
+μ-loop c k₀ k = 30 - k
 
 pub print-spec : {M : Type 1} → statement M
 print-spec =
@@ -17,24 +17,10 @@ print-spec =
     Inv-loop
     μ-loop
     (λ c. search needs)
-    (λ c κs. search needs)
-    (λ c κs. search needs)
     (λ c. search needs)
-    (λ c κs. search needs)
-    (λ c. search needs)
-    (λ c κs. search needs)
     (λ c. search needs)
     (λ c κs. search needs)
     (λ c. search needs)
     (λ c. search needs)
     (λ c. search needs)
-    (λ c. search needs)
-    (λ c κs. search needs)
-    (λ c κs. search needs)
-    (λ c. search needs)
-    (λ c κs. search needs)
-    (λ c κs. search needs)
-    (λ c. search needs)
-    (λ c κs. search needs)
-    (λ c κs. search needs)
     (λ c. search needs))
