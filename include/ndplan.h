@@ -92,7 +92,7 @@ typedef struct {
 
 /* Plans a mesh of n nodes. `order`, `positions`, `sizes` and `parents` need room for n entries each, though only p of the sizes and parents are
  * written, `column_starts` for n + 1, and `rows` for as many as there are slots; n (n - 1) / 2 always suffice, and a refusal 9 does not tell how many
- * are needed. Refuses with 1 to 9. */
+ * are needed. In the plan of a mesh the nodes of a part that is no part's parent are all neighbours of one another. Refuses with 1 to 9. */
 NdpPlan ndp_plan(size_t n, const uint32_t *starts, size_t starts_length, const uint16_t *neighbours, size_t neighbours_length,
                  uint16_t *order, size_t order_length, uint16_t *positions, size_t positions_length, uint16_t *sizes, size_t sizes_length,
                  uint16_t *parents, size_t parents_length, uint32_t *column_starts, size_t column_starts_length, uint16_t *rows, size_t rows_length);

@@ -90,6 +90,16 @@ static void worked_meshes(void) {
     plan_bare(13, 4097);
 }
 
+/* Which neighbours a degree counts. If it counted nodes already chosen, a region of 31 would stay uncut, though no clique; in 32 only a region two
+ * cuts deep would be cut in another way; in 33 two nodes would not be equal, and the greater would be taken. If it counted neighbours in the last
+ * level only, 34 would be cut in another way. */
+static void telling_degrees(void) {
+    plan_edges(31, 7, "01 05 12 13 16 23 26 34 45 46", 24);
+    plan_edges(32, 9, "01 02 06 14 15 17 18 23 35 37 45 48 78", 24);
+    plan_edges(33, 7, "01 02 03 04 14 15 23 24 25 56", 24);
+    plan_edges(34, 6, "01 02 13 14 23 25 34", 16);
+}
+
 /* The root search and the cut, then the order of the checks. */
 static void telling_meshes(void) {
     plan_edges(21, 4, "01 02 03 12", 6);
@@ -102,6 +112,7 @@ static void telling_meshes(void) {
     plan_edges(28, 5, "01 02 03 04 13 34", 12);
     plan_edges(29, 7, "01 02 03 12 13 24 25 34 35 46 56", 24);
     plan_edges(30, 7, "01 12 23 34 45 56", 12);
+    telling_degrees();
     plan_lists(41, 0, EMPTY32, EMPTY16, 2, 1);
     plan_lists(42, 3, LIST32(0, 0, 0), EMPTY16, 4, 1);
     plan_lists(43, 2, LIST32(0, 2, 2), LIST16(1, 0), 3, 1);

@@ -127,7 +127,8 @@ pub enum Pair {
     NoSlot,
 }
 
-/// Plans a mesh into `buffers`. Refuses with 1 to 9.
+/// Plans a mesh into `buffers`. The nodes of a part that is no part's parent are then all neighbours of one another.
+/// Refuses with 1 to 9.
 pub fn plan(mesh: &Mesh, buffers: &mut Buffers) -> Result<Counts, Refusal> {
     // SAFETY: each pointer and length is that of a slice; the slices written are borrowed mutably, so none overlaps another.
     let reply = unsafe {

@@ -44,7 +44,7 @@ pub struct Plan {
 }
 
 impl Plan {
-    /// Plans a mesh. Refuses with 1 to 7.
+    /// Plans a mesh. The nodes of a part that is no part's parent are all neighbours of one another. Refuses with 1 to 7.
     pub fn of(mesh: &Mesh) -> Result<Plan, Refusal> {
         // More nodes than a mesh may have are refused, whatever the room is.
         let nodes = mesh.nodes.min(MAX_NODES);

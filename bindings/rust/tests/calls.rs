@@ -1,6 +1,7 @@
 //! Calls of the library. Each is made through the wrapper and through the C interface, on memory between guard words; the
 //! answer, the memory that was written and the input are compared with what is expected.
 
+use crate::cliques::uncut_not_clique;
 use crate::guarded::Guarded;
 use ndplan::ffi::{self, NdpPlan, NdpRows, NdpSlot, NdpWritten};
 use ndplan::{Buffers, Counts, Layout, Mesh, Pair, PlanView, Refusal};
@@ -78,7 +79,7 @@ pub fn plan(mesh: &MeshLists, room: &Room) -> Expected {
     expected
 }
 
-/// Plans a mesh and compares.
+/// Plans a mesh and compares. The lists handed out are the expected ones, so the rule for uncut parts is looked at in these.
 pub fn plan_expecting(mesh: &MeshLists, room: &Room, expected: &Expected) {
     let mut starts = Guarded::holding(&mesh.starts);
     let mut neighbours = Guarded::holding(&mesh.neighbours);
@@ -94,6 +95,9 @@ pub fn plan_expecting(mesh: &MeshLists, room: &Room, expected: &Expected) {
     lent.check(expected);
     starts.check(&mesh.starts, "starts");
     neighbours.check(&mesh.neighbours, "neighbours");
+    if let Ok(planned) = expected {
+        assert_eq!(uncut_not_clique(mesh, planned), None, "an uncut part that is no clique");
+    }
 }
 
 fn raw_plan(n: usize, starts: &mut Guarded<u32>, neighbours: &mut Guarded<u16>, lent: &mut Lent) -> NdpPlan {

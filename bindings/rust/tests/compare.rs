@@ -3,6 +3,7 @@
 //! valid and damaged input, and all lent memory is compared after every call.
 
 mod calls;
+mod cliques;
 mod guarded;
 mod meshes;
 mod paths;

@@ -23,12 +23,31 @@ fn choice_of_the_root() {
     expect_order(&mesh(5, &["01", "02", "03", "04", "13", "34"]), &[1, 2, 4, 0, 3]);
 }
 
-/// Degree is the length of the whole list: nodes 0 to 3 stay one part.
+fn expect_parts(mesh: &MeshLists, order: &[u16], sizes: &[u16]) {
+    let planned = plan(mesh, &ample_room(mesh.n)).unwrap();
+    assert_eq!((&planned.order[..], &planned.sizes[..]), (order, sizes));
+}
+
+/// Degree counts neighbours in the region. With nodes already chosen, 0 1 2 3 of the first mesh and 1 2 3 6 of the second
+/// would stay uncut, though not all next to one another; the third would be cut in another way two cuts deep; in the
+/// fourth another node would be least.
 #[test]
-fn degree_counts_chosen_nodes() {
+fn degree_leaves_out_chosen_nodes() {
     let edges = ["01", "02", "03", "12", "13", "24", "25", "34", "35", "46", "56"];
-    let planned = plan(&mesh(7, &edges), &ample_room(7)).unwrap();
-    assert!(planned.sizes.contains(&4));
+    expect_parts(&mesh(7, &edges), &[2, 3, 0, 1, 6, 4, 5], &[1, 1, 2, 1, 2]);
+    let edges = ["01", "05", "12", "13", "16", "23", "26", "34", "45", "46"];
+    expect_parts(&mesh(7, &edges), &[3, 6, 1, 2, 5, 0, 4], &[1, 1, 2, 1, 2]);
+    let edges = ["01", "02", "06", "14", "15", "17", "18", "23", "35", "37", "45", "48", "78"];
+    expect_parts(&mesh(9, &edges), &[5, 7, 8, 1, 4, 2, 3, 6, 0], &[1, 2, 2, 1, 1, 1, 1]);
+    let edges = ["01", "02", "03", "04", "14", "15", "23", "24", "25", "56"];
+    expect_parts(&mesh(7, &edges), &[1, 2, 3, 0, 4, 6, 5], &[1, 2, 2, 1, 1]);
+}
+
+/// All neighbours in the region, not only those in the last level, by which 1 4, 2 5 and 0 3 would be the parts.
+#[test]
+fn degree_counts_the_whole_region() {
+    let edges = ["01", "02", "13", "14", "23", "25", "34"];
+    expect_parts(&mesh(6, &edges), &[0, 3, 4, 1, 5, 2], &[1, 2, 1, 1, 1]);
 }
 
 /// A mesh, its nodes as lent and its refusal.

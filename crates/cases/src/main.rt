@@ -146,6 +146,31 @@ fn telling() {
     plan_edges(30, 7, &[0, 1, 1, 2, 2, 3, 3, 4, 4, 5, 5, 6], 12);
 }
 
+// Meshes that tell which neighbours a degree counts. If it counted nodes already chosen, a region of 31 would stay uncut, though no clique; in 32
+// only a region two cuts deep would be cut in another way; in 33 two nodes would not be equal, and the greater would be taken. If it counted
+// neighbours in the last level only, 34 would be cut in another way.
+fn telling_degrees() {
+    plan_edges(
+        31,
+        7,
+        b"\x00\x01\x00\x05\x01\x02\x01\x03\x01\x06\x02\x03\x02\x06\x03\x04\x04\x05\x04\x06",
+        24,
+    );
+    plan_edges(
+        32,
+        9,
+        b"\x00\x01\x00\x02\x00\x06\x01\x04\x01\x05\x01\x07\x01\x08\x02\x03\x03\x05\x03\x07\x04\x05\x04\x08\x07\x08",
+        24,
+    );
+    plan_edges(
+        33,
+        7,
+        b"\x00\x01\x00\x02\x00\x03\x00\x04\x01\x04\x01\x05\x02\x03\x02\x04\x02\x05\x05\x06",
+        24,
+    );
+    plan_edges(34, 6, &[0, 1, 0, 2, 1, 3, 1, 4, 2, 3, 2, 5, 3, 4], 16);
+}
+
 // Lists with two faults, or with buffers that are too short, that tell the order of the checks.
 fn refused() {
     plan_lists(41, 0, &[], &[], 2, 1);
@@ -174,6 +199,7 @@ fn families() {
 fn main() {
     worked();
     telling();
+    telling_degrees();
     refused();
     files::all();
     questions::all();

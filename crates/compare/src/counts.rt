@@ -1,13 +1,16 @@
-// How many meshes were planned, how many refused by each number, and how many the planners differed on.
+// How many meshes were planned, how many refused by each number, how many plans have an uncut part that is no clique, and how many meshes the
+// planners differed on.
 use crate::trial::Outcome;
 use libc::STDOUT_FILENO;
 use meshes::more;
 use meshes::print_difference;
 use meshes::print_number;
+use meshes::print_place;
 
 pub(crate) struct Counts {
     planned: usize,
     refused: [usize; 10],
+    not_cliques: usize,
     different: usize,
 }
 
@@ -15,8 +18,27 @@ pub(crate) fn none() -> Counts {
     Counts {
         planned: 0,
         refused: [0; 10],
+        not_cliques: 0,
         different: 0,
     }
+}
+
+// One more plan looked at for cliques. The first twenty that have an uncut part that is none have a line each.
+fn cliques_counted(
+    mut c: Counts,
+    o: Outcome,
+    numbers: &[u8],
+    first: usize,
+    second: usize,
+) -> Counts {
+    if !o.cliques {
+        if c.not_cliques < 20 {
+            io::write_all(STDOUT_FILENO, b"not cliques: ");
+            print_place(numbers, first, second);
+        }
+        c.not_cliques = more(c.not_cliques);
+    }
+    c
 }
 
 // One more mesh tried. `numbers` says what the two numbers behind it are; they tell the mesh where the planners differ, for the first twenty.
@@ -27,7 +49,7 @@ pub(crate) fn counted(
     first: usize,
     second: usize,
 ) -> Counts {
-    let mut d = c;
+    let mut d = cliques_counted(c, o, numbers, first, second);
     if !o.same {
         if c.different < 20 {
             print_difference(numbers, first, second);
@@ -57,6 +79,11 @@ fn print_refused(c: Counts, number: usize) {
     }
 }
 
+fn print_not_cliques(c: Counts) {
+    io::write_all(STDOUT_FILENO, b"not cliques ");
+    print_number(c.not_cliques);
+}
+
 fn print_different(c: Counts) {
     io::write_all(STDOUT_FILENO, b"different ");
     print_number(c.different);
@@ -67,5 +94,6 @@ pub(crate) fn print(c: Counts) {
     for number in 1..10usize {
         print_refused(c, number);
     }
+    print_not_cliques(c);
     print_different(c);
 }

@@ -1,5 +1,5 @@
 // Plans some thousand meshes with the planner and with `naive`, which is written apart from it, and counts the meshes on which they differ in an
-// answer or in any entry of a lent result.
+// answer or in any entry of a lent result, and the plans with an uncut part whose nodes are not all next to one another.
 // Cost: a fixed run; every function is polynomial in 64 and in the lengths of what it is lent.
 mod counts;
 mod trial;

@@ -1,5 +1,6 @@
 // One mesh planned by both planners.
 use meshes::Case;
+use meshes::Held;
 use meshes::Lengths;
 use meshes::first16;
 use meshes::first32;
@@ -7,10 +8,11 @@ use meshes::front16;
 use meshes::front32;
 use naive::NaivePlan;
 
-// The refusal, or 0, and whether both planners answer the same and leave the same.
+// The refusal, or 0, whether both planners answer the same and leave the same, and whether the planner's plan keeps the rule for uncut parts.
 pub(crate) struct Outcome {
     pub(crate) refusal: u32,
     pub(crate) same: bool,
+    pub(crate) cliques: bool,
 }
 
 // The length of the rows where there are so many slots.
@@ -40,6 +42,18 @@ fn plan_naively(
         l.column_starts,
         rows,
     )
+}
+
+// Whether every uncut part of the plan that was handed out is a clique. A refusal hands out none.
+fn keeps_cliques(starts: &[u32], neighbours: &[u16], h: Held) -> bool {
+    if h.refusal != 0 {
+        return true;
+    }
+    let parts = h.parts as usize;
+    let order = h.order;
+    let sizes = h.sizes;
+    let parents = h.parents;
+    naive::uncut_cliques(starts, neighbours, parts, &order, &sizes, &parents)
 }
 
 // Lends both planners the same. Entries that are not used should stay as found, past a result's length too.
@@ -76,6 +90,7 @@ pub(crate) fn try_lent(n: usize, starts: &[u32], neighbours: &[u16], l: Lengths)
     Outcome {
         refusal: p.refusal,
         same: meshes::agrees(h, p),
+        cliques: keeps_cliques(starts, neighbours, h),
     }
 }
 

@@ -5,6 +5,7 @@ pub mod Standing
 pub mod Spreads
 pub mod Walks
 pub mod Labels
+pub mod LeastDegrees
 pub mod Roots
 pub mod Cuts
 pub mod Distribution

@@ -1,132 +1,36 @@
--- The root search: nodes of least degree, the candidates of a root, and the turns of the search.
-use mathlib.Core.Path.{_≡_, refl, sym, ap, ap₂, _∙_}
+-- The root search: the candidates of a root, and the turns of the search.
+use mathlib.Core.Path.{_≡_, sym, ap, ap₂, _∙_}
 use mathlib.Core.Logic.{_≢_, inl, inr}
 use mathlib.Core.Bool.{Bool, true, false, cond}
-use mathlib.Core.List.{List, [], _∷_, _++_, map, flatten, getLastD}
+use mathlib.Core.List.{List, [], map, flatten, getLastD}
 use Prim.Native.Nat.{ℕ, zero, suc, _+_, _-_, _≤_, _<_}
 use native.Mathlib.Omega.{arith}
 use lib.Dec.{eqb, ltb}
-use lib.ListN.{length, getD, take, set, length-map, List·getD-map}
-use lib.Seq.{length-take-le, take-all, getD-take, ext-getD, getD-set-same, getD-set-other}
+use lib.ListN.{length, getD, take, length-map, List·getD-map}
+use lib.Seq.{length-take-le, take-all, getD-take, ext-getD}
 use borrow.Author.Tests.{eq-eqb, ne-eqb}
-use Rattle.plan.specs.Lists.{keep, isIn, ascending}
-use Rattle.plan.specs.Mesh.{maxNodes, Mesh, neighboursOf, adjacent}
+use Rattle.plan.specs.Lists.{isIn, ascending}
+use Rattle.plan.specs.Mesh.{maxNodes, Mesh, adjacent}
 use Rattle.plan.specs.Levels.{levels, eccentricity, components}
-use Rattle.plan.specs.Choice.{degreeIn, lesser, leastFrom, leastDegree, candidates, improves, nextRoot, rootFrom, rootOf}
-use Rattle.theory.specs.Checked.{Checked}
+use Rattle.plan.specs.Choice.{degreeIn, leastDegree, candidates, improves, nextRoot, rootFrom, rootOf}
 use Rattle.theory.proofs.Bools.{tested, clash, cond-true, cond-false, eq-or-ne}
-use Rattle.theory.proofs.Lists.{isIn-take, of-keep, keep-more, headD-getD, getLastD-getD}
+use Rattle.theory.proofs.Lists.{headD-getD, getLastD-getD}
 use Rattle.theory.proofs.AllLists.{all-getD}
 use Rattle.theory.proofs.Flatten.{isIn-flatten-take, isIn-flatten-last}
 use Rattle.theory.proofs.Ascending.{ascending-keep}
 use Rattle.theory.proofs.Components.{components-some}
 use Rattle.theory.proofs.LevelNumbers.{level-first, level-kept, levels-some}
 use Rattle.theory.proofs.RootSearch.{next-cases, turn-ends, turn-goes, search-same, root-same}
-use Rattle.theory.proofs.RootInside.{leastDegree-isIn}
-use Rattle.mesh.proofs.Lists.{list-long, checked-within}
 use Rattle.dissection.specs.Numbers.{fresh, outside, freshOf, Within, Only, NumberedBy, Renumbered, grouped, Labelled}
-use Rattle.mesh.specs.Lists.{none}
 use Rattle.dissection.specs.Changes.{onlyLevel}
 use Rattle.dissection.specs.Standing.{Regional, Standing}
-use Rattle.dissection.specs.Rooted.{betterOf, bestOf, Bests, Compared, Rooted, Better}
+use Rattle.dissection.specs.Degrees.{Leads}
+use Rattle.dissection.specs.Rooted.{Rooted, Better}
 use Rattle.dissection.proofs.Fresh.{fresh-same}
 use Rattle.dissection.proofs.Renumbering.{renumbered-in, renumbered-out, renumbered-only}
-use Rattle.dissection.proofs.Grouped.{hasNumber, group-at}
 use Rattle.dissection.proofs.Labels.{labelled-only}
 use Rattle.dissection.proofs.Standing.{level-inside, number-level}
-
--- ---- a node of least degree
-
--- the degree of a node by the starts, in any region
-pub degree-is : (m : Mesh) → Checked m → (region : List ℕ) (v : ℕ) → v < m .nodes → getD (m .starts) (v + 1) 0 - getD (m .starts) v 0 ≡ degreeIn m region v
-unfolding neighboursOf degreeIn
-degree-is m h region v lt = sym (list-long (m .starts) (m .neighbours) v (checked-within m h v lt))
-
-module _ (degree : ℕ → ℕ) where
-  -- where a best node has been seen, the degrees are compared
-  pub better-some : (best v : ℕ) → best ≢ none → betterOf degree best v ≡ cond (ltb (degree v) (degree best)) v best
-  unfolding lesser
-  better-some best v h = cond-false (eqb best none) v (lesser degree best v) (ne-eqb best none h)
-
-  -- a node of another group changes nothing
-  pub compared-not : (v : ℕ) (numbers : List ℕ) (count : ℕ) (best : List ℕ) → count ≤ getD numbers v 0 → Compared degree v numbers count best best
-  compared-not v numbers count best h c lt =
-      sym (cond-false (eqb (getD numbers v 0) c) (betterOf degree (getD best c 0) v) (getD best c 0) (ne-eqb (getD numbers v 0) c (λ e. omega arith)))
-
-  -- a node of one of the groups is compared by one store
-  pub compared-set : (v : ℕ) (numbers : List ℕ) (count : ℕ) (best : List ℕ) (g : ℕ) → g ≡ getD numbers v 0 → g < length best
-      → Compared degree v numbers count best (set best g (betterOf degree (getD best g 0) v))
-  compared-set v numbers count best g own long c lt = elim (eq-or-ne c g) [
-    | inl e ↦ rw e
-        (getD-set-same best g (betterOf degree (getD best g 0) v) 0 long
-        ∙ sym (cond-true (eqb (getD numbers v 0) g) (betterOf degree (getD best g 0) v) (getD best g 0) (eq-eqb (getD numbers v 0) g (sym own))))
-    | inr e ↦
-        getD-set-other best g c (betterOf degree (getD best g 0) v) 0 e
-        ∙ sym (cond-false (eqb (getD numbers v 0) c) (betterOf degree (getD best c 0) v) (getD best c 0) (ne-eqb (getD numbers v 0) c (λ f. e (sym f ∙ sym own))))
-  ]
-
-  -- the least of v and a list with one more at the end
-  least-snoc : (v : ℕ) (l : List ℕ) (x : ℕ) → leastFrom degree v (l ++ (x ∷ [])) ≡ lesser degree (leastFrom degree v l) x
-  unfolding leastFrom
-  least-snoc v [] x = refl
-  least-snoc v (w ∷ l) x = least-snoc (lesser degree v w) l x
-
-  -- in a list that is not empty the best node is the book's
-  best-least : (l : List ℕ) → 0 < length l → bestOf degree l ≡ leastDegree degree l
-  best-least [] h = absurd (omega arith)
-  best-least (v ∷ l) h = refl
-
-  -- the best of nodes below n is a node below n, where there is one
-  best-node : (n : ℕ) (l : List ℕ) → ((x : ℕ) → isIn x l ≡ true → x < n) → bestOf degree l ≢ none → bestOf degree l < n
-  best-node n [] f h = absurd (h refl)
-  best-node n (v ∷ l) f h = f (bestOf degree (v ∷ l)) (leastDegree-isIn degree (v ∷ l) (omega arith))
-
-  -- the best of a list with one more at the end
-  best-more : (n : ℕ) (l : List ℕ) (v : ℕ) → ((x : ℕ) → isIn x l ≡ true → x < n) → n ≤ maxNodes → betterOf degree (bestOf degree l) v ≡ bestOf degree (l ++ (v ∷ []))
-  unfolding leastDegree leastFrom
-  best-more n [] v f few = refl
-  best-more n (w ∷ l) v f few =
-      let lt : bestOf degree (w ∷ l) < n = f (bestOf degree (w ∷ l)) (leastDegree-isIn degree (w ∷ l) (omega arith)) in
-      cond-false (eqb (bestOf degree (w ∷ l)) none) v (lesser degree (bestOf degree (w ∷ l)) v) (ne-eqb (bestOf degree (w ∷ l)) none (λ e. omega arith))
-      ∙ sym (least-snoc w l v)
-
--- the best node of each of the first `count` groups of nodes
-abbrev pub Leading : (ℕ → ℕ) → List ℕ → ℕ → List ℕ → List ℕ → Type 0
-Leading degree numbers count nodes best = (c : ℕ) → c < count → getD best c 0 ≡ bestOf degree (keep (hasNumber numbers c) nodes)
-
-module _ (n : ℕ) (few : n ≤ maxNodes) (degree : ℕ → ℕ) (nodes : List ℕ) (within : Within n nodes) (numbers : List ℕ) (count : ℕ) where
-  -- the nodes of a group among the first i are below n
-  first-inside : (i c x : ℕ) → isIn x (keep (hasNumber numbers c) (take i nodes)) ≡ true → x < n
-  first-inside i c x t = within .inside x (isIn-take x i nodes (of-keep (hasNumber numbers c) (take i nodes) x t .0))
-
-  -- the best of each group among the first i is a node or none
-  pub leading-bests : (i : ℕ) (best : List ℕ) → Leading degree numbers count (take i nodes) best → Bests n count best
-  leading-bests i best h c lt some = rw (h c lt) (best-node degree n (keep (hasNumber numbers c) (take i nodes)) (first-inside i c) (rw (h c lt) at some))
-
-  -- one more node is compared
-  pub leading-more : (i : ℕ) (best new : List ℕ) → i < length nodes → Leading degree numbers count (take i nodes) best
-      → Compared degree (getD nodes i 0) numbers count best new → Leading degree numbers count (take (i + 1) nodes) new
-  leading-more i best new lt h compared c less =
-      compared c less
-      ∙ ap (λ (b : ℕ). cond (hasNumber numbers c v) (betterOf degree b v) b) (h c less)
-      ∙ go (hasNumber numbers c v)
-      ∙ ap (bestOf degree) (sym (keep-more (hasNumber numbers c) nodes i lt))
-    where
-      v : ℕ
-      v = getD nodes i 0
-
-      passed : ℕ → List ℕ
-      passed c = keep (hasNumber numbers c) (take i nodes)
-
-      go : (b : Bool) → cond b (betterOf degree (bestOf degree (passed c)) v) (bestOf degree (passed c)) ≡ bestOf degree (cond b (passed c ++ (v ∷ [])) (passed c))
-      go true = best-more degree n (passed c) v (first-inside i c) few
-      go false = refl
-
-  -- all are compared
-  pub leading-all : (i : ℕ) (best : List ℕ) → length nodes ≤ i → Leading degree numbers count (take i nodes) best
-      → (c : ℕ) → c < count → getD best c 0 ≡ bestOf degree (getD (grouped count numbers nodes) c [])
-  leading-all i best le h c lt =
-      h c lt ∙ ap (λ (l : List ℕ). bestOf degree (keep (hasNumber numbers c) l)) (take-all i nodes le) ∙ ap (bestOf degree) (sym (group-at count numbers nodes c lt))
+use Rattle.dissection.proofs.LeastDegrees.{leastDegree-ext, leads-least}
 
 -- ---- the candidates of a root
 
@@ -228,11 +132,12 @@ module _ (m : Mesh) (nodes : List ℕ) {numbers queue : List ℕ} {root last : �
         pub candidates-only : Only (m .nodes) nodes new
         candidates-only = labelled-only labelled fresh-inside (renumbered-only (m .nodes) (onlyLevel last) nodes numbers kept renumbered (h .only))
 
-        -- the best nodes of the groups are the candidates
-        pub candidates-found : (found : List ℕ) → count ≤ length found → ((c : ℕ) → c < count → getD found c 0 ≡ bestOf (degreeIn m nodes) (getD (grouped count new nodes) c []))
+        -- the nodes that lead the groups, by the book's degree, are the candidates
+        pub candidates-found : (degree : ℕ → ℕ) → ((v : ℕ) → degree v ≡ degreeIn m nodes v) → (found degrees : List ℕ) → count ≤ length found
+            → ((c : ℕ) → c < count → Leads degree (getD (grouped count new nodes) c []) (getD found c 0) (getD degrees c 0))
             → take count found ≡ candidates m nodes root
         unfolding candidates leastDegree
-        candidates-found found long best =
+        candidates-found degree same found degrees long leads =
             ext-getD 0 (take count found) (map least cs) (taken ∙ sym (length-map cs least ∙ many)) (λ i lt. each i (omega (arith, taken)))
           where
             least : List ℕ → ℕ
@@ -244,9 +149,9 @@ module _ (m : Mesh) (nodes : List ℕ) {numbers queue : List ℕ} {root last : �
             each : (i : ℕ) → i < count → getD (take count found) i 0 ≡ getD (map least cs) i 0
             each i lt =
                 getD-take count found i 0 lt
-                ∙ best i lt
-                ∙ ap (λ (gs : List (List ℕ)). bestOf (degreeIn m nodes) (getD gs i [])) groups
-                ∙ best-least (degreeIn m nodes) (getD cs i []) (all-getD (λ c. 0 < length c) cs (components-some (adjacent m) (getLastD ls [])) i (omega (arith, many)))
+                ∙ leads-least degree (getD cs i []) (getD found i 0) (getD degrees i 0) (all-getD (λ c. 0 < length c) cs (components-some (adjacent m) (getLastD ls [])) i (omega (arith, many)))
+                (rw groups at (leads i lt))
+                ∙ leastDegree-ext degree (degreeIn m nodes) same (getD cs i [])
                 ∙ sym (List·getD-map least cs i [])
 
 -- ---- the root search

@@ -1,5 +1,6 @@
 // Nested dissection of a mesh that has passed checks 1 to 7.
 mod cut;
+mod degrees;
 mod levels;
 mod numbers;
 mod parts;

@@ -1,4 +1,5 @@
 // The pseudo-peripheral root of a region (document 01: its starting root): a search that goes on while a candidate's levels are more.
+use crate::degrees::least;
 use crate::levels::label;
 use crate::levels::walk;
 use crate::numbers::Change;
@@ -7,94 +8,17 @@ use crate::numbers::OUTSIDE;
 use crate::numbers::fill;
 use crate::numbers::renumber;
 use crate::numbers::transfer;
-use mesh::NONE;
-use mesh::wide;
 ghost use mathlib.Core.Path.{_≡_};
 ghost use mathlib.Core.Bool.{true};
-ghost use mathlib.Core.Logic.{_≢_};
-ghost use mathlib.Core.List.{List, [], headD};
+ghost use mathlib.Core.List.{[], headD};
 ghost use Prim.Native.Nat.{ℕ, _≤_, _<_};
-ghost use lib.ListN.{length, take, getD};
+ghost use lib.ListN.{length, take};
 ghost use Rattle.plan.specs.Lists.{isIn, keep};
 ghost use Rattle.plan.specs.Mesh.{lent};
-ghost use Rattle.plan.specs.Choice.{degreeIn, candidates as candidatesOf, improves, nextRoot, rootOf};
-ghost use Rattle.theory.specs.Checked.{Checked};
-ghost use Rattle.mesh.specs.Lists.{none};
-ghost use Rattle.dissection.specs.Numbers.{Within, Only, grouped};
+ghost use Rattle.plan.specs.Choice.{candidates as candidatesOf, improves, nextRoot, rootOf};
+ghost use Rattle.dissection.specs.Numbers.{Only};
 ghost use Rattle.dissection.specs.Standing.{Regional, Standing};
-ghost use Rattle.dissection.specs.Rooted.{betterOf, bestOf, Bests, Compared, Rooted, Better};
-
-// The degree of node v, in any region: the length of its list. n and neighbours are for the contract alone. O(1).
-fn degree(n: usize, starts: &[u32], neighbours: &[u16], v: u16) -> u32
-    requires { ⌜ Checked (lent n (now starts) (now neighbours)) × (v < n) ⌝ }
-    ensures { λ r. ⌜ ((region : List ℕ) → r ≡ degreeIn (lent n (now (starts .entry)) (now (neighbours .entry))) region v) ⌝ }
-{
-    let u = wide(v);
-    starts[u + 1] - starts[u]
-}
-
-// The better of the best node seen so far and v: the one of less degree, the one seen before on a tie; v where none was seen yet. O(1).
-fn better_of(n: usize, starts: &[u32], neighbours: &[u16], best: u16, v: u16) -> u16
-    requires { ⌜ Checked (lent n (now starts) (now neighbours)) × (v < n) × (best ≢ none → best < n) ⌝ }
-    ensures { λ r. ⌜ ((region : List ℕ) → r ≡ betterOf (degreeIn (lent n (now (starts .entry)) (now (neighbours .entry))) region) best v) ⌝ }
-{
-    if best == NONE {
-        return v;
-    }
-    if degree(n, starts, neighbours, v) < degree(n, starts, neighbours, best) {
-        return v;
-    }
-    best
-}
-
-// Node v is compared with the best of its group, where it has one of the first `count` numbers. O(1).
-fn compare(
-    n: usize,
-    starts: &[u32],
-    neighbours: &[u16],
-    v: u16,
-    numbers: &[u16],
-    count: usize,
-    best: &mut [u16],
-)
-    requires { ⌜ Checked (lent n (now starts) (now neighbours)) × (v < n) × (n ≤ length (now numbers)) × (count ≤ length (now best)) × Bests n count (now best) ⌝ }
-    ensures { λ _. ⌜ ((region : List ℕ) → Compared (degreeIn (lent n (now (starts .entry)) (now (neighbours .entry))) region) v (now (numbers .entry)) count (now (best .entry)) (now (best .exit))) ⌝ }
-{
-    let c = wide(numbers[wide(v)]);
-    if c >= count {
-        return;
-    }
-    best[c] = better_of(n, starts, neighbours, best[c], v);
-}
-
-// No group has a best node yet. O(count).
-fn clear(count: usize, best: &mut [u16])
-    requires { ⌜ count ≤ length (now best) ⌝ }
-    ensures { λ _. ⌜ ((c : ℕ) → c < count → getD (now (best .exit)) c 0 ≡ none) ⌝ }
-{
-    for c in 0..count {
-        best[c] = NONE;
-    }
-}
-
-// In each of the first `count` groups a node of least degree, the smallest on a tie. O(length).
-fn least(
-    n: usize,
-    starts: &[u32],
-    neighbours: &[u16],
-    nodes: &[u16],
-    numbers: &[u16],
-    count: usize,
-    best: &mut [u16],
-)
-    requires { ⌜ Checked (lent n (now starts) (now neighbours)) × Within n (now nodes) × (n ≤ length (now numbers)) × (count ≤ length (now best)) ⌝ }
-    ensures { λ _. ⌜ ((c : ℕ) → c < count → getD (now (best .exit)) c 0 ≡ bestOf (degreeIn (lent n (now (starts .entry)) (now (neighbours .entry))) (now (nodes .entry))) (getD (grouped count (now (numbers .entry)) (now (nodes .entry))) c [])) ⌝ }
-{
-    clear(count, best);
-    for i in 0..nodes.len() {
-        compare(n, starts, neighbours, nodes[i], numbers, count, best);
-    }
-}
+ghost use Rattle.dissection.specs.Rooted.{Rooted, Better};
 
 // A root with the number of its last level (document 01: ℓ).
 pub(crate) struct Root {
@@ -102,8 +26,9 @@ pub(crate) struct Root {
     pub(crate) last: u16,
 }
 
-// The candidates of a root whose levels stand in `levels`: of each component of its last level a node of least degree. Their number is returned.
-// `found` has the places where the components begin until the candidates are written over them. O(length + entries of the last level).
+// The candidates of a root whose levels stand in `levels`: of each component of its last level a node of least degree in the region. Their number is
+// returned. `found` has the places where the components begin until the candidates are written over them, and `queue` their degrees at the end.
+// O(length + entries of the last level).
 fn candidates(
     n: usize,
     starts: &[u32],
@@ -133,7 +58,17 @@ fn candidates(
         found,
         irregular,
     );
-    least(n, starts, neighbours, nodes, trial, count, found);
+    least(
+        n,
+        starts,
+        neighbours,
+        nodes,
+        levels,
+        trial,
+        count,
+        found,
+        queue,
+    );
     count
 }
 

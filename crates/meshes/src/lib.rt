@@ -38,5 +38,6 @@ pub use numbers::less;
 pub use numbers::more;
 pub use numbers::print_difference;
 pub use numbers::print_number;
+pub use numbers::print_place;
 pub use random::draw;
 pub use shape::drawn;

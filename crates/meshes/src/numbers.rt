@@ -26,12 +26,17 @@ pub fn print_number(x: usize) {
     io::write_all(STDOUT_FILENO, b"\n");
 }
 
-// The line that tells where the proved code and the naive code differ: a word and two numbers.
-pub fn print_difference(what: &[u8], first: usize, second: usize) {
-    io::write_all(STDOUT_FILENO, b"different: ");
+// Where something was found: words and two numbers, which end a line.
+pub fn print_place(what: &[u8], first: usize, second: usize) {
     io::write_all(STDOUT_FILENO, what);
     io::write_all(STDOUT_FILENO, b" ");
     io::print_decimal(STDOUT_FILENO, first as u64);
     io::write_all(STDOUT_FILENO, b" ");
     print_number(second);
+}
+
+// The line that tells where the proved code and the naive code differ.
+pub fn print_difference(what: &[u8], first: usize, second: usize) {
+    io::write_all(STDOUT_FILENO, b"different: ");
+    print_place(what, first, second);
 }

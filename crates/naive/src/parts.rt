@@ -52,11 +52,16 @@ fn component(m: &[u64; 64], s: u64, v: usize) -> u64 {
     c
 }
 
+// How many neighbours v has in the region.
+fn degree(m: &[u64; 64], region: u64, v: usize) -> u32 {
+    size(row(m, v) & region)
+}
+
 // The node of s of least degree, the smallest on a tie.
-fn least_degree(m: &[u64; 64], s: u64) -> usize {
+fn least_degree(m: &[u64; 64], region: u64, s: u64) -> usize {
     let mut best = smallest(s);
     for v in 0..64usize {
-        if has(s, v) && size(row(m, v)) < size(row(m, best)) {
+        if has(s, v) && degree(m, region, v) < degree(m, region, best) {
             best = v;
         }
     }
@@ -71,7 +76,7 @@ fn farther(m: &[u64; 64], region: u64, ends: u64, last: usize) -> usize {
             return 64;
         }
         let c = component(m, rest, smallest(rest));
-        let v = least_degree(m, c);
+        let v = least_degree(m, region, c);
         let l = levels_from(m, region, v);
         if last < l.last {
             return v;

@@ -4,13 +4,13 @@ use mathlib.Core.List.{List, [], _∷_, map, headD, getLastD}
 use Prim.Native.Nat.{ℕ, zero, suc, _+_, _*_, _/_}
 use lib.Dec.{leb, ltb, eqb}
 use lib.ListN.{length, getD}
-use Rattle.plan.specs.Lists.{exists, keep}
+use Rattle.plan.specs.Lists.{exists, keep, isIn}
 use Rattle.plan.specs.Mesh.{Mesh, neighboursOf, adjacent}
 use Rattle.plan.specs.Levels.{Graph, levels, eccentricity, components}
 
--- "degree is the length of the node's list": nodes already chosen count too, so the region does not matter here
+-- Document 02, E2: "From now on degree counts only neighbours in the same region."
 unfoldable pub degreeIn : Mesh → List ℕ → ℕ → ℕ
-degreeIn m region v = length (neighboursOf m v)
+degreeIn m region v = length (keep (λ w. isIn w region) (neighboursOf m v))
 
 -- the node of less degree, a on a tie
 unfoldable pub lesser : (ℕ → ℕ) → ℕ → ℕ → ℕ

@@ -9,6 +9,7 @@ pub mod Steps
 pub mod Elimination
 pub mod Parts
 pub mod Demand3
+pub mod Cliques
 pub mod Planning
 pub mod File
 pub mod Reading
@@ -20,5 +21,6 @@ pub mod Enough
 pub mod MatrixMarket
 pub mod AcceptedTexts
 pub mod Everything
+pub mod ChoiceCases
 pub mod Starred
 pub mod WorkedTexts

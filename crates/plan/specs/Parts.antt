@@ -36,6 +36,15 @@ atOrAbove parents q r = eqb q r || isIn r (ancestors parents q)
 unfoldable pub nodesWhere : (ℕ → Bool) → List ℕ → List ℕ
 nodesWhere test order = map (λ i. getD order i 0) (keep test (below (length order)))
 
+-- the nodes of part q
+unfoldable pub nodesOfPart : List ℕ → List ℕ → ℕ → List ℕ
+nodesOfPart order sizes q = nodesWhere (λ i. eqb (partOf sizes i) q) order
+
+-- The parts whose regions were left uncut, read from the tree: those that are no part's parent. Where a region is cut, "What is left of the region
+-- falls into components, each a region; their parts' father is this part."
+unfoldable pub uncutParts : List ℕ → List ℕ
+uncutParts parents = keep (λ q. not (isIn q parents)) (below (length parents))
+
 -- The nodes of part q's region: "the part with everything below it in the tree".
 unfoldable pub regionOfPart : List ℕ → List ℕ → List ℕ → ℕ → List ℕ
 regionOfPart order sizes parents q = nodesWhere (λ i. atOrAbove parents (partOf sizes i) q) order

@@ -1,5 +1,5 @@
 -- Planning: the plan of a mesh, checks 1 to 9, and what the lent buffers hold afterwards (document 01, "The layout" and "Refusals").
-use mathlib.Core.Bool.{Bool, _||_}
+use mathlib.Core.Bool.{Bool, true, _||_}
 use mathlib.Core.Path.{_≡_}
 use mathlib.Core.List.{List, [], _∷_, _++_, map, flatten}
 use Prim.Native.Nat.{ℕ, zero, suc, _+_, _-_}
@@ -15,6 +15,7 @@ use Rattle.plan.specs.Choice.{georgeLiu}
 use Rattle.plan.specs.Dissection.{Forest, dissection, parts, parents, order, sizes, positions}
 use Rattle.plan.specs.Elimination.{columns, startsOf, multiplications}
 use Rattle.plan.specs.Demand3.{Demand3}
+use Rattle.plan.specs.Cliques.{uncutCliques}
 
 -- What a plan says, in a file, in the writer's input and in what is handed out. Positions, row counts and multiplications follow from it.
 pub record Contents : Type 0 where
@@ -171,7 +172,14 @@ Demand3Of m (Accepted p) left =
     Demand3 m (take (p .nodes) (left .order)) (take (p .parts) (left .sizes)) (take (p .parts) (left .parents))
     (left .columnStarts) (left .rows)
 
--- The promise of planning: the answer and every buffer are those of `planning`, and demand 3 holds of them.
+-- the clique rule of what is handed out, where a plan is
+unfoldable pub CliquesOf : Mesh → PlanAnswer → Buffers → Type 0
+CliquesOf m (Refused k) left = Unit {0}
+CliquesOf m (Accepted p) left =
+    uncutCliques m (take (p .nodes) (left .order)) (take (p .parts) (left .sizes)) (take (p .parts) (left .parents)) ≡ true
+
+-- The promise of planning: the answer and every buffer are those of `planning`, and demand 3 and the clique rule hold of them.
 pub record Planned (m : Mesh) (answer : PlanAnswer) (found left : Buffers) : Type 0 where
   pub filled : Filled (planning m (capacity found)) answer found left
   pub demand3 : Demand3Of m answer left
+  pub cliques : CliquesOf m answer left

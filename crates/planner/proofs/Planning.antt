@@ -24,7 +24,7 @@ use Rattle.theory.specs.Checked.{Checked}
 use Rattle.theory.proofs.Refusals.{no-fault, fault-here, no-fault-first, first-some, first-none}
 use Rattle.theory.proofs.Checked.{mesh-passed, checked}
 use Rattle.theory.proofs.Handed.{lengthsOf, filled-refused}
-use Rattle.theory.proofs.Planned.{handed-demand3}
+use Rattle.theory.proofs.Planned.{handed-demand3, handed-cliques}
 use Rattle.theory.proofs.Ranges.{map-ext-upFrom, length-map-upFrom, getD-map-below}
 use Rattle.theory.proofs.Written.{front-written}
 use Rattle.theory.proofs.Compressed.{sums-length, total-lengths}
@@ -159,7 +159,11 @@ checked-accepted m good held heads count d answer found left room h =
 
 -- an outcome of planning fulfils its promise
 promised : (m : Mesh) (answer : PlanAnswer) (found left : Buffers) → Filled (planning m (capacity found)) answer found left → Planned m answer found left
-promised m answer found left h = record { filled = h; demand3 = handed-demand3 m (capacity found) answer found left h }
+promised m answer found left h = record {
+  filled = h;
+  demand3 = handed-demand3 m (capacity found) answer found left h;
+  cliques = handed-cliques m (capacity found) answer found left h;
+}
 
 -- what checks 1 to 8 refuse is refused
 pub planned-refused : (m : Mesh) (found : Buffers) (k : ℕ) → k ≡ firstFault (earlyChecks m (lengthsOf found)) → (k ≡ 0 → ⊥) → Planned m (Refused k) found found

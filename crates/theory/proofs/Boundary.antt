@@ -13,10 +13,21 @@ use Rattle.theory.specs.Counting.{count, Order}
 use Rattle.theory.specs.Rows.{edgeAt}
 use Rattle.theory.specs.PartTree.{borders, boundaryCount}
 use Rattle.theory.proofs.Bools.{and-left, and-right, and-both, iff-eq, eqb-same}
-use Rattle.theory.proofs.Lists.{exists-isIn, isIn-exists, exists-map, exists-keep, in-keep}
+use Rattle.theory.proofs.Lists.{exists-isIn, isIn-exists, exists-map, exists-keep, in-keep, of-keep}
 use Rattle.theory.proofs.Ranges.{isIn-below, below-isIn, map-getD}
 use Rattle.theory.proofs.Counting.{count-ext, count-map}
 use Rattle.theory.proofs.Orders.{order-length, order-inside, order-distinct}
+
+-- a node among those at the positions that pass a test stands at such a position
+pub of-where : (test : ℕ → Bool) (order : List ℕ) (v : ℕ) → isIn v (nodesWhere test order) ≡ true
+    → (i : ℕ) × (i < length order) × (v ≡ getD order i 0) × (test i ≡ true)
+unfolding nodesWhere
+of-where test order v h =
+    let node : ℕ → ℕ = λ i. getD order i 0 in
+    let positions : List ℕ = below (length order) in
+    let r = exists-isIn (λ i. eqb v (node i)) (keep test positions) (sym (exists-map (eqb v) node (keep test positions)) ∙ h) in
+    let k = of-keep test positions (r .0) (r .1) in
+    (r .0, isIn-below (length order) (r .0) (k .0), eqb-true v (node (r .0)) (r .2), k .1)
 
 module _ (m : Mesh) (order : List ℕ) (once : Order (m .nodes) order) (test : ℕ → Bool) where
   abbrev node : ℕ → ℕ

@@ -15,10 +15,11 @@ use Rattle.plan.specs.Choice.{georgeLiu, rootOf, staysWhole, cutLevel, separato
 use Rattle.theory.specs.Counting.{count, Alike}
 use Rattle.theory.specs.Regions.{Takes}
 use Rattle.theory.specs.Sensible.{Sensible}
-use Rattle.theory.proofs.Bools.{tested, iff-eq, cond-true, cond-false}
-use Rattle.theory.proofs.Lists.{isIn-getD, exists-isIn, isIn-exists, keep-keep, Kept, keep-all, without-same}
-use Rattle.theory.proofs.Counting.{exists-count, same-members, same-length, count-part}
-use Rattle.theory.proofs.LevelNumbers.{level-kept, level-some, level-near}
+use Rattle.theory.proofs.Bools.{tested, refuted, iff-eq, cond-true, cond-false}
+use Rattle.theory.proofs.Lists.{isIn-head, isIn-getD, exists-isIn, isIn-exists, of-keep, keep-keep, Kept, kept-own, keep-all, without-same}
+use Rattle.theory.proofs.Counting.{count-all, count-less, exists-count, same-members, same-length, count-part}
+use Rattle.theory.proofs.LevelNumbers.{level-first, level-kept, level-some, level-near}
+use Rattle.theory.proofs.LevelSets.{levels-disjoint}
 
 -- a separator at a level strictly between the first and the last is kept from the region, and has a node
 module _ (edge : Graph) (region : List ℕ) (root : ℕ) where
@@ -42,6 +43,27 @@ module _ (edge : Graph) (region : List ℕ) (root : ℕ) where
       rw add-one
       (exists-count (λ w. exists (edge w) next) (getD ls j [])
       (isIn-exists (λ w. exists (edge w) next) (getD ls j []) (u .0) (u .1) (isIn-exists (edge (u .0)) next v hv (u .2))))
+
+  -- and it is shorter than the region: the root is left
+  pub separator-less : (j : ℕ) → 0 < j → j < length ls → isIn root region ≡ true → length (separator edge ls j) < length region
+  separator-less j p h inside =
+      let s : List ℕ = separator edge ls j in
+      omega (
+        arith,
+        ap length (kept-own region s (separator-kept j p h)),
+        count-all region,
+        count-less (λ v. isIn v s) (λ v. true) root region (λ v t. refl) inside refl (refuted (isIn root s) outside),
+      )
+    where
+      outside : isIn root (separator edge ls j) ≡ true → ⊥
+      outside t =
+          omega (
+            arith,
+            p,
+            levels-disjoint edge region root 0 j root (omega (arith, h)) h
+                (ap (isIn root) (level-first edge region root) ∙ isIn-head root [])
+                (of-keep (λ v. exists (edge v) (getD ls (j + 1) [])) (getD ls j []) root (unfold separator in t) .0),
+          )
 
 -- a part that counts like one that is kept from a region makes up the region with what is left
 part-rest : (r s part : List ℕ) → Kept r s → Alike part s → (p : ℕ → Bool) → count p part + count p (without part r) ≡ count p r
@@ -86,7 +108,7 @@ module _ (settings : Settings) (sensible : Sensible settings) (m : Mesh) where
   }
 
 -- document 01's settings are sensible
-standard-sensible : Sensible standard
+pub standard-sensible : Sensible standard
 unfolding standard staysWhole cutLevel numbering
 standard-sensible = record {
   between = λ r l t. let two : 1 < l = leb-false l 1 t in omega arith;

@@ -19,7 +19,7 @@ use Rattle.theory.proofs.Bools.{or-left, clash, iff-eq, cond-true, eqb-
 use Rattle.theory.proofs.Lists.{isIn-head, isIn-tail, isIn-cons, isIn-append-right, isIn-append-cases, exists-isIn, in-keep, of-keep}
 use Rattle.theory.proofs.Flatten.{isIn-flatten-take, isIn-flatten-reverse, isIn-flatten-head}
 use Rattle.theory.proofs.AllLists.{lists-few}
-use Rattle.theory.proofs.Ascending.{ascending-tail, ascending-lt, ascending-cons, ascending-keep}
+use Rattle.theory.proofs.Ascending.{ascending-tail, ascending-lt, ascending-cons, ascending-keep, headD-isIn}
 use Rattle.theory.proofs.Counting.{count-append, count-le, same-members, same-length, count-part}
 use Rattle.theory.proofs.Levels.{Levelled, first, after, of-next, levelled, root-reached, reached-closed, levels-end}
 
@@ -248,10 +248,34 @@ module _ (edge : Graph) where
   component-walk nodes v w h =
       reached-walk nodes v (component edge nodes v) (levelled edge nodes v (length nodes)) (λ x i t. in-component nodes v x i t) w (of-component nodes v w h .1)
 
-  -- and it holds every node that a way inside the set leads to from that node
+  -- a way inside the set does not leave a component
+  walk-on : (nodes : List ℕ) (v a w : ℕ) → isIn a (component edge nodes v) ≡ true → Walk edge nodes a w → isIn w (component edge nodes v) ≡ true
+  walk-on nodes v a w h stay = h
+  walk-on nodes v a w h (go {b = b} p e i) = component-closed nodes v b w (walk-on nodes v a b h p) i e
+
+  -- so the component of a node holds every node that a way inside the set leads to from that node
   pub walk-component : (nodes : List ℕ) (v w : ℕ) → isIn v nodes ≡ true → Walk edge nodes v w → isIn w (component edge nodes v) ≡ true
-  walk-component nodes v w h stay = in-component nodes v v h (root-reached edge nodes v (levelled edge nodes v (length nodes)))
-  walk-component nodes v w h (go {b = b} p e i) = component-closed nodes v b w (walk-component nodes v b h p) i e
+  walk-component nodes v w h p = walk-on nodes v v w (in-component nodes v v h (root-reached edge nodes v (levelled edge nodes v (length nodes)))) p
+
+  -- a way that begins in the set ends in it
+  walk-inside : (nodes : List ℕ) (a b : ℕ) → isIn a nodes ≡ true → Walk edge nodes a b → isIn b nodes ≡ true
+  walk-inside nodes a b h stay = h
+  walk-inside nodes a b h (go p e i) = i
+
+  -- where each edge is mirrored, a way inside the set that ends in a component begins in it
+  walk-back : ((a b : ℕ) → edge a b ≡ true → edge b a ≡ true) → (nodes : List ℕ) (v a b : ℕ) → isIn a nodes ≡ true → Walk edge nodes a b
+      → isIn b (component edge nodes v) ≡ true → isIn a (component edge nodes v) ≡ true
+  walk-back mirror nodes v a b h stay m = m
+  walk-back mirror nodes v a c h (go {b = b} p e i) m =
+      walk-back mirror nodes v a b h p (component-closed nodes v c b m (walk-inside nodes a b h p) (mirror b c e))
+
+  -- so the component of any node of a connected set is the whole set
+  pub component-whole : ((a b : ℕ) → edge a b ≡ true → edge b a ≡ true) → (nodes : List ℕ) → Connected edge nodes
+      → (v w : ℕ) → isIn v nodes ≡ true → isIn w nodes ≡ true → isIn w (component edge nodes v) ≡ true
+  component-whole mirror nodes connected v w hv hw =
+      let first : ℕ = headD nodes 0 in
+      walk-on nodes v first w
+      (walk-back mirror nodes v first v (headD-isIn 0 nodes v hv) (connected v hv) (walk-component nodes v v hv stay)) (connected w hw)
 
   connected-first : (v : ℕ) (nodes : List ℕ) → Connected edge (component edge (v ∷ nodes) v)
   unfolding headD

@@ -1,7 +1,7 @@
 -- How many elements of a list pass a test. That every test counts alike in two lists says that they hold the same numbers, equally often.
 use mathlib.Core.Path.{_≡_, refl, sym, ap, _∙_}
 use mathlib.Core.Logic.{_⊎_, inl, inr}
-use mathlib.Core.Bool.{Bool, true, false, not, cond, false≢true, _&&_}
+use mathlib.Core.Bool.{Bool, true, false, not, cond, false≢true, _&&_, _||_}
 use mathlib.Core.List.{reverseAux, reverse, List, [], _∷_, _++_, map, map-append, flatten}
 use Prim.Native.Nat.{ℕ, zero, suc, _+_, _-_, _≤_, _<_, _*_}
 use native.Mathlib.Nat.{zero-add}
@@ -10,12 +10,13 @@ use lib.Dec.{eqb, ltb}
 use lib.ListN.{length, getD, take, drop, take-append-drop}
 use lib.Seq.{split-at, getD-at}
 use borrow.Author.Tests.{eq-eqb, ne-eqb, le-ltb, eqb-true, ltb-true, lt-ltb}
-use Rattle.plan.specs.Lists.{total, occurrences, exists, keep, upFrom, below, isIn, without}
+use Rattle.plan.specs.Lists.{total, occurrences, exists, keep, upFrom, below, isIn, without, ascending}
 use Rattle.theory.specs.Counting.{count, Alike}
 use Rattle.theory.proofs.Bools.{or-cases, or-left, or-right, and-left, and-right, and-both, tested, clash, refuted, iff-eq, eq-or-ne, lt-or-le}
 use Rattle.theory.proofs.Lists.{take-more, isIn-head, isIn-tail, isIn-cons, isIn-getD, none-exists, keep-ext, keep-append, keep-all, without-keep}
 use Rattle.theory.proofs.Ranges.{isIn-upFrom, upFrom-add, upFrom-snoc}
 use Rattle.theory.proofs.Sums.{total-append}
+use Rattle.theory.proofs.Ascending.{ascending-tail, ascending-lt}
 
 -- 1 for a passed test
 abbrev pub unit : Bool → ℕ
@@ -148,6 +149,11 @@ pub count-sum : (p q r : ℕ → Bool) (l : List ℕ) → ((x : ℕ) → unit (p
 count-sum p q r [] h = refl
 count-sum p q r (y ∷ l) h = omega (arith, count-cons p y l, count-cons q y l, count-cons r y l, h y, count-sum p q r l h)
 
+-- of two tests that exclude each other, either counts as both together
+pub unit-either : (a b : Bool) → (a ≡ true → b ≡ false) → unit (a || b) ≡ unit a + unit b
+unit-either true b f = omega (arith, ap unit (f refl))
+unit-either false b f = omega arith
+
 -- a test of mapped elements
 pub count-map : (p : ℕ → Bool) (f : ℕ → ℕ) (l : List ℕ) → count p (map f l) ≡ count (λ x. p (f x)) l
 count-map p f [] = refl
@@ -164,6 +170,24 @@ count-once (suc k) a x l m = elim (eq-or-ne x a) [
     count-none (eqb x) (upFrom (suc a) k) (λ y h. ne-eqb x y (λ s. omega (arith, isIn-upFrom k (suc a) y h))),
   )
   | inr e ↦ omega (arith, count-cons (eqb x) a (upFrom (suc a) k), ap unit (ne-eqb x a e), count-once k (suc a) x (omega arith) (omega arith))
+]
+
+-- and once in an ascending list that does
+pub count-ascending : (x : ℕ) (l : List ℕ) → ascending l ≡ true → isIn x l ≡ true → count (eqb x) l ≡ 1
+count-ascending x [] h m = absurd (false≢true m)
+count-ascending x (y ∷ l) h m = elim (isIn-cons x y l m) [
+  | inl e ↦ omega (
+    arith,
+    count-cons (eqb x) y l,
+    ap unit (eq-eqb x y e),
+    count-none (eqb x) l (λ z t. ne-eqb x z (λ s. omega (arith, ascending-lt y l h z t))),
+  )
+  | inr t ↦ omega (
+    arith,
+    count-cons (eqb x) y l,
+    ap unit (ne-eqb x y (λ e. omega (arith, ascending-lt y l h x t))),
+    count-ascending x l (ascending-tail y l h) t,
+  )
 ]
 
 -- a number at two places is counted twice

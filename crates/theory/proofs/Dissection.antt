@@ -19,7 +19,7 @@ use Rattle.theory.proofs.Ascending.{ascending-upFrom, ascending-keep}
 use Rattle.theory.proofs.Counting.{count-append, count-all, count-le, exists-count, count-exists, same-members, same-length}
 use Rattle.theory.proofs.Orders.{order-length}
 use Rattle.theory.proofs.Components.{components-count, components-apart, components-regions}
-use Rattle.theory.proofs.Forest.{order-empty, order-tree}
+use Rattle.theory.proofs.Forest.{order-empty, order-tree, order-none}
 use Rattle.theory.proofs.Nested.{Separated, NoneEmpty, parts-le, forest-tree, forest-nested}
 
 -- what the cut leaves of a region: "What is left of the region falls into components, each a region"
@@ -75,6 +75,20 @@ module _ (edge : Graph) (choose : List ℕ → List ℕ) (takes : Takes edge cho
         part-count r (all .0) p,
         ap (count p) (flatten-cons r rs),
         count-append p r (flatten rs),
+      )
+
+  -- where the dissection of what is left has no part, nothing is left: the part is as long as the region
+  pub part-alone : (most : ℕ) (r : List ℕ) (rs : List (List ℕ)) → Region edge r → length (flatten (r ∷ rs)) ≤ suc most
+      → length (parts (dissect most edge choose (left r))) ≡ 0 → length (choose r) ≡ length r
+  part-alone most r rs h l none =
+      let c : Forest = dissect most edge choose (left r) in
+      omega (
+        arith,
+        part-length r h,
+        count-all (flatten (left r)),
+        dissect-count most (left r) (left-regions edge choose r h) (left-fit r rs most h l) (λ x. true),
+        count-all (order c),
+        ap length (order-none c none),
       )
 
   -- where there is a region, there is a node

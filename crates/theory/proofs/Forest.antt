@@ -41,6 +41,11 @@ pub parts-length-tree : (s : List ℕ) (c r : Forest) → length (parts (tree s 
 unfolding parts
 parts-length-tree s c r = length-append (parts c) (s ∷ parts r)
 
+-- a forest without parts has no position
+pub order-none : (t : Forest) → length (parts t) ≡ 0 → order t ≡ []
+order-none empty h = order-empty
+order-none (tree s c r) h = absurd (omega (arith, parts-length-tree s c r))
+
 pub sizes-length : (t : Forest) → length (sizes t) ≡ length (parts t)
 unfolding sizes
 sizes-length t = length-map (parts t) length

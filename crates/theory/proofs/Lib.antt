@@ -44,6 +44,7 @@ pub mod LevelSets
 pub mod Choice
 pub mod RootSearch
 pub mod RootInside
+pub mod UncutParts
 pub mod Handed
 pub mod Planned
 pub mod Readable

@@ -1,17 +1,19 @@
 -- Which part a position is in.
 use mathlib.Core.Path.{_≡_, sym, ap, _∙_}
 use mathlib.Core.Logic.{inl, inr}
-use mathlib.Core.Bool.{cond}
-use mathlib.Core.List.{List, [], _∷_, _++_}
+use mathlib.Core.Bool.{true, cond}
+use mathlib.Core.List.{List, [], _∷_, _++_, map, flatten}
 use Prim.Native.Nat.{ℕ, zero, suc, _+_, _-_, _≤_, _<_}
 use native.Mathlib.Nat.{zero-add, add-assoc}
 use native.Mathlib.Omega.{arith}
 use lib.Dec.{ltb}
-use lib.ListN.{length, take, getD}
+use lib.ListN.{length, take, getD, length-append, List·getD-append}
+use lib.Seq.{getD-append-add}
 use borrow.Author.Tests.{lt-ltb, le-ltb}
-use Rattle.plan.specs.Lists.{total}
+use Rattle.plan.specs.Lists.{isIn, total}
 use Rattle.plan.specs.Parts.{partOf}
 use Rattle.theory.proofs.Bools.{cond-true, cond-false, lt-or-le}
+use Rattle.theory.proofs.Lists.{isIn-getD}
 
 pub part-first : (s : ℕ) (ss : List ℕ) (i : ℕ) → i < s → partOf (s ∷ ss) i ≡ 0
 unfolding partOf
@@ -64,6 +66,19 @@ same-part-end (s ∷ ss) i j h e = elim (lt-or-le i s) [
     | inr m ↦ rw (end-next s ss j m)
         (omega (arith, same-part-end ss (i - s) (j - s) (omega arith) (omega (arith, part-next s ss i l, part-next s ss j m))))
   ]
+]
+
+-- the node at a position of lists one behind the other is in the list that the position is of
+pub node-of-part : (ls : List (List ℕ)) (i : ℕ) → i < length (flatten ls) → isIn (getD (flatten ls) i 0) (getD ls (partOf (map length ls) i) []) ≡ true
+unfolding flatten
+node-of-part [] i h = absurd (omega arith)
+node-of-part (l ∷ ls) i h = elim (lt-or-le i (length l)) [
+  | inl lt ↦ rw (part-first (length l) (map length ls) i lt, List·getD-append l (flatten ls) 0 i lt) (isIn-getD l i 0 lt)
+  | inr le ↦
+      let at : length l + (i - length l) ≡ i = omega arith in
+      let behind : getD (l ++ flatten ls) i 0 ≡ getD (flatten ls) (i - length l) 0 =
+      ap (λ (x : ℕ). getD (l ++ flatten ls) x 0) (sym at) ∙ getD-append-add l (flatten ls) (i - length l) 0 in
+      rw (part-next (length l) (map length ls) i le, behind) (node-of-part ls (i - length l) (omega (arith, length-append l (flatten ls))))
 ]
 
 -- parts after parts

@@ -1,5 +1,7 @@
--- What planning hands out: each node once, a tree of nested parts, demand 3; for a dissection by any choice, and for George and Liu's.
+-- What planning hands out: each node once, a tree of nested parts, demand 3; for a dissection by any choice, and for George and Liu's. Of the latter
+-- the clique rule too.
 use mathlib.Core.Path.{_≡_, refl, sym, ap, _∙_}
+use mathlib.Core.Bool.{true}
 use mathlib.Core.List.{List, _++_}
 use Prim.Native.Nat.{ℕ, zero, suc, _≤_, _<_}
 use native.Mathlib.Omega.{arith}
@@ -14,7 +16,8 @@ use Rattle.plan.specs.Mesh.{Mesh, adjacent, meshChecks}
 use Rattle.plan.specs.Choice.{georgeLiu}
 use Rattle.plan.specs.Dissection.{dissection, positions}
 use Rattle.plan.specs.Demand3.{Demand3}
-use Rattle.plan.specs.Planning.{Contents, planBy, planOf, Capacity, Buffers, planChecks, handOut, planning, Filled, Demand3Of}
+use Rattle.plan.specs.Cliques.{uncutCliques}
+use Rattle.plan.specs.Planning.{Contents, planBy, planOf, Capacity, Buffers, planChecks, handOut, planning, Filled, Demand3Of, CliquesOf}
 use Rattle.plan.specs.Enough.{OrderWhole}
 use Rattle.theory.specs.Counting.{Order}
 use Rattle.theory.specs.Regions.{Takes}
@@ -30,10 +33,16 @@ use Rattle.theory.proofs.Forest.{sizes-length}
 use Rattle.theory.proofs.Dissection.{order-count, parts-few, dissection-tree, dissection-nested}
 use Rattle.theory.proofs.Demand3.{nested-demand3}
 use Rattle.theory.proofs.Choice.{georgeLiu-takes}
+use Rattle.theory.proofs.UncutParts.{georgeLiu-clique, dissection-cliques}
 
 -- the plan of a mesh by any choice of a region's part
 abbrev pub planWith : Mesh → (List ℕ → List ℕ) → Contents
 planWith m choose = planBy m (dissection (adjacent m) choose (m .nodes))
+
+-- as many nodes as the mesh
+plan-nodes : (m : Mesh) (choose : List ℕ → List ℕ) → planWith m choose .nodes ≡ m .nodes
+unfolding planBy
+plan-nodes m choose = refl
 
 -- as many sizes as parts
 pub plan-sizes : (m : Mesh) (choose : List ℕ → List ℕ) → length (planWith m choose .sizes) ≡ planWith m choose .parts
@@ -111,11 +120,16 @@ pub planned-demand3 : (m : Mesh) → firstFault (meshChecks m) ≡ 0 → (more r
 unfolding planOf
 planned-demand3 m passes more rest = plan-demand3 m (georgeLiu m) (georgeLiu-takes m) (checked m passes) more rest
 
+-- the clique rule of a mesh that passes checks 1 to 7: its uncut parts are cliques
+pub planned-cliques : (m : Mesh) → firstFault (meshChecks m) ≡ 0 → uncutCliques m (planOf m .order) (planOf m .sizes) (planOf m .parents) ≡ true
+unfolding planOf planBy
+planned-cliques m passes = dissection-cliques m (georgeLiu m) (georgeLiu-takes m) (georgeLiu-clique m (checked m passes)) (m .nodes)
+
 -- ---- what is handed out
 
 pub planned-nodes : (m : Mesh) → planOf m .nodes ≡ m .nodes
-unfolding planOf planBy
-planned-nodes m = refl
+unfolding planOf
+planned-nodes m = plan-nodes m (georgeLiu m)
 
 -- the number that an outcome shows is that of the first fault
 pub hand-number : (k : ℕ) (c : Contents) → handOut k c .reply .number ≡ k
@@ -133,28 +147,48 @@ pub handed-planned : (m : Mesh) (room : Capacity) → planning m room .reply .nu
 unfolding planning
 handed-planned m room h = handed-accepted (firstFault (planChecks m room)) (planOf m) h
 
-accepted-demand3 : (m : Mesh) (p : Plan) (found left : Buffers) → firstFault (meshChecks m) ≡ 0 → Filled (handOut 0 (planOf m)) (Accepted p) found left
-    → Demand3 m (take (p .nodes) (left .order)) (take (p .parts) (left .sizes)) (take (p .parts) (left .parents)) (left .columnStarts) (left .rows)
-accepted-demand3 m p found left passes h =
-    let held = accepted-holds (planOf m) p found left h in
-    let nodes : length (planOf m .order) ≡ p .nodes = order-length (m .nodes) (planOf m .order) (planned-once m) ∙ sym (held .nodes ∙ planned-nodes m) in
-    rw (
-      front-written (p .nodes) (planOf m .order) (found .order) (left .order) (held .order) nodes,
-      front-written (p .parts) (planOf m .sizes) (found .sizes) (left .sizes) (held .sizes) (planned-sizes m ∙ sym (held .parts)),
-      front-written (p .parts) (planOf m .parents) (found .parents) (left .parents) (held .parents) (planned-parents m ∙ sym (held .parts)),
-      held .columnStarts,
-      held .rows,
-    )
-    (planned-demand3 m passes (drop (length (planOf m .columnStarts)) (found .columnStarts)) (drop (length (planOf m .rows)) (found .rows)))
+-- what holds of a plan by any choice, whatever stands in the buffers behind the column starts and the rows, holds of what is handed out
+module _ (m : Mesh) (choose : List ℕ → List ℕ) (takes : Takes (adjacent m) choose) (P : (order sizes parents columnStarts rows : List ℕ) → Type 0)
+    (of-plan : let c : Contents = planWith m choose in
+    firstFault (meshChecks m) ≡ 0 → (more rest : List ℕ) → P (c .order) (c .sizes) (c .parents) (c .columnStarts ++ more) (c .rows ++ rest))
+    (p : Plan) (found left : Buffers) where
+  -- the statement, of the used entries of what is handed out
+  abbrev OfHanded : Type 0
+  OfHanded = P (take (p .nodes) (left .order)) (take (p .parts) (left .sizes)) (take (p .parts) (left .parents)) (left .columnStarts) (left .rows)
+
+  -- where a plan is handed out
+  accepted-of : firstFault (meshChecks m) ≡ 0 → Filled (handOut 0 (planWith m choose)) (Accepted p) found left → OfHanded
+  accepted-of passes h =
+      let c : Contents = planWith m choose in
+      let held = accepted-holds c p found left h in
+      let nodes : length (c .order) ≡ p .nodes = order-length (m .nodes) (c .order) (plan-once m choose takes) ∙ sym (held .nodes ∙ plan-nodes m choose) in
+      rw (
+        front-written (p .nodes) (c .order) (found .order) (left .order) (held .order) nodes,
+        front-written (p .parts) (c .sizes) (found .sizes) (left .sizes) (held .sizes) (plan-sizes m choose ∙ sym (held .parts)),
+        front-written (p .parts) (c .parents) (found .parents) (left .parents) (held .parents) (plan-tree m choose takes .asMany ∙ plan-sizes m choose ∙ sym (held .parts)),
+        held .columnStarts,
+        held .rows,
+      )
+      (of-plan passes (drop (length (c .columnStarts)) (found .columnStarts)) (drop (length (c .rows)) (found .rows)))
+
+  -- by the number of the first fault, 0 being no fault in checks that include those of the mesh
+  handed-of : (k : ℕ) → (k ≡ 0 → firstFault (meshChecks m) ≡ 0) → Filled (handOut k (planWith m choose)) (Accepted p) found left → OfHanded
+  handed-of zero passes h = accepted-of (passes refl) h
+  handed-of (suc k) passes h = absurd (omega (arith, hand-number (suc k) (planWith m choose), ap (λ (r : Reply). r .number) (h .reply)))
 
 -- Demand 3 of what is handed out: an answer and buffers that agree with planning's outcome satisfy it.
 pub handed-demand3 : (m : Mesh) (room : Capacity) (answer : PlanAnswer) (found left : Buffers)
     → Filled (planning m room) answer found left → Demand3Of m answer left
-unfolding planning Demand3Of planChecks
+unfolding planning planChecks planOf Demand3Of
 handed-demand3 m room (Refused k) found left h = tt
-handed-demand3 m room (Accepted p) found left h = go (firstFault (planChecks m room)) refl h
-  where
-    go : (k : ℕ) → firstFault (planChecks m room) ≡ k → Filled (handOut k (planOf m)) (Accepted p) found left
-        → Demand3 m (take (p .nodes) (left .order)) (take (p .parts) (left .sizes)) (take (p .parts) (left .parents)) (left .columnStarts) (left .rows)
-    go zero e h = accepted-demand3 m p found left (no-fault-first (meshChecks m) _ e) h
-    go (suc k) e h = absurd (omega (arith, hand-number (suc k) (planOf m), ap (λ (r : Reply). r .number) (h .reply)))
+handed-demand3 m room (Accepted p) found left h =
+    handed-of m (georgeLiu m) (georgeLiu-takes m) (Demand3 m) (planned-demand3 m) p found left (firstFault (planChecks m room)) (no-fault-first (meshChecks m) _) h
+
+-- The clique rule of what is handed out.
+pub handed-cliques : (m : Mesh) (room : Capacity) (answer : PlanAnswer) (found left : Buffers)
+    → Filled (planning m room) answer found left → CliquesOf m answer left
+unfolding planning planChecks planOf CliquesOf
+handed-cliques m room (Refused k) found left h = tt
+handed-cliques m room (Accepted p) found left h =
+    handed-of m (georgeLiu m) (georgeLiu-takes m) (λ order sizes parents columnStarts rows. uncutCliques m order sizes parents ≡ true)
+    (λ passes more rest. planned-cliques m passes) p found left (firstFault (planChecks m room)) (no-fault-first (meshChecks m) _) h

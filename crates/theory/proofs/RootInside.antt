@@ -1,19 +1,19 @@
--- The root that the search ends at is a node of its region, and so is each candidate on the way.
+-- The root that the search ends at is a node of its region, and so is each candidate on the way; no node of a candidate's component has less degree.
 use mathlib.Core.Path.{_≡_, sym, ap, _∙_}
 use mathlib.Core.Logic.{inl, inr}
 use mathlib.Core.Bool.{Bool, true, false, cond, false≢true}
 use mathlib.Core.List.{List, [], _∷_, map, headD, getLastD, flatten}
-use Prim.Native.Nat.{ℕ, zero, suc, _*_, _<_}
+use Prim.Native.Nat.{ℕ, zero, suc, _*_, _≤_, _<_}
 use native.Mathlib.Omega.{arith}
 use lib.Dec.{eqb, ltb}
 use lib.ListN.{length}
-use borrow.Author.Tests.{eq-eqb}
+use borrow.Author.Tests.{eq-eqb, ltb-true, ltb-false}
 use Rattle.plan.specs.Lists.{keep, isIn}
 use Rattle.plan.specs.Mesh.{Mesh, adjacent}
 use Rattle.plan.specs.Levels.{levels, components}
 use Rattle.plan.specs.Choice.{degreeIn, lesser, leastFrom, leastDegree, candidates, improves, nextRoot, rootFrom, rootOf}
 use Rattle.theory.specs.Regions.{All}
-use Rattle.theory.proofs.Bools.{or-left}
+use Rattle.theory.proofs.Bools.{or-left, tested, cond-true, cond-false}
 use Rattle.theory.proofs.Lists.{isIn-head, isIn-tail, isIn-cons, isIn-append-left, isIn-append-right, isIn-getD, of-keep}
 use Rattle.theory.proofs.Flatten.{isIn-flatten-last}
 use Rattle.theory.proofs.Ascending.{headD-isIn}
@@ -40,6 +40,35 @@ pub leastDegree-isIn : (degree : ℕ → ℕ) (l : List ℕ) → 0 < length l �
 unfolding leastDegree
 leastDegree-isIn degree [] h = absurd (omega arith)
 leastDegree-isIn degree (v ∷ vs) h = leastFrom-isIn degree v vs
+
+-- the lesser of two has no more degree than either
+lesser-le : (degree : ℕ → ℕ) (a b : ℕ) → (degree (lesser degree a b) ≤ degree a) × (degree (lesser degree a b) ≤ degree b)
+unfolding lesser
+lesser-le degree a b = elim (tested (ltb (degree b) (degree a))) [
+  | inl t ↦ rw (cond-true (ltb (degree b) (degree a)) b a t) (omega (arith, ltb-true (degree b) (degree a) t))
+  | inr t ↦ rw (cond-false (ltb (degree b) (degree a)) b a t) (omega (arith, ltb-false (degree b) (degree a) t))
+]
+
+-- the best of v and a list has no more degree than any of them
+leastFrom-least : (degree : ℕ → ℕ) (v : ℕ) (l : List ℕ) (y : ℕ) → isIn y (v ∷ l) ≡ true → degree (leastFrom degree v l) ≤ degree y
+unfolding leastFrom
+leastFrom-least degree v [] y h = elim (isIn-cons y v [] h) [ inl e ↦ omega (arith, ap degree e) | inr t ↦ absurd (false≢true t) ]
+leastFrom-least degree v (w ∷ ws) y h =
+    let x : ℕ = lesser degree v w in
+    let best : degree (leastFrom degree x ws) ≤ degree x = leastFrom-least degree x ws x (isIn-head x ws) in
+    elim (isIn-cons y v (w ∷ ws) h) [
+      | inl e ↦ omega (arith, best, lesser-le degree v w, ap degree e)
+      | inr t ↦ elim (isIn-cons y w ws t) [
+        | inl e ↦ omega (arith, best, lesser-le degree v w, ap degree e)
+        | inr u ↦ leastFrom-least degree x ws y (isIn-tail y x ws u)
+      ]
+    ]
+
+-- no node of a list has less degree than its node of least degree
+pub leastDegree-least : (degree : ℕ → ℕ) (l : List ℕ) (y : ℕ) → isIn y l ≡ true → degree (leastDegree degree l) ≤ degree y
+unfolding leastDegree
+leastDegree-least degree [] y h = absurd (false≢true h)
+leastDegree-least degree (v ∷ vs) y h = leastFrom-least degree v vs y h
 
 -- those of several lists that each have a node are in the lists together
 least-inside : (degree : ℕ → ℕ) (ls : List (List ℕ)) → All (λ l. 0 < length l) ls → (x : ℕ) → isIn x (map (leastDegree degree) ls) ≡ true → isIn x (flatten ls) ≡ true

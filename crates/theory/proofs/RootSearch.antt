@@ -7,14 +7,14 @@ use Prim.Native.Nat.{ℕ, zero, suc, _+_, _*_, _≤_, _<_}
 use native.Mathlib.Omega.{arith}
 use lib.Dec.{eqb}
 use lib.ListN.{length}
-use borrow.Author.Tests.{eqb-true, ltb-true, eq-eqb}
+use borrow.Author.Tests.{eqb-true, ltb-true, ltb-false, eq-eqb}
 use Rattle.plan.specs.Lists.{exists, keep, isIn}
 use Rattle.plan.specs.Mesh.{Mesh, adjacent}
 use Rattle.plan.specs.Levels.{Graph, eccentricity}
 use Rattle.plan.specs.Choice.{candidates, improves, nextRoot, rootFrom, rootOf}
 use Rattle.plan.specs.Enough.{RootStays}
 use Rattle.theory.proofs.Bools.{tested, refuted, cond-true, cond-false}
-use Rattle.theory.proofs.Lists.{isIn-head, exists-isIn, in-keep, of-keep}
+use Rattle.theory.proofs.Lists.{isIn-head, exists-isIn, exists-none, in-keep, of-keep}
 use Rattle.theory.proofs.Sums.{square}
 use Rattle.theory.proofs.Levels.{levelled, levels-room}
 use Rattle.theory.proofs.LevelNumbers.{levels-length}
@@ -99,6 +99,13 @@ root-stays m region = search-ends m region (length region * length region) (head
 -- "When none is greater, r stays." Of the root found, no candidate's ℓ is greater than its own.
 pub no-candidate-farther : (m : Mesh) (region : List ℕ) → exists (improves m region (rootOf m region)) (candidates m region (rootOf m region)) ≡ false
 no-candidate-farther m region = root-farthest m region (rootOf m region) (root-stays m region)
+
+-- so each candidate's ℓ is at most the root's
+pub candidate-near : (m : Mesh) (region : List ℕ) (x : ℕ) → isIn x (candidates m region (rootOf m region)) ≡ true
+    → eccentricity (adjacent m) region x ≤ eccentricity (adjacent m) region (rootOf m region)
+unfolding improves
+candidate-near m region x h =
+    ltb-false _ _ (exists-none (improves m region (rootOf m region)) (candidates m region (rootOf m region)) (no-candidate-farther m region) x h)
 
 -- "and the search begins again": any bound on its turns from the number of nodes on gives the same root
 pub root-same : (m : Mesh) (region : List ℕ) (most : ℕ) → length region ≤ most → rootFrom most m region (headD region 0) ≡ rootOf m region

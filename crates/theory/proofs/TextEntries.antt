@@ -15,7 +15,7 @@ use Rattle.plan.specs.AcceptedTexts.{offDiagonal, EntriesByPairs, PairsAreFew}
 use Rattle.theory.specs.Counting.{count}
 use Rattle.theory.proofs.Bools.{or-cases, or-left, or-neither, or-false-left, or-false-right, and-left, and-right, and-both, tested, clash, refuted, iff-eq, eqb-same, eq-or-ne, lt-or-le}
 use Rattle.theory.proofs.Ranges.{isIn-below, length-upFrom, map-ext-upFrom}
-use Rattle.theory.proofs.Counting.{unit, count-cons, count-none, count-ext, count-sum, count-mono, count-once, count-below}
+use Rattle.theory.proofs.Counting.{unit, unit-either, count-cons, count-none, count-ext, count-sum, count-mono, count-once, count-below}
 use Rattle.theory.proofs.Compressed.{total-lengths}
 use Rattle.theory.proofs.AnyLists.{none-kept, kept-apart}
 use Rattle.theory.proofs.MadeMesh.{relationLists}
@@ -114,12 +114,8 @@ pairs-cells n (p ∷ ps) good once =
       pairs-cells n ps (or-false-right (badPair n p) _ good) (or-false-right (exists (samePair p) ps) _ once),
     )
   where
-    either : (s h : Bool) → (s ≡ true → h ≡ false) → unit (s || h) ≡ unit s + unit h
-    either true h f = rw (f refl)
-    either false h f = omega arith
-
     apart : (v w : ℕ) → unit (hasPair (v + 1) (w + 1) (p ∷ ps)) ≡ unit (samePair (v + 1, w + 1) p) + unit (hasPair (v + 1) (w + 1) ps)
-    apart v w = either (samePair (v + 1, w + 1) p) (hasPair (v + 1) (w + 1) ps)
+    apart v w = unit-either (samePair (v + 1, w + 1) p) (hasPair (v + 1) (w + 1) ps)
         (λ t. at-pair (v + 1) (w + 1) p ps t ∙ or-false-left (exists (samePair p) ps) _ once)
 
 -- at most a + 1, a + 2, ..: twice their sum
@@ -204,11 +200,7 @@ module _ (n : ℕ) (p : Pair) (ps : List Pair) (good : exists (badPair n) (p ∷
   ]
 
   ways-apart : (v w : ℕ) → unit (samePair (v + 1, w + 1) p || samePair (w + 1, v + 1) p) ≡ unit (samePair (v + 1, w + 1) p) + unit (samePair (w + 1, v + 1) p)
-  ways-apart v w = go (samePair (v + 1, w + 1) p) (samePair (w + 1, v + 1) p) (λ t. alone (v + 1) (w + 1) t .2)
-    where
-      go : (a b : Bool) → (a ≡ true → b ≡ false) → unit (a || b) ≡ unit a + unit b
-      go true b f = rw (f refl)
-      go false b f = omega arith
+  ways-apart v w = unit-either (samePair (v + 1, w + 1) p) (samePair (w + 1, v + 1) p) (λ t. alone (v + 1) (w + 1) t .2)
 
   cells-pair : cells n (areNeighbours (p ∷ ps)) ≡ 2 + cells n (areNeighbours ps)
   cells-pair =

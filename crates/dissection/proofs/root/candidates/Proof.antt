@@ -1,12 +1,14 @@
--- `dissection::root::candidates` meets its contract: the root's levels are taken over, the last one alone is fresh then, its components are labelled, and
--- each one's best node is a candidate.
-use mathlib.Core.Path.{_≡_, refl}
+-- `dissection::root::candidates` meets its contract: the root's levels are taken over, the last one alone is fresh then, its components are labelled,
+-- and each one's node of least degree is a candidate.
+use mathlib.Core.Path.{refl}
 use mathlib.Core.List.{List}
 use Prim.Native.Nat.{ℕ, _≤_}
 use native.Mathlib.Omega.{arith}
 use borrow.Author.Needs.{needs}
 use Rattle.plan.specs.Mesh.{Mesh, lent}
 use Rattle.dissection.specs.Standing.{Regional, Standing}
+use Rattle.dissection.specs.Degrees.{degreeBy}
+use Rattle.dissection.proofs.LeastDegrees.{degree-in}
 use Rattle.dissection.proofs.Roots.{regional-again, standing-transferred, fresh-inside, level-high, candidates-only, candidates-found}
 use Rattle.dissection.proofs.root.candidates.Statement.{statement}
 use Rattle.dissection.proofs.root.candidates.Tie as tie
@@ -69,23 +71,34 @@ few l = l .label .ensures .few
 
 least-requires : tie.Need-least-requires
 least-requires c κs =
-    let l = c .before .before .before .before .before .before .before .before in
+    let l = c .before .before .before .before .before .before .before .before .before in
     let k = kept l in
     let t = moved k in
     let h = regional t in
-    (h .checked, h .within, omega (arith, h .numbersLong, k .renumber .kept .1 .1 .0, l .label .kept .1 .1 .1 .1 .1 .0), omega (arith, few l, l .label .kept .1 .1 .1 .1 .1 .1 .1 .0, entry t .pre .0 .2))
+    let kept = l .label .kept .1 .1 .1 .1 .1 in (
+      h .checked,
+      h .within,
+      entry t .pre .0 .1,
+      omega (arith, h .numbersLong, k .renumber .kept .1 .1 .0, kept .0),
+      omega (arith, few l, kept .1 .1 .0, entry t .pre .0 .2),
+      omega (arith, few l, kept .1 .0, h .queueLong),
+    )
 
 returns : tie.Need-returns
 returns c =
-    let l = c .before .before .before .before .before .before .before .before .before .before .before in
+    let e = c .before .before .before .before in
+    let l = e .before .before .before .before .before .before .before .before .before .before in
     let k = kept l in
     let t = moved k in
     let s = entry t in
-    let e = c .before .before .least in (
-      candidates-found (mesh s) (s .args .nodes .now) (regional t) (s .pre .1 .0) (standing t) (k .renumber .last .1 .1 .0) (k .renumber .ensures) (l .label .ensures)
-          (e .last .1 .1 .1 .1 .1 .1 .0) (omega (arith, few l, e .kept .1 .1 .1 .1 .1 .1 .0, l .label .kept .1 .1 .1 .1 .1 .1 .1 .0, s .pre .0 .2)) (e .ensures),
+    let h = regional t in
+    let nodes = s .args .nodes .now in
+    let left = e .least .last .1 .1 .1 .1 .1 .1 .1 in (
+      candidates-found (mesh s) nodes h (s .pre .1 .0) (standing t) (k .renumber .last .1 .1 .0) (k .renumber .ensures) (l .label .ensures)
+          (degreeBy (mesh s) (s .args .levels .now)) (degree-in (mesh s) nodes (h .within) (s .args .root .node) (h .checked) (s .args .levels .now) (s .pre .1 .1))
+          (left .0) (left .1 .0) (omega (arith, few l, e .least .kept .1 .1 .1 .1 .1 .1 .1 .0, l .label .kept .1 .1 .1 .1 .1 .1 .1 .0, s .pre .0 .2)) (e .least .ensures),
       few l,
-      candidates-only (mesh s) (s .args .nodes .now) (regional t) (s .pre .1 .0) (standing t) (k .renumber .last .1 .1 .0) (k .renumber .ensures) (l .label .ensures),
+      candidates-only (mesh s) nodes h (s .pre .1 .0) (standing t) (k .renumber .last .1 .1 .0) (k .renumber .ensures) (l .label .ensures),
     )
 
 pub candidates-spec : {M : Type 1} → statement M

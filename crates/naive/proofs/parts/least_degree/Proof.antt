@@ -5,10 +5,10 @@ use Rattle.naive.proofs.parts.least_degree.Statement.{statement}
 use Rattle.naive.proofs.parts.least_degree.Tie as tie
 
 abbrev Inv-loop : tie.InvT-loop
-Inv-loop m s best₀ v₀ best v = Unit {0}
+Inv-loop m region s best₀ v₀ best v = Unit {0}
 
 abbrev μ-loop : tie.MeasureT-loop
-μ-loop m s best₀ v₀ best v = 64 - v
+μ-loop m region s best₀ v₀ best v = 64 - v
 
 pub least-degree-spec : {M : Type 1} → statement M
 least-degree-spec =
@@ -18,8 +18,6 @@ least-degree-spec =
     μ-loop
     (λ c κs. search needs)
     (λ c. search needs)
-    (λ c κs. search needs)
-    (λ c κs. search needs)
     (λ c κs. search needs)
     (λ c κs. search needs)
     (λ c κs. search needs)

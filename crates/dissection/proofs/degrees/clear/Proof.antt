@@ -1,4 +1,4 @@
--- `dissection::root::clear` meets its contract: the groups passed have no best node.
+-- `dissection::degrees::clear` meets its contract: the groups passed have no least degree.
 use mathlib.Core.Path.{_≡_}
 use mathlib.Core.Logic.{inl, inr}
 use Prim.Native.Nat.{ℕ, _-_, _≤_, _<_}
@@ -8,14 +8,14 @@ use lib.Seq.{getD-set-same, getD-set-other}
 use borrow.Author.Needs.{needs}
 use Rattle.theory.proofs.Bools.{eq-or-ne}
 use Rattle.mesh.specs.Lists.{none}
-use Rattle.dissection.proofs.root.clear.Statement.{statement}
-use Rattle.dissection.proofs.root.clear.Tie as tie
+use Rattle.dissection.proofs.degrees.clear.Statement.{statement}
+use Rattle.dissection.proofs.degrees.clear.Tie as tie
 
 abbrev Inv-loop : tie.InvT-loop
-Inv-loop count best₀ c₀ best c = (c ≤ count) × (length best ≡ length best₀) × ((k : ℕ) → k < c → getD best k 0 ≡ none)
+Inv-loop count degrees₀ c₀ degrees c = (c ≤ count) × (length degrees ≡ length degrees₀) × ((k : ℕ) → k < c → getD degrees k 0 ≡ none)
 
 abbrev μ-loop : tie.MeasureT-loop
-μ-loop count best₀ c₀ best c = count - c
+μ-loop count degrees₀ c₀ degrees c = count - c
 
 loop-again : tie.Need-loop-again Inv-loop μ-loop
 loop-again c =
@@ -23,8 +23,8 @@ loop-again c =
       search needs,
       simp length-set (l .inv .1),
       λ k lt. elim (eq-or-ne k (l .c)) [
-        | inl e ↦ rw e (getD-set-same (l .best) (l .c) none 0 (omega arith))
-        | inr e ↦ rw (getD-set-other (l .best) (l .c) k none 0 e) (l .inv .2 k (omega arith))
+        | inl e ↦ rw e (getD-set-same (l .degrees) (l .c) none 0 (omega arith))
+        | inr e ↦ rw (getD-set-other (l .degrees) (l .c) k none 0 e) (l .inv .2 k (omega arith))
       ],
     )
 
