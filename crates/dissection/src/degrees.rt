@@ -25,7 +25,7 @@ fn counted(x: u16) -> u16
     1
 }
 
-// The degree of node v in the region whose nodes are not outside in `region`. O(entries of v).
+// The degree of node v in the region whose nodes are not outside in `region`. n is for the contract alone. O(entries of v).
 fn degree(n: usize, starts: &[u32], neighbours: &[u16], v: usize, region: &[u16]) -> u16
     requires { ⌜ Checked (lent n (now starts) (now neighbours)) × (v < n) × (n ≤ length (now region)) ⌝ }
     ensures { λ r. ⌜ r ≡ degreeBy (lent n (now (starts .entry)) (now (neighbours .entry))) (now (region .entry)) v ⌝ }
