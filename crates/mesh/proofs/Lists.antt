@@ -49,6 +49,10 @@ pub entry-node : (m : Mesh) → Checked m → (v k : ℕ) → k < length (neighb
 unfolding adjacent
 entry-node m h v k lt = h .inside v (getD (neighboursOf m v) k 0) (isIn-getD (neighboursOf m v) k 0 lt) .1
 
+-- and so is each entry of a list that is equal to it
+pub listed-node : (m : Mesh) → Checked m → (v : ℕ) (l : List ℕ) → l ≡ neighboursOf m v → (k : ℕ) → k < length l → getD l k 0 < m .nodes
+listed-node m h v l e k lt = rw e (entry-node m h v k (rw e at lt))
+
 -- an array of one number is as long as the most nodes, and has the number at each place
 pub filled-length : (x : ℕ) → length (filledWith x) ≡ maxNodes
 unfolding filledWith

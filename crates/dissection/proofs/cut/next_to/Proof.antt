@@ -3,12 +3,12 @@ use mathlib.Core.Path.{_≡_, refl, sym, ap, _∙_}
 use mathlib.Core.List.{List}
 use Prim.Native.Nat.{ℕ, _-_, _<_}
 use native.Mathlib.Omega.{arith}
-use lib.ListN.{length, getD}
+use lib.ListN.{length}
 use borrow.Author.Tests.{eq-eqb, ne-eqb}
 use borrow.Author.Needs.{needs}
 use Rattle.plan.specs.Lists.{exists}
 use Rattle.plan.specs.Mesh.{Mesh, lent, neighboursOf}
-use Rattle.mesh.proofs.Lists.{checked-within, entry-node}
+use Rattle.mesh.proofs.Lists.{checked-within, listed-node}
 use Rattle.theory.proofs.Scans.{Clear, clear-more, elementAt, found-in, none-in}
 use Rattle.dissection.proofs.Grouped.{hasNumber}
 use Rattle.dissection.proofs.cut.next_to.Statement.{statement}
@@ -46,8 +46,7 @@ inside : (c : tie.After-wide Inv-loop μ-loop) → c .wide .result < length (sta
 inside c =
     let l = c .before .before .before in
     let s = start l in
-    let lt : l .loop .k < length (neighboursOf (mesh s) (s .args .v)) = rw (← whole l) (c .before .before .loop-test .taken) in
-    omega (arith, c .wide .ensures, ap (λ (e : List ℕ). getD e (l .loop .k) 0) (whole l), entry-node (mesh s) (s .pre .0) (s .args .v) (l .loop .k) lt, s .pre .2)
+    omega (arith, c .wide .ensures, listed-node (mesh s) (s .pre .0) (s .args .v) (entries l) (whole l) (l .loop .k) (c .before .before .loop-test .taken), s .pre .2)
 
 mul-if1 : tie.Need-mul-if1 Inv-loop μ-loop
 mul-if1 c = let lt = inside c in search needs

@@ -9,7 +9,7 @@ use borrow.Author.Needs.{needs}
 use Rattle.plan.specs.Mesh.{Mesh, lent, neighboursOf}
 use Rattle.theory.specs.Counting.{count}
 use Rattle.theory.proofs.Counting.{unit, count-le, count-more, count-front}
-use Rattle.mesh.proofs.Lists.{checked-within, entry-node}
+use Rattle.mesh.proofs.Lists.{checked-within, listed-node}
 use Rattle.dissection.specs.Degrees.{isInside}
 use Rattle.dissection.proofs.LeastDegrees.{counted-unit, list-few}
 use Rattle.dissection.proofs.degrees.degree.Statement.{statement}
@@ -47,8 +47,7 @@ inside : (c : tie.After-wide Inv-loop μ-loop) → c .wide .result < length (sta
 inside c =
     let l = c .before .before .before in
     let s = start l in
-    let lt : l .loop .k < length (neighboursOf (mesh s) (s .args .v)) = rw (← whole l) (c .before .before .loop-test .taken) in
-    omega (arith, c .wide .ensures, ap (λ (e : List ℕ). getD e (l .loop .k) 0) (whole l), entry-node (mesh s) (s .pre .0) (s .args .v) (l .loop .k) lt, s .pre .2)
+    omega (arith, c .wide .ensures, listed-node (mesh s) (s .pre .0) (s .args .v) (entries l) (whole l) (l .loop .k) (c .before .before .loop-test .taken), s .pre .2)
 
 mul-counted : tie.Need-mul-counted Inv-loop μ-loop
 mul-counted c = let lt = inside c in search needs

@@ -9,7 +9,7 @@ use lib.Seq.{take-all}
 use Rattle.plan.specs.Lists.{isIn}
 use Rattle.plan.specs.Mesh.{Mesh, lent, neighboursOf, adjacent}
 use Rattle.theory.proofs.Lists.{exists-more}
-use Rattle.mesh.proofs.Lists.{checked-within, entry-node}
+use Rattle.mesh.proofs.Lists.{checked-within, listed-node}
 use Rattle.dissection.specs.Spread.{Spread}
 use Rattle.dissection.proofs.Spreads.{spread-start, spread-as, spread-both}
 use Rattle.dissection.proofs.levels.visit.Statement.{statement}
@@ -48,8 +48,7 @@ entry : (c : tie.In-loop Inv-loop μ-loop) →
 entry c =
     let e = c .before .before in
     let s = e .before .before .before .before .before in
-    let same = entries-are e in
-    rw same (entry-node (mesh s) (s .pre .0) (s .args .u) (c .before .loop .k) (rw same at (c .loop-test .taken)))
+    listed-node (mesh s) (s .pre .0) (s .args .u) (e .list .result .now) (entries-are e) (c .before .loop .k) (c .loop-test .taken)
 
 touch-requires : tie.Need-touch-requires Inv-loop μ-loop
 touch-requires c κs =

@@ -1,6 +1,5 @@
 -- `layout::columns::mark_neighbours` meets its contract: the loop marks the position of each neighbour.
 use mathlib.Core.Path.{_≡_, refl, ap, _∙_}
-use mathlib.Core.List.{List}
 use Prim.Native.Nat.{ℕ, _-_, _≤_, _<_}
 use native.Mathlib.Omega.{arith}
 use borrow.Author.Needs.{needs}
@@ -10,7 +9,7 @@ use lib.Seq.{take-all}
 use Rattle.plan.specs.Lists.{exists}
 use Rattle.plan.specs.Mesh.{Mesh, lent, neighboursOf}
 use Rattle.theory.proofs.Orders.{order-length, order-inside}
-use Rattle.mesh.proofs.Lists.{checked-within, entry-node}
+use Rattle.mesh.proofs.Lists.{checked-within, listed-node}
 use Rattle.layout.specs.Arrays.{Marked, neighbourPosition}
 use Rattle.layout.proofs.Inverse.{inverse-inside}
 use Rattle.layout.proofs.Marks.{marked-more}
@@ -46,8 +45,7 @@ known c =
     let l = c .before .before .before in
     let s = start l in
     let v : ℕ = getD (s .args .order .now) (s .args .j) 0 in
-    let lt = entry-node (mesh s) (s .pre .0 .checked) v (l .loop .e) (omega (arith, ap length (whole l), c .before .before .loop-test .taken)) in
-    omega (arith, lt, c .wide2 .ensures, ap (λ (w : List ℕ). getD w (l .loop .e) 0) (whole l))
+    omega (arith, c .wide2 .ensures, listed-node (mesh s) (s .pre .0 .checked) v (l .before .list .result .now) (whole l) (l .loop .e) (c .before .before .loop-test .taken))
 
 -- its position is marked
 position : (c : tie.After-wide3 Inv-loop μ-loop) →
