@@ -16,7 +16,6 @@ use Rattle.theory.specs.Checked.{Checked}
 use Rattle.theory.proofs.Bools.{tested, eq-or-ne}
 use Rattle.theory.proofs.Lists.{keep-more}
 use Rattle.theory.proofs.Counting.{unit, count-le, count-ext}
-use Rattle.theory.proofs.Ascending.{ascending-few}
 use Rattle.mesh.specs.Lists.{none}
 use Rattle.dissection.specs.Numbers.{outside, Within, grouped}
 use Rattle.dissection.specs.Standing.{Standing}
@@ -34,14 +33,9 @@ counted-unit x = go (eqb x outside)
     go true = refl
     go false = refl
 
--- a list has at most n entries
-pub list-few : (m : Mesh) → Checked m → (v : ℕ) → length (neighboursOf m v) ≤ m .nodes
-unfolding adjacent
-list-few m h v = omega (arith, ascending-few (neighboursOf m v) 0 (m .nodes) (h .ascends v) (λ w t. (omega arith, h .inside v w t .1)))
-
--- so no degree is as great as the number that stands for none
+-- no degree is as great as the number that stands for none: a list has at most 26 entries
 pub degree-few : (m : Mesh) → Checked m → (numbers : List ℕ) (v : ℕ) → degreeBy m numbers v < none
-degree-few m h numbers v = omega (arith, count-le (isInside numbers) (neighboursOf m v), list-few m h v, h .few)
+degree-few m h numbers v = omega (arith, count-le (isInside numbers) (neighboursOf m v), h .short v)
 
 module _ (m : Mesh) (nodes : List ℕ) (within : Within (m .nodes) nodes) (root : ℕ) (checked : Checked m) (numbers : List ℕ) (standing : Standing m nodes root numbers) where
   -- where the levels from a root stand in the numbers, they tell the nodes of the region

@@ -1,4 +1,4 @@
-// Nested dissection of a mesh that has passed checks 1 to 7.
+// Nested dissection of a mesh that has passed checks 1 to 7 and 26.
 mod cut;
 mod degrees;
 mod levels;

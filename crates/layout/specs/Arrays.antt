@@ -14,7 +14,7 @@ use Rattle.theory.specs.Checked.{Checked}
 use Rattle.theory.specs.Rows.{isRow, firstRow}
 use Rattle.mesh.specs.Lists.{none}
 
--- a mesh that passed checks 1 to 7, an order of its nodes, and the position of each node
+-- a mesh that passed its checks, an order of its nodes, and the position of each node
 pub record Ordered (m : Mesh) (order positions : List ℕ) : Type 0 where
   pub checked : Checked m
   pub once : Order (m .nodes) order

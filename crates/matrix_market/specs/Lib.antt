@@ -1,3 +1,4 @@
 pub mod SortedPairs
 pub mod Lines
 pub mod Blocks
+pub mod Made

@@ -3,11 +3,12 @@
 use mathlib.Core.Bool.{Bool, not}
 use mathlib.Core.List.{List}
 use Prim.Native.Nat.{ℕ, _+_, _≤_, _<_}
+use lib.Dec.{ltb}
 use lib.ListN.{length, getD, replicate}
 use Rattle.plan.specs.Lists.{exists, below, isIn, ascending}
-use Rattle.plan.specs.Mesh.{maxNodes, Mesh, neighboursOf}
+use Rattle.plan.specs.Mesh.{maxNodes, maxNeighbours, Mesh, neighboursOf}
 use Rattle.mesh.specs.declared.ListRule.{ListRule}
-use Rattle.mesh.specs.declared.ListRule.the-variants.{NotItself, Ascending}
+use Rattle.mesh.specs.declared.ListRule.the-variants.{NotItself, Ascending, Short}
 
 -- the number that is no node, position or part
 abbrev pub none : ℕ
@@ -27,6 +28,7 @@ pub record ListWithin (starts entries : List ℕ) (v : ℕ) : Type 0 where
 abbrev pub breaksRule : ListRule → ℕ → List ℕ → Bool
 breaksRule NotItself v entries = isIn v entries
 breaksRule Ascending v entries = not (ascending entries)
+breaksRule Short v entries = ltb maxNeighbours (length entries)
 
 -- whether some node's list does
 unfoldable pub someListBreaks : ListRule → Mesh → Bool

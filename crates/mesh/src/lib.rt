@@ -1,5 +1,5 @@
-// Checks 1 to 7 of a lent mesh: n nodes, the starts of their lists, and the entries of all lists (neighbours). With them is what other crates use of
-// such lists, and of arrays with a place for each node.
+// Checks 1 to 7 and 26 of a lent mesh: n nodes, the starts of their lists, and the entries of all lists (neighbours). With them is what other
+// crates use of such lists, and of arrays with a place for each node.
 use plan::Plan;
 ghost use mathlib.Core.Path.{_≡_};
 ghost use mathlib.Core.Bool.{true, false};
@@ -9,7 +9,7 @@ ghost use lib.Dec.{ltb};
 ghost use lib.ListN.{length};
 ghost use Rattle.plan.specs.Lists.{isIn, listAt, ascending, falls};
 ghost use Rattle.plan.specs.Refusals.{firstFault};
-ghost use Rattle.plan.specs.Mesh.{maxNodes, lent, badNodeCount, badStarts, badMeshStarts, tooManyEntries, neighbourOutside, notAscending, oneSided, meshChecks};
+ghost use Rattle.plan.specs.Mesh.{maxNodes, lent, badNodeCount, badStarts, badMeshStarts, tooManyEntries, neighbourOutside, oneSided, meshChecks};
 ghost use Rattle.theory.specs.Counting.{count};
 ghost use Rattle.mesh.specs.Lists.{filledWith, breaksRule, someListBreaks, ListWithin};
 
@@ -112,16 +112,15 @@ pub fn list<'a>(starts: &[u32], entries: &'a [u16], v: usize) -> &'a [u16]
     &entries[a..e]
 }
 
-// Whether x stands in a list of any order: each entry is tried. O(length).
-pub fn contains(entries: &[u16], x: usize) -> bool
+// Whether x stands in a list of any order. Each entry is looked at, whether x was found before or not: no branch has to be guessed. O(length).
+pub fn contains(entries: &[u16], x: u16) -> bool
     ensures { λ r. ⌜ r ≡ isIn x (now (entries .entry)) ⌝ }
 {
+    let mut found = false;
     for k in 0..entries.len() {
-        if wide(entries[k]) == x {
-            return true;
-        }
+        found = found | (entries[k] == x);
     }
-    false
+    found
 }
 
 // Whether each entry of a list is greater than the one before it. O(length).
@@ -136,29 +135,32 @@ fn ascends(entries: &[u16]) -> bool
     true
 }
 
-// The rule of a node's list that check 5 or 6 is about.
+// The rule of a node's list that check 5, 6 or 26 is about.
 enum ListRule {
     NotItself,
     Ascending,
+    Short,
 }
 
 // Whether node v's list breaks the rule. O(length).
-fn breaks(rule: ListRule, v: usize, entries: &[u16]) -> bool
+fn breaks(rule: ListRule, v: u16, entries: &[u16]) -> bool
     ensures { λ r. ⌜ r ≡ breaksRule rule v (now (entries .entry)) ⌝ }
 {
     match rule {
         ListRule::NotItself => contains(entries, v),
         ListRule::Ascending => !ascends(entries),
+        ListRule::Short => entries.len() > Plan::NEIGHBOURS,
     }
 }
 
-// Checks 5 and 6: some node's list breaks the rule. O(n + entries).
+// Checks 5, 6 and 26: some node's list breaks the rule. O(n + entries), for 26 O(n).
 fn some_list_breaks(rule: ListRule, n: usize, starts: &[u32], neighbours: &[u16]) -> bool
+    requires { ⌜ badNodeCount n ≡ false ⌝ }
     requires { ⌜ badMeshStarts (lent n (now starts) (now neighbours)) ≡ false ⌝ }
     ensures { λ r. ⌜ r ≡ someListBreaks rule (lent n (now (starts .entry)) (now (neighbours .entry))) ⌝ }
 {
     for v in 0..n {
-        if breaks(rule, v, list(starts, neighbours, v)) {
+        if breaks(rule, v as u16, list(starts, neighbours, v)) {
             return true;
         }
     }
@@ -184,24 +186,12 @@ pub fn lower_bound(entries: &[u16], x: usize) -> usize
     low
 }
 
-// Whether x stands in an ascending list. O(log length).
-fn contains_sorted(entries: &[u16], x: usize) -> bool
-    requires { ⌜ ascending (now entries) ≡ true ⌝ }
-    ensures { λ r. ⌜ r ≡ isIn x (now (entries .entry)) ⌝ }
-{
-    let k = lower_bound(entries, x);
-    if k == entries.len() {
-        return false;
-    }
-    wide(entries[k]) == x
-}
-
 // Check 7: an entry is one-sided, w in v's list and v not in w's. "The first one-sided entry ends the whole comparison of lists."
-// O(n + entries · log degree).
+// Behind check 26 a list is read through in 26 steps at most, without a branch to guess: O(n + 26 · entries).
 fn one_sided(n: usize, starts: &[u32], neighbours: &[u16]) -> bool
+    requires { ⌜ badNodeCount n ≡ false ⌝ }
     requires { ⌜ badMeshStarts (lent n (now starts) (now neighbours)) ≡ false ⌝ }
     requires { ⌜ neighbourOutside (lent n (now starts) (now neighbours)) ≡ false ⌝ }
-    requires { ⌜ notAscending (lent n (now starts) (now neighbours)) ≡ false ⌝ }
     ensures { λ r. ⌜ r ≡ oneSided (lent n (now (starts .entry)) (now (neighbours .entry))) ⌝ }
 {
     let mut missing = false;
@@ -209,7 +199,7 @@ fn one_sided(n: usize, starts: &[u32], neighbours: &[u16]) -> bool
         let entries = list(starts, neighbours, v);
         for k in 0..entries.len() {
             let w = wide(entries[k]);
-            missing = !contains_sorted(list(starts, neighbours, w), v);
+            missing = !contains(list(starts, neighbours, w), v as u16);
             if missing {
                 break 'nodes;
             }
@@ -218,7 +208,8 @@ fn one_sided(n: usize, starts: &[u32], neighbours: &[u16]) -> bool
     missing
 }
 
-// The first refusal of checks 1 to 7, 0 for none. "Each check covers the whole input before the next begins." O(n + entries · log degree).
+// The first refusal of checks 1 to 7, with 26 between 6 and 7, 0 for none. "Each check covers the whole input before the next begins."
+// O(n + 26 · entries).
 pub fn check(n: usize, starts: &[u32], neighbours: &[u16]) -> u32
     ensures { λ r. ⌜ r ≡ firstFault (meshChecks (lent n (now (starts .entry)) (now (neighbours .entry)))) ⌝ }
 {
@@ -239,6 +230,9 @@ pub fn check(n: usize, starts: &[u32], neighbours: &[u16]) -> u32
     }
     if some_list_breaks(ListRule::Ascending, n, starts, neighbours) {
         return 6;
+    }
+    if some_list_breaks(ListRule::Short, n, starts, neighbours) {
+        return 26;
     }
     if one_sided(n, starts, neighbours) {
         return 7;

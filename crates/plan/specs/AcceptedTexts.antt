@@ -12,7 +12,7 @@ use Rattle.plan.specs.Refusals.{firstFault}
 use Rattle.plan.specs.Mesh.{lent, adjacent, meshChecks}
 use Rattle.plan.specs.MatrixMarket.{wordLines, sizeLine, pairLines, Pair, rowCount, columnCount, pairsOf, badText, badMatrix, hasPair, repeatedPair, textMesh, MeshBuffers, MeshCapacity, readingText, TextRead}
 
--- An accepted text gives a mesh that passes checks 1 to 7.
+-- An accepted text gives a mesh that passes planning's checks of a mesh, 1 to 7 and 26.
 abbrev pub AcceptedPasses : Type 0
 AcceptedPasses = (text : List ℕ) (room : MeshCapacity) → readingText text room .reply .number ≡ 0 → firstFault (meshChecks (textMesh text)) ≡ 0
 

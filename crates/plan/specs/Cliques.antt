@@ -25,7 +25,7 @@ clique m nodes = every (nextToAll m nodes) nodes
 unfoldable pub uncutCliques : Mesh → List ℕ → List ℕ → List ℕ → Bool
 uncutCliques m order sizes parents = every (λ q. clique m (nodesOfPart order sizes q)) (uncutParts parents)
 
--- The clique rule by regions, which does not rest on what the tree tells: of a mesh that passes checks 1 to 7, whichever nodes are not yet
+-- The clique rule by regions, which does not rest on what the tree tells: of a mesh that passes its checks, whichever nodes are not yet
 -- chosen, a region ("a connected component of the nodes not yet chosen") that the choice leaves whole ("the whole region is one part, uncut") is a clique.
 abbrev pub UncutRegions : Type 0
 UncutRegions =

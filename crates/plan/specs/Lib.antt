@@ -21,6 +21,7 @@ pub mod Enough
 pub mod MatrixMarket
 pub mod AcceptedTexts
 pub mod Everything
+pub mod MeshCases
 pub mod ChoiceCases
 pub mod Starred
 pub mod WorkedTexts

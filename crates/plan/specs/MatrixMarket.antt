@@ -11,7 +11,7 @@ use Rattle.plan.specs.declared.MeshAnswer.{MeshAnswer}
 use Rattle.plan.specs.Lists.{exists, every, keep, same, written}
 use Rattle.plan.specs.Refusals.{Checks, firstFault, within}
 use Rattle.plan.specs.Answers.{Reply, accepted, refused, meshReply}
-use Rattle.plan.specs.Mesh.{Mesh, lent, badNodeCount, tooManyEntries}
+use Rattle.plan.specs.Mesh.{Mesh, lent, badNodeCount, tooManyEntries, listTooLong}
 use Rattle.plan.specs.Elimination.{tabulate, startsOf}
 
 -- ---- lines and words
@@ -239,9 +239,14 @@ meshCapacity b = record { starts = length (b .starts); neighbours = length (b .n
 unfoldable pub meshBuffersTooShort : Mesh → MeshCapacity → Bool
 meshBuffersTooShort m room = ltb (room .starts) (m .nodes + 1) || ltb (room .neighbours) (length (m .neighbours))
 
--- 1, 3 and 8 of a mesh that is made and not lent: by its making it passes 2 and 4 to 7.
+-- 1, 3, 26 and 8 of a mesh that is made and not lent: by its making it passes 2 and 4 to 7. Document 02, E3: "in E1's reader after 3 and before 8".
 unfoldable pub madeChecks : Mesh → MeshCapacity → Checks
-madeChecks m room = (1, badNodeCount (m .nodes)) ∷ (3, tooManyEntries m) ∷ (8, meshBuffersTooShort m room) ∷ []
+madeChecks m room =
+    (1, badNodeCount (m .nodes))
+    ∷ (3, tooManyEntries m)
+    ∷ (26, listTooLong m)
+    ∷ (8, meshBuffersTooShort m room)
+    ∷ []
 
 -- 23, 24, 25: "They come in that order, before 1, 3 and 8."
 unfoldable pub textChecks : List ℕ → MeshCapacity → Checks

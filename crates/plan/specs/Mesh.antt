@@ -1,4 +1,4 @@
--- Document 01, "The mesh as lent", and checks 1 to 7.
+-- Document 01, "The mesh as lent", and checks 1 to 7 with 26 of document 02, E3.
 use mathlib.Core.Bool.{Bool, not, _||_}
 use mathlib.Core.List.{List, [], _∷_}
 use Prim.Native.Nat.{ℕ, _+_}
@@ -16,6 +16,10 @@ maxEntries = 65536
 
 abbrev pub noParent : ℕ
 noParent = 65535
+
+-- Document 02, E3: "Make 26 the limit for every node"
+abbrev pub maxNeighbours : ℕ
+maxNeighbours = 26
 
 -- "A mesh has n nodes, 0 to n − 1. The starts are n + 1 numbers of 32 bits and the neighbours are numbers of 16 bits". n is lent by itself; the
 -- widths are those of the slices.
@@ -64,11 +68,15 @@ listsItself m = exists (λ v. adjacent m v v) (below (m .nodes))
 unfoldable pub notAscending : Mesh → Bool
 notAscending m = exists (λ v. not (ascending (neighboursOf m v))) (below (m .nodes))
 
+-- 26: "a list longer than 26 entries"
+unfoldable pub listTooLong : Mesh → Bool
+listTooLong m = exists (λ v. ltb maxNeighbours (length (neighboursOf m v))) (below (m .nodes))
+
 -- 7: an entry is one-sided
 unfoldable pub oneSided : Mesh → Bool
 oneSided m = exists (λ v. exists (λ w. not (adjacent m w v)) (neighboursOf m v)) (below (m .nodes))
 
--- checks 1 to 7
+-- checks 1 to 7; 26 comes "after 6 and before 7"
 unfoldable pub meshChecks : Mesh → Checks
 meshChecks m =
     (1, badNodeCount (m .nodes))
@@ -77,5 +85,6 @@ meshChecks m =
     ∷ (4, neighbourOutside m)
     ∷ (5, listsItself m)
     ∷ (6, notAscending m)
+    ∷ (26, listTooLong m)
     ∷ (7, oneSided m)
     ∷ []

@@ -1,4 +1,4 @@
--- Planning: the plan of a mesh, checks 1 to 9, and what the lent buffers hold afterwards (document 01, "The layout" and "Refusals").
+-- Planning: the plan of a mesh, checks 1 to 9 and 26, and what the lent buffers hold afterwards (document 01, "The layout" and "Refusals").
 use mathlib.Core.Bool.{Bool, true, _||_}
 use mathlib.Core.Path.{_≡_}
 use mathlib.Core.List.{List, [], _∷_, _++_, map, flatten}
@@ -105,7 +105,7 @@ buffersTooShort n room =
 unfoldable pub rowsTooShort : Contents → Capacity → Bool
 rowsTooShort c room = ltb (room .rows) (c .slots)
 
--- "Planning checks 1 to 9"
+-- "Planning checks 1 to 9"; 26 is one of the mesh's
 unfoldable pub planChecks : Mesh → Capacity → Checks
 planChecks m room = meshChecks m ++ ((8, buffersTooShort (m .nodes) room) ∷ (9, rowsTooShort (planOf m) room) ∷ [])
 

@@ -1,15 +1,16 @@
--- Document 02, E1: worked texts in one table, and the one statement that every row of it holds.
+-- Document 02, E1 and E3: worked texts in one table, and the one statement that every row of it holds.
 use mathlib.Core.Bool.{Bool, true, _&&_}
 use mathlib.Core.Path.{_≡_, refl}
-use mathlib.Core.List.{List, [], _∷_, _++_}
+use mathlib.Core.List.{List, [], _∷_, _++_, map, flatten}
 use Prim.Native.Nat.{ℕ, _+_, _-_}
 use Prim.Native.String.{String}
 use lib.Dec.{eqb}
-use lib.ListN.{length}
+use lib.ListN.{length, replicate}
 use Rattle.plan.specs.Lists.{every, upFrom}
 use Rattle.plan.specs.Refusals.{firstFault}
 use Rattle.plan.specs.Answers.{Reply, accepted, refused}
 use Rattle.plan.specs.Mesh.{lent}
+use Rattle.plan.specs.Listing.{decimal}
 use Rattle.plan.specs.MatrixMarket.{bytes, MeshBuffers, meshBuffers, meshLengths, meshCapacity, madeChecks, MeshOutcome, readingText, fillMesh}
 use Rattle.plan.specs.Everything.{everything}
 use Rattle.plan.specs.Starred.{stale, holdsFront, sameReply}
@@ -23,13 +24,17 @@ pub data TextRow : Type 0 where
   refusesIn : (starts neighbours : ℕ) → (number : ℕ) → (text : List ℕ) → TextRow
   -- and one that gives lists that fill both buffers
   fills : (text : List ℕ) → (starts neighbours : List ℕ) → TextRow
-  -- a mesh of so many nodes and entries, lent so many starts and neighbours: the number of 1, 3 and 8 (0 for none). No short text has as many
-  -- pairs as 3 needs.
-  made : (nodes entries : ℕ) → (starts neighbours : ℕ) → (number : ℕ) → TextRow
+  -- a mesh of so many nodes and entries, so many of these in the first list, which alone is laid out, lent so many starts and neighbours: the number
+  -- of 1, 3, 26 and 8 (0 for none). No short text has as many pairs as 3 needs.
+  made : (nodes entries first : ℕ) → (starts neighbours : ℕ) → (number : ℕ) → TextRow
 
 -- a text behind the banner line
 abbrev pub behind : String → List ℕ
 behind rest = bytes "%%MatrixMarket matrix coordinate pattern symmetric\n" ++ bytes rest
+
+-- the lines of the pairs of row k + 1 and each column before it
+abbrev pub starLines : ℕ → List ℕ
+starLines k = flatten (map (λ j. decimal (k + 1) ++ (32 ∷ decimal j) ++ (10 ∷ [])) (upFrom 1 k))
 
 -- whether reading a text into so many starts and neighbours replies so, and leaves these at the front of the two buffers
 unfoldable pub textAgrees : List ℕ → ℕ → ℕ → Reply → List ℕ → List ℕ → Bool
@@ -46,7 +51,7 @@ textHolds (refuses k text) = textAgrees text 12 12 (refused k) [] []
 textHolds (refusesIn s e k text) = textAgrees text s e (refused k) [] []
 textHolds (fills text starts neighbours) =
     textAgrees text (length starts) (length neighbours) (accepted ((length starts - 1) ∷ length neighbours ∷ [])) starts neighbours
-textHolds (made n entries s e k) = eqb (firstFault (madeChecks (lent n [] (upFrom 0 entries)) (meshLengths s e))) k
+textHolds (made n entries first s e k) = eqb (firstFault (madeChecks (lent n (0 ∷ first ∷ []) (upFrom 0 entries)) (meshLengths s e))) k
 
 -- the ring 0-1-2-3
 abbrev pub ringStarts : List ℕ
@@ -57,9 +62,21 @@ ringNeighbours = 1 ∷ 3 ∷ 0 ∷ 2 ∷ 1 ∷ 3 ∷ 0 ∷ 2 ∷ []
 
 unfoldable pub texts : List TextRow
 texts =
+    -- 3: an entry too many, before 26 and 8 and behind 1; as many as allowed
+    made 300 65537 27 0 0 3
+    ∷ made 5000 65537 27 0 0 1
+    ∷ made 300 65536 26 301 65535 8
+    ∷ made 300 65536 26 301 65536 0
+    -- 26: a list of 27 entries, before 8 and behind 25; one of 26, to which a diagonal pair adds nothing
+    ∷ made 300 65536 27 0 0 26
+    ∷ made 300 65536 27 301 65536 26
+    ∷ refuses 26 (behind "28 28 27\n" ++ starLines 27)
+    ∷ refuses 25 (behind "28 28 28\n" ++ starLines 27 ++ bytes "28 1\n")
+    ∷ gives (behind "27 27 26\n" ++ starLines 26) (upFrom 0 27 ++ (52 ∷ [])) (replicate 26 26 ++ upFrom 0 26)
+    ∷ gives (behind "27 27 27\n27 27\n" ++ starLines 26) (upFrom 0 27 ++ (52 ∷ [])) (replicate 26 26 ++ upFrom 0 26)
     -- Accepted. The ring, plainly; then with any letter case, spaces and tabs at a line's ends and between, carriage returns, comments, blank
     -- lines, the pairs in another order, a diagonal one among them, and no line feed at the end.
-    gives (behind "4 4 4\n2 1\n3 2\n4 1\n4 3\n") ringStarts ringNeighbours
+    ∷ gives (behind "4 4 4\n2 1\n3 2\n4 1\n4 3\n") ringStarts ringNeighbours
     ∷ gives
     (bytes " %%mAtRiXmArKeT\tMATRIX  Coordinate pattern\tSYMMETRIC \r\n% a\rcomment\r\n\r\n \t % another\r\n \t\r\n\t4 4  5 \r\n4 1\n\n  3\t2\r\n2 2\n 4   3\t\r\n2 1")
     ringStarts ringNeighbours
@@ -125,11 +142,6 @@ texts =
     ∷ refuses 24 (behind "2 2 3\n2 1\n2 1\n1 2\n")
     ∷ refuses 25 (behind "5000 5000 2\n2 1\n2 1\n")
     ∷ refusesIn 0 0 1 (behind "5000 5000 0\n")
-    -- 3: an entry too many, before 8 and behind 1; as many as allowed
-    ∷ made 300 65537 0 0 3
-    ∷ made 5000 65537 0 0 1
-    ∷ made 300 65536 301 65535 8
-    ∷ made 300 65536 301 65536 0
     -- 8: a start too few; a neighbour too few; 25 before it; room for just all
     ∷ refusesIn 4 9 8 (behind "4 4 4\n2 1\n3 2\n4 1\n4 3\n")
     ∷ refusesIn 6 7 8 (behind "4 4 4\n2 1\n3 2\n4 1\n4 3\n")

@@ -1,6 +1,6 @@
 // The public kinds: a plan, the answers of the entry points, and the family of a refusal's number.
 ghost use mathlib.Core.Path.{_≡_};
-ghost use Rattle.plan.specs.Mesh.{maxNodes, maxEntries, noParent};
+ghost use Rattle.plan.specs.Mesh.{maxNodes, maxEntries, maxNeighbours, noParent};
 ghost use Rattle.plan.specs.Refusals.{familyOf};
 
 // A plan by its counts. Its lists (order, positions, sizes, parents, column starts, rows) stand in the lent buffers.
@@ -16,6 +16,8 @@ impl Plan {
     pub const NODES: usize = 4096;
     // the most neighbour entries that it may have
     pub const ENTRIES: usize = 65536;
+    // the most neighbours that a node may have
+    pub const NEIGHBOURS: usize = 26;
     // the parent (document 01: father) of a part that has none
     pub const NO_PARENT: u16 = 65535;
 
@@ -31,7 +33,7 @@ impl Plan {
         }
     }
 
-    // The three limits are those of the book: a function for each says so, since the book cannot name a constant of the code. O(1).
+    // The four limits are those of the book: a function for each says so, since the book cannot name a constant of the code. O(1).
     fn max_nodes() -> usize
         ensures { λ r. ⌜ r ≡ maxNodes ⌝ }
     {
@@ -42,6 +44,12 @@ impl Plan {
         ensures { λ r. ⌜ r ≡ maxEntries ⌝ }
     {
         Self::ENTRIES
+    }
+
+    fn max_neighbours() -> usize
+        ensures { λ r. ⌜ r ≡ maxNeighbours ⌝ }
+    {
+        Self::NEIGHBOURS
     }
 
     fn no_parent() -> u16

@@ -29,7 +29,7 @@ ghost use Rattle.theory.specs.Checked.{Checked};
 ghost use Rattle.layout.specs.Arrays.{Tree};
 ghost use Rattle.planner.specs.Checked.{earlyChecks, FilledChecked};
 
-// The first refusal of checks 1 to 8, 0 for none. O(n + entries · log degree).
+// The first refusal of the checks of the mesh and of 8, 0 for none. O(n + 26 · entries).
 fn refusal(
     n: usize,
     starts: &[u32],
@@ -106,7 +106,7 @@ fn lay_out(
     );
 }
 
-// The plan of a mesh that has passed checks 1 to 8, or refusal 9 once the slots are counted. Nothing is written before. O(dissection + slots +
+// The plan of a mesh that has passed all checks before 9, or refusal 9 once the slots are counted. Nothing is written before. O(dissection + slots +
 // entries + the ways up the elimination tree).
 fn plan_checked(
     n: usize,
@@ -151,8 +151,8 @@ fn plan_checked(
     PlanAnswer::Accepted(Plan::new(n as u32, count as u32, slots, totals.multiplications))
 }
 
-// Planning: checks 1 to 9 in their order, then the plan in the lent buffers. O(entries · log degree + dissection + slots + the ways up the
-// elimination tree).
+// Planning: checks 1 to 6, 26, 7, 8 and 9 in this order, then the plan in the lent buffers. O(n + 26 · entries + dissection + slots + the ways up
+// the elimination tree).
 pub fn plan(
     n: usize,
     starts: &[u32],

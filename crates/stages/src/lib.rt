@@ -10,7 +10,7 @@ ghost use Rattle.plan.specs.Mesh.{lent, meshChecks};
 ghost use Rattle.plan.specs.Dissection.{parts};
 ghost use Rattle.plan.specs.Planning.{dissectionOf};
 
-// Checks 1 to 7, then the dissection: the number of parts, 0 where a check refuses. O(entries · log degree + dissection).
+// Checks 1 to 7 and 26, then the dissection: the number of parts, 0 where a check refuses. O(n + 26 · entries + dissection).
 #[no_mangle]
 pub extern "C" fn stage_order(n: usize, starts: &[u32], neighbours: &[u16]) -> usize
     ensures { λ r. ⌜ r ≡ cond (eqb (firstFault (meshChecks (lent n (now (starts .entry)) (now (neighbours .entry))))) 0)

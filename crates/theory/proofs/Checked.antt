@@ -1,23 +1,23 @@
--- What checks 1 to 7 give: a mesh that passes them is `Checked`.
+-- What the checks of a mesh, 1 to 7 and 26, give: a mesh that passes them is `Checked`.
 use mathlib.Core.Path.{_≡_, refl, ap}
 use mathlib.Core.Logic.{inl, inr}
 use mathlib.Core.Bool.{Bool, true, false, not, _||_}
 use mathlib.Core.List.{List, [], _++_}
 use Prim.Native.Nat.{ℕ, _+_, _-_, _≤_, _<_}
 use native.Mathlib.Omega.{arith}
-use lib.Dec.{leb, eqb}
+use lib.Dec.{leb, ltb, eqb}
 use lib.ListN.{length, getD, drop, List·getD-eq-default}
 use borrow.Author.Tests.{eqb-true, eqb-false, leb-false, ltb-false, not-false}
 use Rattle.plan.specs.Lists.{exists, below, isIn, listAt, ascending}
 use Rattle.plan.specs.Refusals.{Checks, firstFault}
-use Rattle.plan.specs.Mesh.{maxEntries, maxNodes, Mesh, neighboursOf, adjacent, badNodeCount, badStarts, badMeshStarts, tooManyEntries, neighbourOutside, listsItself, notAscending, oneSided, meshChecks}
+use Rattle.plan.specs.Mesh.{maxEntries, maxNodes, maxNeighbours, Mesh, neighboursOf, adjacent, badNodeCount, badStarts, badMeshStarts, tooManyEntries, neighbourOutside, listsItself, notAscending, listTooLong, oneSided, meshChecks}
 use Rattle.theory.specs.Checked.{Starts, Checked}
 use Rattle.theory.proofs.Bools.{or-false-left, or-false-right, clash, lt-or-le}
 use Rattle.theory.proofs.Lists.{isIn-take, isIn-drop, exists-none}
 use Rattle.theory.proofs.Ranges.{below-isIn}
 use Rattle.theory.proofs.Refusals.{no-fault, first-none}
 
--- the seven checks, each without a fault
+-- the eight checks, each without a fault
 record Passed (m : Mesh) : Type 0 where
   count : badNodeCount (m .nodes) ≡ false
   starts : badMeshStarts m ≡ false
@@ -25,6 +25,7 @@ record Passed (m : Mesh) : Type 0 where
   inside : neighbourOutside m ≡ false
   loopless : listsItself m ≡ false
   ascends : notAscending m ≡ false
+  short : listTooLong m ≡ false
   mirrored : oneSided m ≡ false
 
 passed-each : (m : Mesh) → firstFault (meshChecks m) ≡ 0 → Passed m
@@ -36,8 +37,9 @@ passed-each m h =
     let c4 = no-fault 4 (neighbourOutside m) _ (omega arith) (c3 .1) in
     let c5 = no-fault 5 (listsItself m) _ (omega arith) (c4 .1) in
     let c6 = no-fault 6 (notAscending m) _ (omega arith) (c5 .1) in
-    let c7 = no-fault 7 (oneSided m) _ (omega arith) (c6 .1) in
-    record { count = c1 .0; starts = c2 .0; entries = c3 .0; inside = c4 .0; loopless = c5 .0; ascends = c6 .0; mirrored = c7 .0 }
+    let c26 = no-fault 26 (listTooLong m) _ (omega arith) (c6 .1) in
+    let c7 = no-fault 7 (oneSided m) _ (omega arith) (c26 .1) in
+    record { count = c1 .0; starts = c2 .0; entries = c3 .0; inside = c4 .0; loopless = c5 .0; ascends = c6 .0; short = c26 .0; mirrored = c7 .0 }
 
 -- check 1
 pub node-count : (n : ℕ) → badNodeCount n ≡ false → (0 < n) × (n ≤ maxNodes)
@@ -83,11 +85,6 @@ entry-inside m h v w a =
     leb-false (m .nodes) w
     (exists-none (leb (m .nodes)) (m .neighbours) h w (isIn-drop w (getD (m .starts) v 0) (m .neighbours) (isIn-take w (getD (m .starts) (v + 1) 0 - getD (m .starts) v 0) (drop (getD (m .starts) v 0) (m .neighbours)) a)))
 
--- check 6: a node's list is ascending
-pub list-ascends : (m : Mesh) → notAscending m ≡ false → (v : ℕ) → v < m .nodes → ascending (neighboursOf m v) ≡ true
-unfolding notAscending
-list-ascends m h v l = not-false _ (exists-none (λ v. not (ascending (neighboursOf m v))) (below (m .nodes)) h v (below-isIn (m .nodes) v l))
-
 module _ (m : Mesh) (h : Passed m) where
   full : length (m .starts) ≡ m .nodes + 1
   full = mesh-starts m (h .starts) .0 .many
@@ -108,11 +105,20 @@ module _ (m : Mesh) (h : Passed m) where
     | inr l ↦ unfold adjacent in ap (isIn v) (list-out m v full l)
   ]
 
-  -- check 6, of any number
+  -- check 6
   ascends : (v : ℕ) → ascending (neighboursOf m v) ≡ true
+  unfolding notAscending
   ascends v = elim (lt-or-le v (m .nodes)) [
-    | inl l ↦ list-ascends m (h .ascends) v l
+    | inl l ↦ not-false _ (exists-none (λ v. not (ascending (neighboursOf m v))) (below (m .nodes)) (h .ascends) v (below-isIn (m .nodes) v l))
     | inr l ↦ ap ascending (list-out m v full l)
+  ]
+
+  -- check 26
+  short : (v : ℕ) → length (neighboursOf m v) ≤ maxNeighbours
+  unfolding listTooLong
+  short v = elim (lt-or-le v (m .nodes)) [
+    | inl l ↦ ltb-false maxNeighbours (length (neighboursOf m v)) (exists-none (λ v. ltb maxNeighbours (length (neighboursOf m v))) (below (m .nodes)) (h .short) v (below-isIn (m .nodes) v l))
+    | inr l ↦ (let e : length (neighboursOf m v) ≡ 0 = ap length (list-out m v full l) in omega (arith, e))
   ]
 
   -- check 7
@@ -123,11 +129,11 @@ module _ (m : Mesh) (h : Passed m) where
       exists-none (λ v. exists (λ w. not (adjacent m w v)) (neighboursOf m v)) (below (m .nodes)) (h .mirrored) v (below-isIn (m .nodes) v (listed v w a)) in
       not-false (adjacent m w v) (exists-none (λ w. not (adjacent m w v)) (neighboursOf m v) one w (unfold adjacent in a))
 
--- behind a mesh that passes checks 1 to 7 the first fault is that of the checks to come
+-- behind a mesh that passes its checks the first fault is that of the checks to come
 pub mesh-passed : (m : Mesh) (cs : Checks) → firstFault (meshChecks m) ≡ 0 → firstFault (meshChecks m ++ cs) ≡ firstFault cs
 mesh-passed m cs h = first-none (meshChecks m) cs (unfold meshChecks in refl) h
 
--- a mesh that passes checks 1 to 7
+-- a mesh that passes its checks
 pub checked : (m : Mesh) → firstFault (meshChecks m) ≡ 0 → Checked m
 checked m h =
     let p : Passed m = passed-each m h in
@@ -142,5 +148,6 @@ checked m h =
       inside = λ v w a. (listed m p v w a, entry-inside m (p .inside) v w a);
       loopless = loopless m p;
       ascends = ascends m p;
+      short = short m p;
       symmetric = record { mirror = mirror m p };
     }

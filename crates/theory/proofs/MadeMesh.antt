@@ -2,7 +2,7 @@
 use mathlib.Core.Path.{_≡_, refl, sym, ap, _∙_}
 use mathlib.Core.Logic.{inl, inr}
 use mathlib.Core.Bool.{Bool, true, false, not, _&&_}
-use mathlib.Core.List.{List, [], map, flatten, append-nil}
+use mathlib.Core.List.{List, [], map, flatten, append-nil, map-map}
 use Prim.Native.Nat.{ℕ, _+_, _≤_, _<_}
 use native.Mathlib.Omega.{arith}
 use lib.Dec.{leb, ltb}
@@ -10,11 +10,11 @@ use lib.ListN.{length, getD, length-map}
 use borrow.Author.Tests.{lt-ltb, lt-leb, le-ltb, eq-eqb}
 use Rattle.plan.specs.Lists.{exists, keep, below, isIn, listAt, ascending, total, runningSums}
 use Rattle.plan.specs.Refusals.{firstFault}
-use Rattle.plan.specs.Mesh.{Mesh, neighboursOf, adjacent, badNodeCount, badStarts, badMeshStarts, tooManyEntries, neighbourOutside, listsItself, notAscending, oneSided, meshChecks}
+use Rattle.plan.specs.Mesh.{maxNeighbours, Mesh, neighboursOf, adjacent, badNodeCount, badStarts, badMeshStarts, tooManyEntries, neighbourOutside, listsItself, notAscending, listTooLong, oneSided, meshChecks}
 use Rattle.plan.specs.Elimination.{startsOf}
 use Rattle.plan.specs.MatrixMarket.{meshOf}
 use Rattle.theory.proofs.Bools.{or-neither, and-both, and-left, and-right, refuted, lt-or-le}
-use Rattle.theory.proofs.Lists.{none-exists, isIn-keep, of-keep}
+use Rattle.theory.proofs.Lists.{none-exists, exists-ext, exists-map, isIn-keep, of-keep}
 use Rattle.theory.proofs.Ranges.{isIn-below, below-isIn, getD-map-below, length-map-upFrom}
 use Rattle.theory.proofs.Flatten.{of-flatten}
 use Rattle.theory.proofs.Ascending.{ascending-kept}
@@ -114,16 +114,27 @@ module _ (n : ℕ) (g : ℕ → ℕ → Bool) where
           let right : (ltb w n && g v w) ≡ true = and-right (ltb v n) _ e in
           made-adjacent w v ∙ and-both (ltb w n) _ (and-left (ltb w n) _ right) (and-both (ltb v n) _ (and-left (ltb v n) _ e) (mirror v w (and-right (ltb w n) _ right)))
 
-  -- a mesh so made that passes 1 and 3 passes 1 to 7
+  -- check 26, by the lengths of the lists
+  pub made-long : listTooLong (relationMesh n g) ≡ exists (ltb maxNeighbours) (map length (relationLists n g))
+  unfolding listTooLong meshOf
+  made-long =
+      exists-ext (λ v. ltb maxNeighbours (length (neighboursOf (relationMesh n g) v))) (λ v. ltb maxNeighbours (length (keep (g v) (below n)))) (below n)
+      (λ v h. ap (λ (l : List ℕ). ltb maxNeighbours (length l)) (list-of v (isIn-below n v h)))
+      ∙ sym (exists-map (ltb maxNeighbours) (λ v. length (keep (g v) (below n))) (below n))
+      ∙ ap (exists (ltb maxNeighbours)) (sym (map-map length (λ v. keep (g v) (below n)) (below n)))
+
+  -- a mesh so made that passes 1, 3 and 26 passes all checks of a mesh
   pub made-passes : ((v : ℕ) → g v v ≡ false) → ((v w : ℕ) → g v w ≡ true → g w v ≡ true)
-      → badNodeCount n ≡ false → tooManyEntries (relationMesh n g) ≡ false → firstFault (meshChecks (relationMesh n g)) ≡ 0
+      → badNodeCount n ≡ false → tooManyEntries (relationMesh n g) ≡ false → listTooLong (relationMesh n g) ≡ false
+      → firstFault (meshChecks (relationMesh n g)) ≡ 0
   unfolding meshChecks
-  made-passes alone mirror count entries =
+  made-passes alone mirror count entries short =
       fault-later 1 (badNodeCount (relationMesh n g .nodes)) _ (unfold meshOf in count)
       ∙ fault-later 2 (badMeshStarts (relationMesh n g)) _ made-starts
       ∙ fault-later 3 (tooManyEntries (relationMesh n g)) _ entries
       ∙ fault-later 4 (neighbourOutside (relationMesh n g)) _ made-inside
       ∙ fault-later 5 (listsItself (relationMesh n g)) _ (made-loopless alone)
       ∙ fault-later 6 (notAscending (relationMesh n g)) _ made-ascends
+      ∙ fault-later 26 (listTooLong (relationMesh n g)) _ short
       ∙ fault-later 7 (oneSided (relationMesh n g)) [] (made-mirrored mirror)
       ∙ first-nil

@@ -114,13 +114,13 @@ planned-of-position m v l = order-of-position (m .nodes) (planOf m .order) (plan
 pub order-whole : OrderWhole
 order-whole m passes = order-passes (m .nodes) (planOf m .order) (planned-once m)
 
--- demand 3 of a mesh that passes checks 1 to 7, whatever stands in the buffers behind the column starts and the rows
+-- demand 3 of a mesh that passes its checks, whatever stands in the buffers behind the column starts and the rows
 pub planned-demand3 : (m : Mesh) → firstFault (meshChecks m) ≡ 0 → (more rest : List ℕ)
     → Demand3 m (planOf m .order) (planOf m .sizes) (planOf m .parents) (planOf m .columnStarts ++ more) (planOf m .rows ++ rest)
 unfolding planOf
 planned-demand3 m passes more rest = plan-demand3 m (georgeLiu m) (georgeLiu-takes m) (checked m passes) more rest
 
--- the clique rule of a mesh that passes checks 1 to 7: its uncut parts are cliques
+-- the clique rule of a mesh that passes its checks: its uncut parts are cliques
 pub planned-cliques : (m : Mesh) → firstFault (meshChecks m) ≡ 0 → uncutCliques m (planOf m .order) (planOf m .sizes) (planOf m .parents) ≡ true
 unfolding planOf planBy
 planned-cliques m passes = dissection-cliques m (georgeLiu m) (georgeLiu-takes m) (georgeLiu-clique m (checked m passes)) (m .nodes)

@@ -88,7 +88,7 @@ module _ (m : Mesh) (choose : List ℕ → List ℕ) (takes : Takes (adjacent m)
   unfolding contentsChecks firstFault
   plan-readable = rw (plan-order-good, plan-parts-good, plan-rows-good, plan-nested-good, plan-covered-good)
 
--- ---- by George and Liu's choice, of a mesh that passes checks 1 to 7
+-- ---- by George and Liu's choice, of a mesh that passes its checks
 
 -- 13: n, p and s are within their limits
 pub planned-header : (m : Mesh) → firstFault (meshChecks m) ≡ 0 → badHeader (planOf m) ≡ false

@@ -152,7 +152,7 @@ steps-agree edge choose takes n small =
 
 -- ---- George and Liu's choice
 
--- as many steps as nodes choose every part of a mesh that passes checks 1 to 7
+-- as many steps as nodes choose every part of a mesh that passes its checks
 pub steps-enough : StepsEnough
 unfolding georgeLiu
 steps-enough m h = steps-agree (adjacent m) (georgeLiu m) (georgeLiu-takes m) (m .nodes) (omega (arith, checked m h .few))

@@ -1,4 +1,4 @@
--- The mesh of an accepted text: it passes checks 1 to 7, and its lists are those of the pairs, whatever their order.
+-- The mesh of an accepted text: it passes the checks of a mesh, and its lists are those of the pairs, whatever their order.
 use mathlib.Core.Path.{_≡_, refl, sym, ap, ap₂, _∙_}
 use mathlib.Core.Logic.{inl, inr}
 use mathlib.Core.Bool.{Bool, true, false, not, _&&_, _||_, false≢true, or-comm}
@@ -13,7 +13,7 @@ use Rattle.plan.specs.declared.MeshCounts.{MeshCounts}
 use Rattle.plan.specs.Lists.{exists, keep, below}
 use Rattle.plan.specs.Refusals.{firstFault}
 use Rattle.plan.specs.Answers.{Reply}
-use Rattle.plan.specs.Mesh.{Mesh, lent, adjacent, badNodeCount, tooManyEntries, meshChecks}
+use Rattle.plan.specs.Mesh.{Mesh, lent, adjacent, badNodeCount, tooManyEntries, listTooLong, meshChecks}
 use Rattle.plan.specs.Elimination.{tabulate}
 use Rattle.plan.specs.MatrixMarket.{Pair, rowCount, columnCount, pairsOf, badText, indexOutside, badPair, badMatrix, samePair, hasPair, repeatedPair, areNeighbours, listsOf, meshOf, textMesh, MeshBuffers, MeshCapacity, meshCapacity, meshBuffersTooShort, madeChecks, textChecks, handMesh, readingText, fillMesh, MeshFilled}
 use Rattle.plan.specs.AcceptedTexts.{AcceptedPasses, HandedPasses, ListsArePairs, SamePairsSameMesh}
@@ -61,6 +61,7 @@ pub record TextPassed (text : List ℕ) (room : MeshCapacity) : Type 0 where
   pub once : repeatedPair text ≡ false
   pub count : badNodeCount (textMesh text .nodes) ≡ false
   pub entries : tooManyEntries (textMesh text) ≡ false
+  pub short : listTooLong (textMesh text) ≡ false
   pub fits : meshBuffersTooShort (textMesh text) room ≡ false
 
 pub text-passed : (text : List ℕ) (room : MeshCapacity) → firstFault (textChecks text room) ≡ 0 → TextPassed text room
@@ -71,8 +72,9 @@ text-passed text room h =
     let c25 = no-fault 25 (repeatedPair text) _ (omega arith) (c24 .1) in
     let c1 = no-fault 1 (badNodeCount (textMesh text .nodes)) _ (omega arith) (c25 .1) in
     let c3 = no-fault 3 (tooManyEntries (textMesh text)) _ (omega arith) (c1 .1) in
-    let c8 = no-fault 8 (meshBuffersTooShort (textMesh text) room) _ (omega arith) (c3 .1) in
-    record { kind = c23 .0; matrix = c24 .0; once = c25 .0; count = c1 .0; entries = c3 .0; fits = c8 .0 }
+    let c26 = no-fault 26 (listTooLong (textMesh text)) _ (omega arith) (c3 .1) in
+    let c8 = no-fault 8 (meshBuffersTooShort (textMesh text) room) _ (omega arith) (c26 .1) in
+    record { kind = c23 .0; matrix = c24 .0; once = c25 .0; count = c1 .0; entries = c3 .0; short = c26 .0; fits = c8 .0 }
 
 -- the number that is answered is that of the first fault
 hand-number : (k : ℕ) (m : Mesh) → handMesh k m .reply .number ≡ k
@@ -90,7 +92,7 @@ passes : (text : List ℕ) (room : MeshCapacity) → TextPassed text room → fi
 unfolding textMesh listsOf tabulate
 passes text room p =
     made-passes (rowCount text) (areNeighbours (pairsOf text)) (neighbours-alone (pairsOf text))
-    (λ v w t. neighbours-comm (pairsOf text) w v ∙ t) (unfold meshOf in p .count) (p .entries)
+    (λ v w t. neighbours-comm (pairsOf text) w v ∙ t) (unfold meshOf in p .count) (p .entries) (p .short)
 
 pub accepted-passes : AcceptedPasses
 accepted-passes text room h = passes text room (text-passed text room (no-refusal text room h))

@@ -1,11 +1,11 @@
--- What the theorems ask of a mesh: mirrored lists, or all that checks 1 to 7 say.
+-- What the theorems ask of a mesh: mirrored lists, or all that checks 1 to 7 and 26 say.
 use mathlib.Core.Path.{_≡_}
 use mathlib.Core.Bool.{true, false}
 use mathlib.Core.List.{List}
 use Prim.Native.Nat.{ℕ, _+_, _≤_, _<_}
 use lib.ListN.{length, getD}
 use Rattle.plan.specs.Lists.{ascending, falls}
-use Rattle.plan.specs.Mesh.{maxNodes, maxEntries, Mesh, neighboursOf, adjacent}
+use Rattle.plan.specs.Mesh.{maxNodes, maxEntries, maxNeighbours, Mesh, neighboursOf, adjacent}
 
 -- "w stands in v's list exactly when v stands in w's"
 pub record Symmetric (m : Mesh) : Type 0 where
@@ -17,7 +17,7 @@ pub record Starts (n : ℕ) (starts : List ℕ) : Type 0 where
   pub zeroFirst : getD starts 0 0 ≡ 0
   pub rising : falls starts ≡ false
 
--- What checks 1 to 7 say of a mesh that passes them, check by check, of all numbers v and w: past the nodes the lists are empty.
+-- What checks 1 to 7 and 26 say of a mesh that passes them, check by check, of all numbers v and w: past the nodes the lists are empty.
 pub record Checked (m : Mesh) : Type 0 where
   -- 1
   pub some : 0 < m .nodes
@@ -33,5 +33,7 @@ pub record Checked (m : Mesh) : Type 0 where
   pub loopless : (v : ℕ) → adjacent m v v ≡ false
   -- 6
   pub ascends : (v : ℕ) → ascending (neighboursOf m v) ≡ true
+  -- 26
+  pub short : (v : ℕ) → length (neighboursOf m v) ≤ maxNeighbours
   -- 7
   pub symmetric : Symmetric m

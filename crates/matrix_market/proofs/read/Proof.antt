@@ -1,7 +1,7 @@
 -- `read` meets its contract.
 use mathlib.Core.Path.{_≡_, refl, sym, ap, _∙_}
 use mathlib.Core.Bool.{true, false, not}
-use mathlib.Core.List.{List, map}
+use mathlib.Core.List.{List, flatten}
 use Prim.Native.Nat.{ℕ, _*_, _≤_, _<_}
 use native.Mathlib.Omega.{arith}
 use lib.Dec.{eqb}
@@ -18,15 +18,16 @@ use Rattle.plan.specs.AcceptedTexts.{offDiagonal}
 use Rattle.theory.specs.Keys.{pairOfKey}
 use Rattle.theory.proofs.Bools.{or-false-right}
 use Rattle.theory.proofs.Refusals.{no-fault}
-use Rattle.theory.proofs.TextMesh.{TextPassed, text-passed}
 use Rattle.theory.proofs.TextEntries.{entries-by-pairs}
 use Rattle.theory.proofs.Written.{front-written}
 use Rattle.sorting.specs.Sorted.{sorted}
 use Rattle.lexer.specs.Suffixes.{linesAt}
 use Rattle.matrix_market.specs.declared.pairs.Tally.{Tally}
 use Rattle.matrix_market.specs.Lines.{pairsIn, keysIn, tallyOf, wrongLines, wrongMatrix, pairsChecks}
+use Rattle.matrix_market.specs.Made.{sizeChecks, ListsHanded}
+use Rattle.matrix_market.specs.SortedPairs.{keyLists}
 use Rattle.matrix_market.proofs.Runs.{links-few, keys-long}
-use Rattle.matrix_market.proofs.Reading.{kind-head, text-lines, text-matrix, lines-good, fault-23, fault-pairs, fault-25, fault-made, refused-read, accepted-read, text-nodes, text-starts, text-neighbours, text-entries, text-pairs, keys-ascend, keys-good, keys-mesh}
+use Rattle.matrix_market.proofs.Reading.{kind-head, text-lines, text-matrix, lines-good, fault-23, fault-pairs, fault-25, fault-size, refused-read, TextSized, text-entries, text-pairs, keys-sorted, keys-mesh, handed-read}
 use Rattle.matrix_market.proofs.read.Statement.{statement}
 use Rattle.matrix_market.proofs.read.Tie as tie
 
@@ -190,34 +191,42 @@ entries c =
     ∙ ap (λ (k : ℕ). 2 * k) (sym (ap (λ (t : Tally). t .links) (told d)
     ∙ ap (λ (l : List Line). length (keep offDiagonal (pairsIn l))) (lines-pairs (surveyed d))))
 
-fault : (c : tie.After-made-refusal) → let e = c .before .before in
-    firstFault (textChecks (text (once e)) (meshCapacity (found (once e)))) ≡ c .made-refusal .result
-unfolding meshCapacity textMesh meshOf
-fault c =
+-- 1 and 3
+size : (c : tie.After-size-refusal) → let h = once (c .before .before) in c .size-refusal .result ≡ firstFault (sizeChecks (textMesh (text h)) (meshCapacity (found h)))
+unfolding textMesh meshOf
+size c =
     let e = c .before .before in
-    let d = searched e in
-    let h = once e in
-    fault-made (text h) (meshCapacity (found h)) (kind d) (matrix d) (sym (again (e .before .before)) ∙ e .if3 .left)
-    ∙ sym (c .made-refusal .ensures (textMesh (text h)) (sym (rows d .0)) (entries e))
+    c .size-refusal .ensures (textMesh (text (once e))) (sym (rows (searched e) .0)) (entries e) (meshCapacity (found (once e)))
 
 returns-4 : tie.Need-returns-4
 returns-4 c =
-    let m = c .before in
-    refused (once (m .before .before)) (m .made-refusal .result) (omega (arith, c .if4 .taken)) (fault m)
+    let z = c .before in
+    let e = z .before .before in
+    let d = searched e in
+    let h = once e in
+    refused h (z .size-refusal .result) (omega (arith, c .if4 .taken))
+    (fault-size (text h) (meshCapacity (found h)) (kind d) (matrix d) (sym (again (e .before .before)) ∙ e .if3 .left) (λ z0. c .if4 .taken (size z ∙ z0)) ∙ sym (size z))
 
--- ---- all checks are passed
+-- ---- 1 and 3 found none
 
 abbrev last : tie.Else4 → tie.Else3
 last c = c .before .before .before
 
-passed : (c : tie.Else4) → TextPassed (text (once (last c))) (meshCapacity (found (once (last c))))
-passed c = text-passed (text (once (last c))) (meshCapacity (found (once (last c)))) (fault (c .before) ∙ c .if4 .left)
+sizes : (c : tie.Else4) → let h = once (last c) in TextSized (text h) (meshCapacity (found h))
+sizes c =
+    let e = last c in
+    record {
+      kind = kind (searched e);
+      matrix = matrix (searched e);
+      once = sym (again (e .before .before)) ∙ e .if3 .left;
+      size = sym (size (c .before)) ∙ c .if4 .left;
+    }
 
 -- the pairs are one block, and their keys are sorted
 one-block : (c : tie.Else4) → let v = surveyed (searched (last c)) in v .survey .result .pairs ≤ length (v .survey .last .1 .1 .1 .0)
 one-block c =
     let d = searched (last c) in
-    omega (arith, text-pairs (text (whole d)) (found (whole d)) (passed c), counted d, block-long (surveyed d))
+    omega (arith, text-pairs (text (whole d)) (found (whole d)) (sizes c), counted d, block-long (surveyed d))
 
 block-room : (c : tie.Else4) → let r = last c .before .before in surveyed (searched (last c)) .survey .result .pairs ≤ length (r .repeated .last .1 .1 .1 .1 .0)
 block-room c = omega (arith, one-block c, last c .before .before .repeated .ensures .0 .1)
@@ -228,46 +237,34 @@ sorted-keys c =
     let r = last c .before .before in
     r .repeated .ensures .1 (one-block c) ∙ ap (λ (l : List Line). sorted (keysIn l)) (lines-pairs (surveyed (searched (last c))))
 
-write-lists-requires : tie.Need-write-lists-requires
-unfolding meshOf
-write-lists-requires c κs =
-    let e = c .before .before .before in
-    let d = searched (last e) in
-    let t = text (whole d) in
-    let f = found (whole d) in
-    let p = passed e in
-    let mesh = keys-mesh t f p _ (sorted-keys e) in
-    rw (rows d .0) (
-      (text-nodes t f p, keys-ascend t f p _ (sorted-keys e), keys-good t f p _ (sorted-keys e)),
-      (text-starts t f p, omega (arith, text-neighbours t f p, ap (λ (m : Mesh). length (m .neighbours)) mesh)),
-    )
-
 -- the mesh of the keys' lists is that of the text
 lists-mesh : (c : tie.Else4) → let r = last c .before .before in let d = searched (last c) in
-    meshOf (whole d .read-head .result .rows) (listsOf (whole d .read-head .result .rows) (map pairOfKey (take (surveyed d .survey .result .pairs) (r .repeated .last .1 .1 .1 .1 .0))))
+    meshOf (whole d .read-head .result .rows) (keyLists (whole d .read-head .result .rows) (take (surveyed d .survey .result .pairs) (r .repeated .last .1 .1 .1 .1 .0)))
     ≡ textMesh (text (whole d))
 lists-mesh c =
     let d = searched (last c) in
-    let pairs = map pairOfKey (take (surveyed d .survey .result .pairs) (last c .before .before .repeated .last .1 .1 .1 .1 .0)) in
-    ap (λ (n : ℕ). meshOf n (listsOf n pairs)) (rows d .0) ∙ sym (keys-mesh (text (whole d)) (found (whole d)) (passed c) _ (sorted-keys c))
+    let keys = take (surveyed d .survey .result .pairs) (last c .before .before .repeated .last .1 .1 .1 .1 .0) in
+    ap (λ (n : ℕ). meshOf n (keyLists n keys)) (rows d .0) ∙ sym (keys-mesh (text (whole d)) (found (whole d)) (sizes c) _ (sorted-keys c))
 
-abbrev written-at : tie.After-slice-known4 → tie.Else4
-written-at c = c .before .before .before .before .before .before .before .before
+-- and so are its entries
+lists-entries : (c : tie.Else4) → let r = last c .before .before in let d = searched (last c) in
+    length (flatten (keyLists (whole d .read-head .result .rows) (take (surveyed d .survey .result .pairs) (r .repeated .last .1 .1 .1 .1 .0)))) ≡ 2 * surveyed d .survey .result .links
+unfolding meshOf
+lists-entries c = ap (λ (m : Mesh). length (m .neighbours)) (lists-mesh c) ∙ entries (last c)
 
-entries-few : (c : tie.Else4) → 2 * surveyed (searched (last c)) .survey .result .links ≤ maxEntries
-entries-few c = omega (arith, sym (entries (last c)), text-entries (text (once (last c))) (found (once (last c))) (passed c))
+hand-out-requires : tie.Need-hand-out-requires
+hand-out-requires c κs =
+    let e = c .before .before .before in
+    let d = searched (last e) in
+    let h = whole d in
+    (rw (rows d .0) (keys-sorted (text h) (found h) (sizes e) _ (sorted-keys e)), omega (arith, sym (entries (last e)), text-entries (text h) (found h) (sizes e)), lists-entries e)
 
 returns-5 : tie.Need-returns-5
-unfolding meshOf
 returns-5 c =
     let w = c .before .before .before .before in
-    let e = written-at c in
-    let d = searched (last e) in
-    let t = text (whole d) in
-    let f = found (whole d) in
-    accepted-read t f _ _ (fault (e .before) ∙ e .if4 .left) (rows d .0) (sym (entries (last e)))
-    (w .write-lists .ensures .0 ∙ ap (λ (m : Mesh). written (m .starts) (f .starts)) (lists-mesh e))
-    (w .write-lists .ensures .1 ∙ ap (λ (m : Mesh). written (m .neighbours) (f .neighbours)) (lists-mesh e))
+    let e = w .before .before .before .before in
+    let h = once (last e) in
+    handed-read (text h) (found h) (sizes e) _ (w .hand-out .result) (rw (lists-mesh e) at (w .hand-out .ensures))
 
 pub read-spec : {M : Type 1} → statement M
 read-spec =
@@ -288,9 +285,7 @@ read-spec =
     returns-4
     (λ c. block-room c)
     (λ c. sym (length-take-le _ _ (block-room (c .before))))
-    write-lists-requires
-    (λ c. omega (arith, rows (searched (last (written-at c))) .1))
-    (λ c. omega (arith, entries-few (written-at c)))
+    hand-out-requires
     (λ c. search needs)
     (λ c. search needs)
     returns-5)

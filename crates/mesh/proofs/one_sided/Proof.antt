@@ -10,7 +10,7 @@ use borrow.Author.Needs.{needs}
 use Rattle.plan.specs.Lists.{exists, isIn}
 use Rattle.plan.specs.Mesh.{Mesh, lent, neighboursOf, adjacent, oneSided}
 use Rattle.theory.proofs.Lists.{isIn-getD}
-use Rattle.theory.proofs.Checked.{entry-inside, list-ascends}
+use Rattle.theory.proofs.Checked.{node-count, entry-inside}
 use Rattle.theory.proofs.Scans.{Clear, clear-more, found-below, none-below, elementAt, found-in, none-in}
 use Rattle.mesh.proofs.Lists.{list-within}
 use Rattle.mesh.proofs.one_sided.Statement.{statement}
@@ -61,16 +61,16 @@ unfolding adjacent
 inside c =
     let l = c .before .before .before in
     let e : isIn (getD (entries l) (l .loop .k) 0) (entries l) ≡ true = isIn-getD (entries l) (l .loop .k) 0 (c .before .before .loop-test .taken) in
-    rw (c .wide .ensures) (entry-inside (mesh (start l)) (start l .pre .1 .0) (outer l .nodes .v) (getD (entries l) (l .loop .k) 0) (ap (isIn (getD (entries l) (l .loop .k) 0)) (sym (whole l)) ∙ e))
+    rw (c .wide .ensures) (entry-inside (mesh (start l)) (start l .pre .1 .1) (outer l .nodes .v) (getD (entries l) (l .loop .k) 0) (ap (isIn (getD (entries l) (l .loop .k) 0)) (sym (whole l)) ∙ e))
 
--- what `contains-sorted` answers
-answer : (c : tie.After-contains-sorted Inv-loop μ-loop Inv-nodes μ-nodes) →
+-- what `contains` answers
+answer : (c : tie.After-contains Inv-loop μ-loop Inv-nodes μ-nodes) →
     let l = c .before .before .before .before .before in
-    elementAt (lone (mesh (start l)) (outer l .nodes .v)) (entries l) (l .loop .k) ≡ not (c .contains-sorted .result)
+    elementAt (lone (mesh (start l)) (outer l .nodes .v)) (entries l) (l .loop .k) ≡ not (c .contains .result)
 unfolding adjacent neighboursOf
 answer c =
     let l = c .before .before .before .before .before in
-    rw (← c .before .before .wide .ensures) (ap not (sym (c .contains-sorted .ensures ∙ ap (isIn (outer l .nodes .v)) (c .before .list2 .ensures))))
+    rw (← c .before .before .wide .ensures) (ap not (sym (c .contains .ensures ∙ ap (isIn (outer l .nodes .v)) (c .before .list2 .ensures))))
 
 nodes-holds : tie.Need-nodes-holds Inv-loop μ-loop Inv-nodes μ-nodes
 nodes-holds c = (refl, refl)
@@ -78,7 +78,7 @@ nodes-holds c = (refl, refl)
 list-requires : tie.Need-list-requires Inv-loop μ-loop Inv-nodes μ-nodes
 list-requires c κs =
     let s = c .before .before .before .before in
-    list-within (mesh s) (s .pre .0) (c .before .nodes .v) (c .nodes-test .taken)
+    list-within (mesh s) (s .pre .1 .0) (c .before .nodes .v) (c .nodes-test .taken)
 
 loop-holds : tie.Need-loop-holds Inv-loop μ-loop Inv-nodes μ-nodes
 loop-holds c = (c .before .before .nodes .inv .0, refl)
@@ -86,13 +86,15 @@ loop-holds c = (c .before .before .nodes .inv .0, refl)
 list-requires-2 : tie.Need-list-requires-2 Inv-loop μ-loop Inv-nodes μ-nodes
 list-requires-2 c κs =
     let s = start (c .before .before .before) in
-    list-within (mesh s) (s .pre .0) (c .wide .result) (inside c)
+    list-within (mesh s) (s .pre .1 .0) (c .wide .result) (inside c)
 
-contains-sorted-requires : tie.Need-contains-sorted-requires Inv-loop μ-loop Inv-nodes μ-nodes
-unfolding neighboursOf
-contains-sorted-requires c κs =
-    let s = start (c .before .before .before .before) in
-    rw (c .list2 .ensures) (list-ascends (mesh s) (s .pre .1 .1) (c .before .wide .result) (inside (c .before)))
+-- a node is a number of 16 bits
+cast-contains : tie.Need-cast-contains Inv-loop μ-loop Inv-nodes μ-nodes
+cast-contains c =
+    let l = c .before .before .before .before in
+    let most = node-count (start l .args .n) (start l .pre .0) .1 in
+    let lt = l .before .before .nodes-test .taken in
+    search needs
 
 loop-again : tie.Need-loop-again Inv-loop μ-loop Inv-nodes μ-nodes
 loop-again c =
@@ -136,7 +138,8 @@ one-sided-spec =
     (λ c. search needs)
     (λ c κs. search needs)
     list-requires-2
-    contains-sorted-requires
+    cast-contains
+    (λ c κs. search needs)
     (λ c. search needs)
     (λ c. search needs)
     loop-again

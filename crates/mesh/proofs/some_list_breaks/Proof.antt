@@ -5,6 +5,7 @@ use Prim.Native.Nat.{ℕ, _-_}
 use native.Mathlib.Omega.{arith}
 use borrow.Author.Needs.{needs}
 use Rattle.plan.specs.Mesh.{Mesh, lent, neighboursOf}
+use Rattle.theory.proofs.Checked.{node-count}
 use Rattle.theory.proofs.Scans.{Clear, clear-more, found-below, none-below}
 use Rattle.mesh.specs.declared.ListRule.{ListRule}
 use Rattle.mesh.specs.Lists.{breaksRule, someListBreaks}
@@ -37,10 +38,18 @@ answer c =
     let s = k .before .before .before in
     sym (c .breaks .ensures ∙ ap (breaksRule (s .args .rule) (k .loop .v)) (c .before .list .ensures))
 
+-- a node is a number of 16 bits
+cast-breaks : tie.Need-cast-breaks Inv-loop μ-loop
+cast-breaks c =
+    let s = c .before .before .before .before in
+    let most = node-count (s .args .n) (s .pre .0) .1 in
+    let lt = c .loop-test .taken in
+    search needs
+
 list-requires : tie.Need-list-requires Inv-loop μ-loop
 list-requires c κs =
     let s = c .before .before .before .before in
-    list-within (mesh s) (s .pre) (c .before .loop .v) (c .loop-test .taken)
+    list-within (mesh s) (s .pre .1) (c .before .loop .v) (c .loop-test .taken)
 
 returns : tie.Need-returns Inv-loop μ-loop
 unfolding someListBreaks
@@ -69,6 +78,7 @@ some-list-breaks-spec =
     Inv-loop
     μ-loop
     (λ c. refl)
+    cast-breaks
     list-requires
     (λ c κs. search needs)
     returns

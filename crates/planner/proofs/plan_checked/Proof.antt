@@ -40,7 +40,7 @@ count d = d .dissect .result .parts
 abbrev found : tie.After-dissect → Buffers
 found d = let a = start d .args in buffers (a .order .now) (a .positions .now) (a .sizes .now) (a .parents .now) (a .columnStarts .now) (a .rows .now)
 
--- the mesh passed checks 1 to 7
+-- the mesh passed its checks
 good : (d : tie.After-dissect) → Checked (mesh d)
 good d = start d .pre .0
 

@@ -6,12 +6,12 @@ use native.Mathlib.Omega.{arith}
 use lib.ListN.{length, getD, take}
 use lib.Seq.{take-all}
 use borrow.Author.Needs.{needs}
-use Rattle.plan.specs.Mesh.{Mesh, lent, neighboursOf}
+use Rattle.plan.specs.Mesh.{maxNeighbours, Mesh, lent, neighboursOf}
 use Rattle.theory.specs.Counting.{count}
 use Rattle.theory.proofs.Counting.{unit, count-le, count-more, count-front}
 use Rattle.mesh.proofs.Lists.{checked-within, listed-node}
 use Rattle.dissection.specs.Degrees.{isInside}
-use Rattle.dissection.proofs.LeastDegrees.{counted-unit, list-few}
+use Rattle.dissection.proofs.LeastDegrees.{counted-unit}
 use Rattle.dissection.proofs.degrees.degree.Statement.{statement}
 use Rattle.dissection.proofs.degrees.degree.Tie as tie
 
@@ -63,19 +63,18 @@ grown c =
     let e : c .counted .result ≡ unit (isInside region x) = c .counted .ensures ∙ rw (c .before .before .wide .ensures) (counted-unit (getD region x 0)) in
     omega (arith, l .loop .inv, e, count-more (isInside region) (entries l) (l .loop .k) (c .before .before .before .before .loop-test .taken))
 
--- a count of entries is at most n
-few : (l : tie.At-loop Inv-loop μ-loop) (k : ℕ) → count (isInside (start l .args .region .now)) (take k (entries l)) ≤ start l .args .n
+-- a count of entries is at most 26
+few : (l : tie.At-loop Inv-loop μ-loop) (k : ℕ) → count (isInside (start l .args .region .now)) (take k (entries l)) ≤ maxNeighbours
 few l k =
     let s = start l in
     let region = s .args .region .now in
-    omega (arith, count-front (isInside region) (entries l) k, count-le (isInside region) (entries l), ap length (whole l), list-few (mesh s) (s .pre .0) (s .args .v))
+    omega (arith, count-front (isInside region) (entries l) k, count-le (isInside region) (entries l), ap length (whole l), s .pre .0 .short (s .args .v))
 
 add-sum : tie.Need-add-sum Inv-loop μ-loop
 add-sum c =
     let l = c .before .before .before .before .before in
     let e = grown c in
     let small = few l (l .loop .k + 1) in
-    let most = start l .pre .0 .few in
     search needs
 
 loop-again : tie.Need-loop-again Inv-loop μ-loop
