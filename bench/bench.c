@@ -148,15 +148,19 @@ static int compare_refusal(int operation, uint32_t number) {
            guards_kept(&proved_memory, refusal, 0);
 }
 
+/* The plans that both programs have made in filled memory. */
+static int compare_plans(void) {
+    plan = programs[PLAIN].reply;
+    return plan.refusal == 0 && same_plans(plan, programs[PROVED].reply) && same_memory() && guards_kept(&plain_memory, plan, plan.nodes + 1);
+}
+
 /* Everything that makes the plan of a mesh. Leaves the plan in the memory of both programs. */
 static int compare_planning(void) {
     int same = compare_refusal(CHECK, 8) && compare_refusal(COUNT, 9);
     run_both(ORDER);
     fill_results();
     run_both(PLAN);
-    plan = programs[PLAIN].reply;
-    return same && plan.refusal == 0 && same_plans(plan, programs[PROVED].reply) && programs[PLAIN].parts == plan.parts &&
-           programs[PROVED].parts == plan.parts && same_memory() && guards_kept(&plain_memory, plan, plan.nodes + 1);
+    return compare_plans() && same && programs[PLAIN].parts == plan.parts && programs[PROVED].parts == plan.parts;
 }
 
 /* Draws the pairs that are asked about, half of them with a slot. The first position of each is the column asked about. */
@@ -272,6 +276,17 @@ static void measure_mesh(const char *name, int first, int last) {
     time_operations(line, first, last);
 }
 
+/* A mesh that takes many seconds: each program plans it once, which is compared and timed. */
+static void measure_slow_mesh(const char *name) {
+    Line *line = new_line(name);
+    fill_results();
+    for (int p = 0; p < PROGRAMS; p++) time_once(line, PLAN, p);
+    line->same = compare_plans();
+    line->same = compare_file() && line->same;
+    line->entries = mesh.entries;
+    line->plan = plan;
+}
+
 static void measure_families(void) {
     static const size_t widths[SIZES] = {16, 16, 32, 32, 64};
     for (int family = 0; family < FAMILIES; family++) for (int size = 0; size < SIZES; size++) {
@@ -293,13 +308,14 @@ static void measure_families(void) {
 static void measure_others(void) {
     make_tube(&mesh, 50, 80); measure_mesh("tube 50 x 80", PLAN, PLAN);
     make_plate(&mesh, 4, 4000, 1, 0); measure_mesh("strip 4 x 1000", PLAN, PLAN);
-    make_tree(&mesh, 4096, 4095); measure_mesh("star 4096", PLAN, PLAN);
+    make_tree(&mesh, 4096, 25); measure_mesh("25-ary tree 4096", PLAN, PLAN);
     make_cliques(&mesh, 4096, 16); measure_mesh("cliques of 16", PLAN, PLAN);
+    make_cliques(&mesh, 2600, 26); measure_mesh("cliques of 26", PLAN, PLAN);
     make_random(&mesh, 4096, 8192); measure_mesh("random, 8192 edges", PLAN, PLAN);
     make_random(&mesh, 4096, 32768); measure_mesh("random, 32768 edges", PLAN, PLAN);
-    make_random(&mesh, 257, 32768); measure_mesh("near complete", PLAN, PLAN);
-    make_broom(&mesh, 0, 4088, 8); measure_mesh("hubs 8, leaves 4088", PLAN, PLAN);
-    make_broom(&mesh, 512, 3575, 9); measure_mesh("broom 512, 3575, 9", PLAN, PLAN);
+    make_random(&mesh, 2600, 32768); measure_mesh("random, 2600 nodes", PLAN, PLAN);
+    make_bush(&mesh, 0, 1450, 20); measure_mesh("bush, no tails", PLAN, PLAN);
+    make_bush(&mesh, 237, 1450, 20); measure_slow_mesh("bush, 237 tails");
 }
 
 /* The largest legal plan: one part, and every pair of positions has a slot. No mesh within the limits has it, so it is made here. */

@@ -14,7 +14,15 @@ uint32_t next_random(uint32_t below) {
     return (seed >> 8) % below;
 }
 
+/* Ends the program where a mesh is not within the limits. */
+static void expect(int holds, const char *fault) {
+    if (holds) return;
+    fprintf(stderr, "a mesh of the benchmark has %s\n", fault);
+    exit(2);
+}
+
 static void begin(Mesh *mesh, size_t nodes) {
+    expect(nodes <= NODES, "too many nodes");
     mesh->nodes = nodes;
     seed = 1;
     memset(joined, 0, sizeof joined);
@@ -24,6 +32,15 @@ static void join(size_t v, size_t w) {
     joined[v][w] = joined[w][v] = 1;
 }
 
+static void shuffle(uint16_t *list, size_t count) {
+    for (size_t k = count - 1; k > 0; k--) {
+        size_t other = next_random(k + 1);
+        uint16_t kept = list[k];
+        list[k] = list[other];
+        list[other] = kept;
+    }
+}
+
 /* The neighbour lists of the joined nodes. */
 static void finish(Mesh *mesh) {
     mesh->entries = 0;
@@ -31,9 +48,10 @@ static void finish(Mesh *mesh) {
         mesh->starts[v] = mesh->entries;
         for (size_t w = 0; w < mesh->nodes; w++) {
             if (!joined[v][w]) continue;
-            if (mesh->entries == NDP_MAX_ENTRIES) { fprintf(stderr, "a mesh of the benchmark has too many entries\n"); exit(2); }
+            expect(mesh->entries < NDP_MAX_ENTRIES, "too many entries");
             mesh->neighbours[mesh->entries++] = w;
         }
+        expect(mesh->entries - mesh->starts[v] <= NDP_MAX_NEIGHBOURS, "a list that is too long");
     }
     mesh->starts[mesh->nodes] = mesh->entries;
 }
@@ -88,11 +106,7 @@ void make_foot(Mesh *mesh, size_t nodes) {
     begin(mesh, nodes);
     while (rows * rows < 3 * nodes) rows++;
     for (size_t v = 0; v < nodes; v++) number[v] = v;
-    for (size_t v = nodes - 1; v > 0; v--) {
-        size_t w = next_random(v + 1), kept = number[v];
-        number[v] = number[w];
-        number[w] = kept;
-    }
+    shuffle(number, nodes);
     for (size_t first = 0, above = 0, row = 0, length, before = 0; first < nodes; above = first, before = length, first += length, row++) {
         length = row_length(row, rows, nodes);
         if (length > nodes - first) length = nodes - first;
@@ -119,11 +133,15 @@ void make_tree(Mesh *mesh, size_t nodes, size_t arity) {
 }
 
 void make_random(Mesh *mesh, size_t nodes, size_t edges) {
+    static uint16_t length[NODES];
     begin(mesh, nodes);
+    memset(length, 0, sizeof length);
     for (size_t k = 0; k < edges;) {
         size_t v = next_random(nodes), w = next_random(nodes);
-        if (v == w || joined[v][w]) continue;
+        if (v == w || joined[v][w] || length[v] == NDP_MAX_NEIGHBOURS || length[w] == NDP_MAX_NEIGHBOURS) continue;
         join(v, w);
+        length[v]++;
+        length[w]++;
         k++;
     }
     finish(mesh);
@@ -138,13 +156,30 @@ void make_cliques(Mesh *mesh, size_t nodes, size_t size) {
     finish(mesh);
 }
 
-void make_broom(Mesh *mesh, size_t length, size_t leaves, size_t hubs) {
-    size_t first_hub = length + leaves;
-    begin(mesh, first_hub + hubs);
-    for (size_t v = 0; v + 1 < length; v++) join(v, v + 1);
-    for (size_t h = first_hub; h < first_hub + hubs; h++) {
-        if (length > 0) join(length - 1, h);
-        for (size_t v = length; v < first_hub; v++) join(v, h);
+/* Each leaf is joined to `degree` hubs by chance, each hub to as many leaves as there is room for. */
+static void join_leaves(size_t first_hub, size_t hubs, size_t first_leaf, size_t leaves, size_t degree) {
+    static uint16_t hub[NDP_MAX_ENTRIES];
+    for (size_t k = 0; k < leaves * degree; k++) hub[k] = first_hub + k % hubs;
+    shuffle(hub, leaves * degree);
+    for (size_t k = 0; k < leaves * degree; k++) join(hub[k], first_leaf + k / degree);
+}
+
+/* From a tail's last node to a leaf it is as far as to the tail's first node: over a joint, a top, a branch and a hub. The nodes of the next tail are
+ * next to the last node, so that they are never further than the leaves while this tail stands. */
+void make_bush(Mesh *mesh, size_t tails, size_t leaves, size_t degree) {
+    enum { TAIL = 6, TOPS = 4, MOST = NDP_MAX_NEIGHBOURS - 1, TAILS = NDP_MAX_NEIGHBOURS - TOPS };
+    size_t hubs = (leaves * degree + MOST - 1) / MOST, branches = (hubs + MOST - 1) / MOST, joints = (tails + TAILS - 1) / TAILS;
+    size_t first_joint = TAIL * tails, first_top = first_joint + joints, first_branch = first_top + TOPS, first_hub = first_branch + branches;
+    begin(mesh, first_hub + hubs + leaves);
+    for (size_t t = 0; t < tails; t++) {
+        size_t first = TAIL * t, last = first + TAIL - 1;
+        for (size_t v = first; v < last; v++) join(v, v + 1);
+        for (size_t v = last + 1; t + 1 < tails && v < last + TAIL; v++) join(last, v);
+        join(last, first_joint + t / TAILS);
     }
+    for (size_t v = first_joint; v < first_top; v++) for (size_t top = first_top; top < first_branch; top++) join(v, top);
+    for (size_t b = 0; b < branches; b++) join(first_top + b % TOPS, first_branch + b);
+    for (size_t h = 0; h < hubs; h++) join(first_branch + h / MOST, first_hub + h);
+    join_leaves(first_hub, hubs, first_hub + hubs, leaves, degree);
     finish(mesh);
 }

@@ -1,4 +1,4 @@
-/* The meshes of the benchmark. Each maker overwrites the mesh that it is given. */
+/* The meshes of the benchmark. Each maker overwrites the mesh that it is given, and ends the program where that mesh is not within the limits. */
 #ifndef MESHES_H
 #define MESHES_H
 #include "ndplan.h"
@@ -23,16 +23,17 @@ void make_foot(Mesh *mesh, size_t nodes);
 /* A triangulated plate that is closed to a ring in its width. */
 void make_tube(Mesh *mesh, size_t width, size_t height);
 
-/* A tree: node v > 0 hangs on node (v - 1) / arity. */
+/* A tree: node v > 0 hangs on node (v - 1) / arity; an arity below NDP_MAX_NEIGHBOURS. */
 void make_tree(Mesh *mesh, size_t nodes, size_t arity);
 
-/* Different edges between nodes drawn at random. */
+/* Different edges between nodes drawn at random, without those that would make a list too long. */
 void make_random(Mesh *mesh, size_t nodes, size_t edges);
 
-/* A chain of cliques of `size` nodes, each joined to the next by one edge. */
+/* A chain of cliques of `size` nodes, each joined to the next by one edge; a size up to NDP_MAX_NEIGHBOURS. */
 void make_cliques(Mesh *mesh, size_t nodes, size_t size);
 
-/* A path of `length` nodes, then `leaves` nodes, then `hubs` nodes that are each joined to every leaf and to the path's end. From the far end of
- * the path every leaf is a candidate for the root and none is better: many walks over all entries for each cut of the path. */
-void make_broom(Mesh *mesh, size_t length, size_t leaves, size_t hubs);
+/* A bush: `leaves` that are each joined to `degree` hubs by chance, and a tree over the hubs, from whose top `tails` hang, paths of six nodes. In a
+ * region that holds the bush every leaf is a candidate for the root and none is better, and the cut takes the last node of one tail: there are as
+ * many cuts as tails, and for each as many walks over all entries as leaves. */
+void make_bush(Mesh *mesh, size_t tails, size_t leaves, size_t degree);
 #endif

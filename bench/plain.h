@@ -5,8 +5,8 @@
 #define PLAIN_H
 #include "ndplan.h"
 
-/* From libstages.a, for the benchmark alone: checks 1 to 7 and the dissection, without the layout. Gives the number of parts, 0 where a check
- * refuses. */
+/* From libstages.a, for the benchmark alone: the checks of a mesh and the dissection, without the layout. Gives the number of parts, 0 where a
+ * check refuses. */
 size_t stage_order(size_t n, const uint32_t *starts, size_t starts_length, const uint16_t *neighbours, size_t neighbours_length);
 
 __typeof__(ndp_plan) plain_plan;

@@ -4,8 +4,8 @@
  *
  * THE MESH has n nodes, 0 to n - 1, with n from 1 to NDP_MAX_NODES. `starts` has n + 1 entries: starts[0] is 0, they never fall, and starts[n] is
  * the length of `neighbours`, at most NDP_MAX_ENTRIES. The neighbours of node v are neighbours[starts[v]] up to, not including,
- * neighbours[starts[v + 1]]. They ascend strictly and never hold v itself, and w is a neighbour of v exactly when v is one of w. A node may have no
- * neighbour.
+ * neighbours[starts[v + 1]]. They ascend strictly and never hold v itself, and w is a neighbour of v exactly when v is one of w. A node has at most
+ * NDP_MAX_NEIGHBOURS neighbours, and may have none.
  *
  * THE PLAN of n nodes, p parts and s slots stands at the front of six buffers; p is 1 to n, and s is n (n - 1) / 2 at most. Positions, rows and
  * columns are places in the order of elimination, 0 to n - 1, and not numbers of nodes.
@@ -39,8 +39,8 @@
  * buffers of its own. ndp_matrix_market needs less than 320 KB of stack, ndp_plan less than 128 KB, every other function less than 80 KB.
  *
  * REFUSALS. A reply has the number of the first check that fails, or 0; ndp_refusal_text, at the end, says what each number means. Planning checks
- * 1 to 9, reading 10 to 19, then 8 and 9, writing 13, 15 to 19, then 8, a question 1, 22, then 21, reading a text 23 to 25, 1, 3, then 8, in this
- * order. Each check covers the whole input before the next begins. */
+ * 1 to 6, 26, then 7 to 9, reading 10 to 19, then 8 and 9, writing 13, 15 to 19, then 8, a question 1, 22, then 21, reading a text 23 to 25, 1, 3,
+ * 26, then 8, in this order. Each check covers the whole input before the next begins. */
 #ifndef NDPLAN_H
 #define NDPLAN_H
 #include <stddef.h>
@@ -50,9 +50,10 @@
 extern "C" {
 #endif
 
-/* The most nodes and neighbour entries of a mesh, the most slots of a plan, and the parent of a part that has none. */
+/* The most nodes and neighbour entries of a mesh, the most neighbours of a node, the most slots of a plan, and the parent of a part that has none. */
 #define NDP_MAX_NODES 4096
 #define NDP_MAX_ENTRIES 65536
+#define NDP_MAX_NEIGHBOURS 26
 #define NDP_MAX_SLOTS 8386560
 #define NDP_NO_PARENT 65535
 
@@ -92,7 +93,8 @@ typedef struct {
 
 /* Plans a mesh of n nodes. `order`, `positions`, `sizes` and `parents` need room for n entries each, though only p of the sizes and parents are
  * written, `column_starts` for n + 1, and `rows` for as many as there are slots; n (n - 1) / 2 always suffice, and a refusal 9 does not tell how many
- * are needed. In the plan of a mesh the nodes of a part that is no part's parent are all neighbours of one another. Refuses with 1 to 9. */
+ * are needed. In the plan of a mesh the nodes of a part that is no part's parent are all neighbours of one another.
+ * Refuses with 1 to 6, 26, and 7 to 9. */
 NdpPlan ndp_plan(size_t n, const uint32_t *starts, size_t starts_length, const uint16_t *neighbours, size_t neighbours_length,
                  uint16_t *order, size_t order_length, uint16_t *positions, size_t positions_length, uint16_t *sizes, size_t sizes_length,
                  uint16_t *parents, size_t parents_length, uint32_t *column_starts, size_t column_starts_length, uint16_t *rows, size_t rows_length);
@@ -118,7 +120,7 @@ NdpRows ndp_rows(size_t n, const uint32_t *column_starts, size_t column_starts_l
 
 /* Reads the mesh of a Matrix Market text of `text_length` bytes: n + 1 entries go to the front of `starts`, as many as the reply says to the front of
  * `neighbours`. NDP_MAX_NODES + 1 and NDP_MAX_ENTRIES always suffice. The lists are those of the pairs, whatever order these came in, and what is
- * accepted here passes ndp_plan's checks 1 to 7. Refuses with 23, 24, 25, 1, 3, and 8 where either buffer is too short. */
+ * accepted here passes ndp_plan's checks 1 to 7 and 26. Refuses with 23, 24, 25, 1, 3, 26, and 8 where either buffer is too short. */
 NdpMesh ndp_matrix_market(const uint8_t *text, size_t text_length, uint32_t *starts, size_t starts_length, uint16_t *neighbours,
                           size_t neighbours_length);
 
@@ -157,6 +159,7 @@ static inline const char *ndp_refusal_text(uint32_t number) {
         /* 23 */ "the text is not of the coordinate pattern symmetric kind, a number is beyond 32 bits, or the pairs are not as many as stated",
         /* 24 */ "the matrix is not square, an index is outside it, or a row number is less than its column's",
         /* 25 */ "a pair is given again, diagonal ones too",
+        /* 26 */ "a list is longer than 26 entries",
     };
     return number < sizeof texts / sizeof *texts ? texts[number] : "unknown refusal";
 }

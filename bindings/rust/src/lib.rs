@@ -40,6 +40,8 @@ pub use refusal::{family, Family, Refusal};
 pub const MAX_NODES: usize = 4096;
 /// The most neighbour entries of a mesh.
 pub const MAX_ENTRIES: usize = 65536;
+/// The most neighbours of a node.
+pub const MAX_NEIGHBOURS: usize = 26;
 /// The most slots of a plan.
 pub const MAX_SLOTS: usize = 8386560;
 /// The parent of a part that has none.
@@ -128,7 +130,7 @@ pub enum Pair {
 }
 
 /// Plans a mesh into `buffers`. The nodes of a part that is no part's parent are then all neighbours of one another.
-/// Refuses with 1 to 9.
+/// Refuses with 1 to 6, 26, and 7 to 9.
 pub fn plan(mesh: &Mesh, buffers: &mut Buffers) -> Result<Counts, Refusal> {
     // SAFETY: each pointer and length is that of a slice; the slices written are borrowed mutably, so none overlaps another.
     let reply = unsafe {
@@ -229,7 +231,7 @@ pub fn rows<'r>(layout: &Layout<'_, 'r>, j: usize) -> Result<&'r [u16], Refusal>
     Ok(&rows[start..start + reply.count as usize])
 }
 
-/// Reads the mesh of a Matrix Market text, the whole of `text`, into `buffers`. Refuses with 23, 24, 25, 1, 3 and 8.
+/// Reads the mesh of a Matrix Market text, the whole of `text`, into `buffers`. Refuses with 23, 24, 25, 1, 3, 26 and 8.
 ///
 /// The text is of the coordinate pattern symmetric kind. Its first line is `%%MatrixMarket matrix coordinate pattern
 /// symmetric`, the five words in any letter case; lines that begin with % may follow; then come the size line (rows,

@@ -12,7 +12,7 @@ pub struct OwnedMesh {
 }
 
 impl OwnedMesh {
-    /// Reads a Matrix Market text, as [`read_matrix_market`] does. Refuses with 23, 24, 25, 1 and 3.
+    /// Reads a Matrix Market text, as [`read_matrix_market`] does. Refuses with 23, 24, 25, 1, 3 and 26.
     pub fn read_matrix_market(text: &[u8]) -> Result<OwnedMesh, Refusal> {
         let mut starts = vec![0; MAX_NODES + 1];
         // A pair takes four bytes, the last one of a text three, and gives two entries.
@@ -44,7 +44,8 @@ pub struct Plan {
 }
 
 impl Plan {
-    /// Plans a mesh. The nodes of a part that is no part's parent are all neighbours of one another. Refuses with 1 to 7.
+    /// Plans a mesh. The nodes of a part that is no part's parent are all neighbours of one another.
+    /// Refuses with 1 to 6, 26 and 7.
     pub fn of(mesh: &Mesh) -> Result<Plan, Refusal> {
         // More nodes than a mesh may have are refused, whatever the room is.
         let nodes = mesh.nodes.min(MAX_NODES);

@@ -18,6 +18,7 @@ mod damaged_writings;
 mod families;
 mod large;
 mod large_texts;
+mod list_lengths;
 mod plans;
 mod replies;
 mod settled;

@@ -1,18 +1,22 @@
 //! Damaged meshes and short buffers.
 
 use crate::calls::{self, ample_room, exact_room, longer_room, owned_expecting};
-use crate::meshes::{self, from_lists, lists_of};
+use crate::meshes::{self, from_lists, lists_of, LIMIT};
 use crate::random::Random;
 use ndplan::{Mesh, Plan};
 use plain::{MeshLists, Room};
 use std::collections::BTreeSet;
 
-/// A mesh with one damage, which the check of this number finds and no earlier one does. The mesh has an edge, and damages
-/// of later checks come before those of earlier ones.
+/// The checks of planning in their order, but 3, which asks for more entries than these meshes have.
+const CHECKS: [u32; 9] = [1, 2, 4, 5, 6, 26, 7, 8, 9];
+
+/// A mesh with one damage, which the check of this number finds and no earlier one does. The mesh has an edge, and 28 nodes
+/// or more where the check is 26; damages of later checks come before those of earlier ones.
 fn damaged(mesh: &MeshLists, check: u32, random: &mut Random) -> MeshLists {
     match check {
         1 => MeshLists { n: random.pick(&[0, 4097, 65536, 65536 + mesh.n, usize::MAX]), ..mesh.clone() },
         2 => with_bad_starts(mesh, random),
+        26 => with_long_list(mesh, random),
         _ => with_bad_list(mesh, check, random),
     }
 }
@@ -54,6 +58,28 @@ fn with_bad_list(mesh: &MeshLists, check: u32, random: &mut Random) -> MeshLists
     from_lists(&lists)
 }
 
+/// One list longer than the limit, by one entry or by as many as there are nodes. Half of the time the new entries are
+/// one-sided.
+fn with_long_list(mesh: &MeshLists, random: &mut Random) -> MeshLists {
+    let mut lists = lists_of(mesh);
+    let v = random.below(mesh.n);
+    let mut new: Vec<usize> = (0..mesh.n).filter(|w| *w != v && !lists[v].contains(&(*w as u16))).collect();
+    random.shuffle(&mut new);
+    if random.below(2) == 0 {
+        new.truncate(LIMIT + 1 - lists[v].len());
+    }
+    let mirrored = random.below(2) == 0;
+    for w in new {
+        lists[v].push(w as u16);
+        if mirrored && !lists[w].contains(&(v as u16)) {
+            lists[w].push(v as u16);
+            lists[w].sort();
+        }
+    }
+    lists[v].sort();
+    from_lists(&lists)
+}
+
 /// An exact or a longer room, in which one buffer is too short for 8 and the rows are too short for 9, where these are among the checks.
 fn room_for(checks: [u32; 2], n: usize, slots: usize, random: &mut Random) -> Room {
     let mut room = if random.below(2) == 0 { exact_room(n, slots) } else { longer_room(n, slots) };
@@ -78,24 +104,27 @@ fn room_for(checks: [u32; 2], n: usize, slots: usize, random: &mut Random) -> Ro
 fn pairs_of_damages() {
     let mut random = Random(6);
     let mut met = BTreeSet::new();
-    for round in 0..400 {
-        let whole = meshes::side_by_side(&[meshes::any(1 + round / 10, &mut random), meshes::path(2)]);
+    for round in 0..800 {
+        let beside = meshes::path(if round % 2 == 0 { 2 } else { LIMIT + 2 });
+        let whole = meshes::side_by_side(&[meshes::any(1 + round / 20, &mut random), beside]);
         let slots = calls::plan(&whole, &ample_room(whole.n)).unwrap().rows.len();
-        for (first, second) in (1..=9).flat_map(|k| (0..k).map(move |earlier| (earlier, k))) {
-            if first == 3 || second == 3 {
-                continue;
+        for (at, second) in CHECKS.into_iter().enumerate() {
+            for first in CHECKS[..at].iter().copied().chain([0]) {
+                if [first, second].contains(&26) && whole.n < LIMIT + 2 {
+                    continue;
+                }
+                let mut mesh = whole.clone();
+                for check in [second, first].into_iter().filter(|check| ![0, 8, 9].contains(check)) {
+                    mesh = damaged(&mesh, check, &mut random);
+                }
+                let answer = calls::plan(&mesh, &room_for([first, second], whole.n, slots, &mut random));
+                let expected = if first == 0 { second } else { first };
+                assert_eq!(answer.err(), Some(expected), "damages {first} and {second}: {mesh:?}");
+                met.insert((first, second));
             }
-            let mut mesh = whole.clone();
-            for check in [second, first].into_iter().filter(|check| (1..=7).contains(check)) {
-                mesh = damaged(&mesh, check, &mut random);
-            }
-            let answer = calls::plan(&mesh, &room_for([first, second], whole.n, slots, &mut random));
-            let expected = if first == 0 { second } else { first };
-            assert_eq!(answer.err(), Some(expected), "damages {first} and {second}: {mesh:?}");
-            met.insert(expected);
         }
     }
-    assert_eq!(met, BTreeSet::from([1, 2, 4, 5, 6, 7, 8, 9]));
+    assert_eq!(met.len(), 9 * 10 / 2, "{met:?}");
 }
 
 /// More than 65,536 entries: 3, whatever else is wrong with the lists; 2 and 1 come before it.

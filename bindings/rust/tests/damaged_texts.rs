@@ -1,6 +1,6 @@
 //! Matrix Market texts of generated meshes, in any spelling, whole and damaged: bytes, lengths, numbers and pairs.
 
-use crate::meshes;
+use crate::meshes::{self, LIMIT};
 use crate::random::Random;
 use crate::texts::{self, read_expecting, Matrix, Room, AMPLE};
 use plain::MeshLists;
@@ -36,7 +36,7 @@ fn small_texts(count: usize, size: usize, random: &mut Random) -> Vec<(Vec<u8>, 
 #[test]
 fn whole_texts() {
     let mut random = Random(20);
-    for (count, size) in [(2000, 12), (400, 100), (40, 900)] {
+    for (count, size) in [(2600, 12), (520, 100), (52, 900)] {
         for _ in 0..count {
             let mesh = meshes::any(size, &mut random);
             let (text, (starts, neighbours)) = (some_matrix(&mesh, &mut random).spelt(&mut random), room_of(&mesh));
@@ -123,8 +123,8 @@ fn lines() {
     assert!(met.is_superset(&BTreeSet::from([None, Some(23)])), "{met:?}");
 }
 
-/// A matrix with one damage, which the check of this number finds and no earlier one does. The matrix has a pair, and
-/// damages of later checks come before those of earlier ones.
+/// A matrix with one damage, which the check of this number finds and no earlier one does. The matrix has a pair, and 28
+/// rows or more where the check is 26; damages of later checks come before those of earlier ones.
 fn damaged(matrix: &Matrix, check: u32, random: &mut Random) -> Matrix {
     let mut matrix = matrix.clone();
     let (n, at) = (matrix.rows, random.below(matrix.pairs.len()));
@@ -151,24 +151,44 @@ fn damaged(matrix: &Matrix, check: u32, random: &mut Random) -> Matrix {
             matrix.pairs.insert(place, matrix.pairs[at]);
             matrix.stated += 1;
         }
+        26 => lengthen_list(&mut matrix, random),
         _ => unreachable!("no damage for check {check}"),
     }
     matrix
+}
+
+/// Joins a node to others, so that its list gets longer than the limit, by one entry or by more.
+fn lengthen_list(matrix: &mut Matrix, random: &mut Random) {
+    let n = matrix.rows as usize;
+    let v = 1 + random.below(n) as u64;
+    let mut new: Vec<_> = (1..=n as u64).filter(|w| *w != v).map(|w| (v.max(w), v.min(w))).collect();
+    new.retain(|pair| !matrix.pairs.contains(pair));
+    random.shuffle(&mut new);
+    let length = n - 1 - new.len();
+    new.truncate(LIMIT + 1 - length + random.pick(&[0, 0, 1, n]));
+    matrix.pairs.extend(new);
+    matrix.stated = matrix.pairs.len() as u64;
+    random.shuffle(&mut matrix.pairs);
 }
 
 /// Each damage by itself and each pair: the earlier check answers.
 #[test]
 fn pairs_of_damages() {
     let mut random = Random(25);
-    let checks = [23, 24, 25, 1, 8];
-    for round in 0..600 {
-        let mesh = meshes::side_by_side(&[meshes::any(1 + round / 10, &mut random), meshes::path(2)]);
+    let checks = [23, 24, 25, 1, 26, 8];
+    let mut met = BTreeSet::new();
+    for round in 0..1200 {
+        let beside = meshes::path(if round % 2 == 0 { 2 } else { LIMIT + 2 });
+        let mesh = meshes::side_by_side(&[meshes::any(1 + round / 20, &mut random), beside]);
         let whole = some_matrix(&mesh, &mut random);
-        for (first, second) in (0..5).flat_map(|first| (first..5).map(move |second| (first, second))) {
+        for (first, second) in (0..6).flat_map(|first| (first..6).map(move |second| (first, second))) {
             let mut matrix = whole.clone();
             let mut damages = vec![checks[second]];
             if first < second {
                 damages.push(checks[first]);
+            }
+            if damages.contains(&26) && mesh.n < LIMIT + 2 {
+                continue;
             }
             for check in damages.iter().filter(|check| **check != 8) {
                 matrix = damaged(&matrix, *check, &mut random);
@@ -176,11 +196,13 @@ fn pairs_of_damages() {
             let (starts, neighbours) = room_of(&mesh);
             let room = match damages.contains(&8) {
                 true => random.pick(&[(starts - 1, neighbours), (starts, neighbours - 1), (0, 0)]),
-                false => (starts, neighbours),
+                false => random.pick(&[(starts, neighbours), (starts, neighbours + 2 * starts), AMPLE]),
             };
             read_expecting(&matrix.spelt(&mut random), room, &Err(checks[first]));
+            met.insert((first, second));
         }
     }
+    assert_eq!(met.len(), 6 * 7 / 2, "{met:?}");
 }
 
 /// Numbers drawn at random: pairs within and without the matrix, on either side of the diagonal, once or again.

@@ -13,9 +13,10 @@ fn families() {
         assert_eq!(ndplan::family(number), named);
         assert_eq!(Refusal(number).family(), named);
     }
-    let ends = [0, 1, 9, 10, 19, 20, 21, 22, 23].map(ndplan::family);
+    let ends = [0, 1, 9, 10, 19, 20, 21, 22, 23, 26].map(ndplan::family);
     let (mesh, file, question) = (Family::Mesh, Family::File, Family::Question);
-    assert_eq!(ends, [Family::None, mesh, mesh, file, file, Family::Program, question, question, Family::None]);
+    let (program, none) = (Family::Program, Family::None);
+    assert_eq!(ends, [none, mesh, mesh, file, file, program, question, question, none, none]);
 }
 
 #[test]
@@ -30,13 +31,14 @@ fn texts() {
     for number in (0..=40).chain([65536 + 7, u32::MAX]) {
         assert_eq!(Refusal(number).text(), plain::header_text(number), "text of {number}");
     }
-    let ends = [0, 1, 25, 26].map(|number| Refusal(number).text() == "unknown refusal");
+    let ends = [0, 1, 26, 27].map(|number| Refusal(number).text() == "unknown refusal");
     assert_eq!(ends, [false, false, false, true]);
 }
 
-/// The limits are those of document 01.
+/// The limits are those of documents 01 and 02.
 #[test]
 fn limits() {
     assert_eq!((ndplan::MAX_NODES, ndplan::MAX_ENTRIES), (4096, 65536));
+    assert_eq!(ndplan::MAX_NEIGHBOURS, 26);
     assert_eq!((ndplan::MAX_SLOTS, ndplan::NO_PARENT), (4096 * 4095 / 2, 65535));
 }

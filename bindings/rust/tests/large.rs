@@ -20,7 +20,7 @@ fn meshes_of_4096_nodes() {
         meshes::shuffled(&meshes::grid(64, 64, false), &mut random),
         meshes::grid(64, 64, true),
         meshes::shuffled(&meshes::tree(4096, 4096, &mut random), &mut random),
-        meshes::star(4096),
+        meshes::full_tree(4096),
     ];
     for mesh in &meshes {
         let planned = compare(mesh);
@@ -43,14 +43,14 @@ fn many_components() {
 #[test]
 fn entries_at_the_limit() {
     let mut random = Random(5);
-    let mut edges = meshes::edges_of(&meshes::random_graph(1500, 40000, &mut random));
+    let mut edges = meshes::edges_of(&meshes::random_graph(2600, 100_000, &mut random));
     random.shuffle(&mut edges);
     edges.truncate(32769);
-    let above = meshes::from_edges(1500, &edges);
+    let above = meshes::from_edges(2600, &edges);
     assert_eq!(above.neighbours.len(), 65538);
-    assert_eq!(calls::plan(&above, &ample_room(1500)), Err(3));
+    assert_eq!(calls::plan(&above, &ample_room(2600)), Err(3));
     edges.pop();
-    let most = meshes::from_edges(1500, &edges);
+    let most = meshes::from_edges(2600, &edges);
     assert_eq!(most.neighbours.len(), 65536);
     let planned = compare(&most);
     assert!(planned.rows.len() > 500_000);

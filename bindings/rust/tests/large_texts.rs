@@ -44,7 +44,7 @@ fn compare(mesh: &MeshLists, random: &mut Random) {
 fn meshes_of_4096_nodes() {
     let mut random = Random(30);
     compare(&meshes::shuffled(&meshes::grid(64, 64, true), &mut random), &mut random);
-    compare(&meshes::star(4096), &mut random);
+    compare(&meshes::full_tree(4096), &mut random);
     compare(&meshes::path(4096), &mut random);
 }
 

@@ -4,6 +4,9 @@ use crate::random::Random;
 use plain::MeshLists;
 use std::collections::BTreeSet;
 
+/// The most entries of a list.
+pub const LIMIT: usize = 26;
+
 /// The mesh with these lists, whether or not they are in order.
 pub fn from_lists(lists: &[Vec<u16>]) -> MeshLists {
     let mut starts = vec![0];
@@ -42,6 +45,16 @@ pub fn ring(n: usize) -> MeshLists {
 
 pub fn star(n: usize) -> MeshLists {
     from_edges(n, &(1..n).map(|v| (0, v)).collect::<Vec<_>>())
+}
+
+/// Every node that has nodes hanging on it has as many as the limit allows, but the last one may have fewer.
+pub fn full_tree(n: usize) -> MeshLists {
+    from_edges(n, &(1..n).map(|v| (v.saturating_sub(2) / (LIMIT - 1), v)).collect::<Vec<_>>())
+}
+
+/// A ring in which each node is next to the `reach` nodes before it and behind it.
+pub fn wide_ring(n: usize, reach: usize) -> MeshLists {
+    from_edges(n, &(0..n).flat_map(|v| (1..=reach).map(move |far| (v, (v + far) % n))).collect::<Vec<_>>())
 }
 
 pub fn clique(n: usize) -> MeshLists {
@@ -88,11 +101,20 @@ pub fn plate_with_holes(width: usize, height: usize, holes: usize, random: &mut 
     kept(&grid(width, height, true), &keep)
 }
 
+/// Pairs of nodes drawn at random, without those that would give a list more entries than the limit.
 pub fn random_graph(n: usize, pairs: usize, random: &mut Random) -> MeshLists {
-    from_edges(n, &(0..pairs).map(|_| (random.below(n), random.below(n))).collect::<Vec<_>>())
+    let (mut edges, mut lengths) = (BTreeSet::new(), vec![0; n]);
+    for _ in 0..pairs {
+        let (v, w) = (random.below(n), random.below(n));
+        if v != w && lengths[v] < LIMIT && lengths[w] < LIMIT && edges.insert((v.min(w), v.max(w))) {
+            lengths[v] += 1;
+            lengths[w] += 1;
+        }
+    }
+    from_edges(n, &edges.into_iter().collect::<Vec<_>>())
 }
 
-/// `hubs` nodes joined to each of `leaves` nodes and to the end of a path.
+/// `hubs` nodes joined to each of `leaves` nodes and to the end of a path. At most 25 of both are within the limit.
 pub fn broom(length: usize, leaves: usize, hubs: usize) -> MeshLists {
     let mut edges: Vec<_> = (1..length).map(|v| (v - 1, v)).collect();
     for hub in length..length + hubs {
@@ -100,6 +122,22 @@ pub fn broom(length: usize, leaves: usize, hubs: usize) -> MeshLists {
         edges.extend((length + hubs..length + hubs + leaves).map(|leaf| (hub, leaf)));
     }
     from_edges(length + hubs + leaves, &edges)
+}
+
+/// A path, a tree from its end to as many hubs as needed, and leaves that are each joined to `degree` hubs drawn at random, or
+/// to fewer where one is drawn again. At most 625 hubs are within the limit.
+pub fn bush(length: usize, leaves: usize, degree: usize, random: &mut Random) -> MeshLists {
+    let most = LIMIT - 1;
+    let hubs = (leaves * degree).div_ceil(most);
+    let (first_hub, end) = (length + hubs.div_ceil(most), length - 1);
+    let mut edges: Vec<_> = (0..end).map(|v| (v, v + 1)).collect();
+    edges.extend((length..first_hub).map(|v| (end, v)));
+    edges.extend((0..hubs).map(|hub| (length + hub / most, first_hub + hub)));
+    let mut joined: Vec<usize> = (0..leaves * degree).map(|k| first_hub + k % hubs).collect();
+    random.shuffle(&mut joined);
+    let first_leaf = first_hub + hubs;
+    edges.extend(joined.into_iter().enumerate().map(|(k, hub)| (hub, first_leaf + k / degree)));
+    from_edges(first_leaf + leaves, &edges)
 }
 
 /// The meshes side by side.
@@ -119,22 +157,25 @@ pub fn shuffled(mesh: &MeshLists, random: &mut Random) -> MeshLists {
     from_edges(mesh.n, &edges_of(mesh).iter().map(|(v, w)| (number[*v], number[*w])).collect::<Vec<_>>())
 }
 
-/// A mesh of one of the kinds above, of at most about `size` nodes, half of the time with its nodes shuffled.
+/// A mesh of one of the kinds above within the limit, of at most about `size` nodes, half of the time with its nodes shuffled.
 pub fn any(size: usize, random: &mut Random) -> MeshLists {
     let n = 1 + random.below(size);
     let width = 1 + random.below((n as f64).sqrt() as usize + 1);
     let height = (n / width).max(1);
-    let mesh = match random.below(11) {
+    let mesh = match random.below(14) {
         0 => path(n),
         1 => ring(n),
-        2 => star(n),
-        3 => clique(n.min(60)),
+        2 => star(n.min(LIMIT + 1)),
+        3 => clique(n.min(LIMIT + 1)),
         4 => tree(n, n, random),
         5 => tree(n, 4, random),
         6 => grid(width, height, random.below(2) == 0),
         7 => plate_with_holes(width, height, 3, random),
         8 => random_graph(n, n * (1 + random.below(4)), random),
-        9 => broom(1 + n / 2, n / 3, 1 + random.below(3)),
+        9 => broom(1 + n / 2, (n / 3).min(LIMIT - 1), 1 + random.below(3)),
+        10 => full_tree(n),
+        11 => random_graph(n, n * (4 + random.below(20)), random),
+        12 => bush(1 + n / 4, n / 3 + 1, 1 + random.below(4), random),
         _ => side_by_side(&[
             path(n / 3 + 1),
             grid(width, (height / 3).max(1), true),

@@ -113,7 +113,7 @@ fn all_small_meshes() {
 #[test]
 fn generated_meshes() {
     let mut random = Random(2);
-    for (count, size) in [(6000, 24), (1000, 120), (200, 400), (60, 900)] {
+    for (count, size) in [(8000, 24), (1300, 120), (260, 400), (80, 900)] {
         for _ in 0..count {
             let mesh = meshes::any(size, &mut random);
             compare_all(&mesh, &mut random);
@@ -128,19 +128,23 @@ fn each_kind_of_mesh() {
     let kinds = [
         meshes::path(900),
         meshes::ring(899),
-        meshes::star(900),
-        meshes::clique(200),
+        meshes::star(27),
+        meshes::clique(27),
+        meshes::full_tree(900),
+        meshes::wide_ring(200, 13),
         meshes::tree(900, 900, &mut random),
         meshes::tree(900, 3, &mut random),
         meshes::grid(30, 30, false),
         meshes::grid(15, 60, true),
         meshes::plate_with_holes(32, 32, 6, &mut random),
         meshes::random_graph(700, 2100, &mut random),
-        meshes::broom(60, 300, 5),
+        meshes::random_graph(700, 20000, &mut random),
+        meshes::broom(60, 25, 25),
+        meshes::bush(60, 300, 5, &mut random),
         meshes::side_by_side(&[
             meshes::grid(14, 14, true),
             meshes::path(200),
-            meshes::star(90),
+            meshes::star(25),
             meshes::from_edges(40, &[]),
         ]),
     ];

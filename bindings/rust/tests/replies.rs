@@ -89,17 +89,17 @@ fn shown_rows_outlive_the_question() {
 /// The columns and pairs of an owned plan.
 #[test]
 fn owned_plans_answer_questions() {
-    let starts: Vec<u32> = (0..=40u32).map(|v| v * 39).collect();
-    let neighbours: Vec<u16> = (0..40).flat_map(|v| (0..40).filter(move |w| *w != v)).collect();
-    let plan = Plan::of(&ndplan::Mesh { nodes: 40, starts: &starts, neighbours: &neighbours }).unwrap();
+    let starts: Vec<u32> = (0..=27u32).map(|v| v * 26).collect();
+    let neighbours: Vec<u16> = (0..27).flat_map(|v| (0..27).filter(move |w| *w != v)).collect();
+    let plan = Plan::of(&ndplan::Mesh { nodes: 27, starts: &starts, neighbours: &neighbours }).unwrap();
     assert_eq!(
         (plan.rows().len(), plan.counts().file_length(), plan.write().map_or(0, |file| file.len())),
-        (780, 17 + 164 + 1560, 1741)
+        (351, 17 + 112 + 702, 831)
     );
-    for j in 0..40 {
-        assert_eq!(plan.column(j).unwrap(), (j as u16 + 1..40).collect::<Vec<_>>());
+    for j in 0..27 {
+        assert_eq!(plan.column(j).unwrap(), (j as u16 + 1..27).collect::<Vec<_>>());
         assert_eq!(plan.slot(j, j), Ok(ndplan::Pair::Diagonal));
     }
-    assert_eq!((plan.slot(39, 38), plan.slot(0, 1)), (Ok(ndplan::Pair::Slot(779)), Ok(ndplan::Pair::Slot(0))));
-    assert_eq!((plan.slot(40, 0), plan.column(40)), (Err(Refusal(21)), Err(Refusal(21))));
+    assert_eq!((plan.slot(26, 25), plan.slot(0, 1)), (Ok(ndplan::Pair::Slot(350)), Ok(ndplan::Pair::Slot(0))));
+    assert_eq!((plan.slot(27, 0), plan.column(27)), (Err(Refusal(21)), Err(Refusal(21))));
 }
