@@ -25,6 +25,12 @@ Mesh mesh_of_edges(size_t nodes, const char *edges) {
     return finish(nodes);
 }
 
+Mesh mesh_of_star(size_t leaves) {
+    memset(joined, 0, sizeof joined);
+    for (size_t w = 1; w <= leaves; w++) join(0, w);
+    return finish(leaves + 1);
+}
+
 Mesh mesh_of_plate(size_t width, size_t height) {
     memset(joined, 0, sizeof joined);
     for (size_t v = 0; v < width * height; v++) {

@@ -29,6 +29,9 @@ typedef struct {
 /* The mesh with these edges, each two digits, with a space between edges. It holds until the next mesh is made. */
 Mesh mesh_of_edges(size_t nodes, const char *edges);
 
+/* A star: node 0 next to so many leaves. It holds until the next mesh is made. */
+Mesh mesh_of_star(size_t leaves);
+
 /* A plate of so many nodes, row by row, in which each node is joined to the nodes beside, above and below it and along one diagonal. It holds until
  * the next mesh is made. */
 Mesh mesh_of_plate(size_t width, size_t height);

@@ -287,9 +287,55 @@ static void telling_questions(void) {
 /* Numbers at both ends of each family, and just outside. */
 static void families(void) {
     static const char *const names[] = {"none", "mesh", "file", "program", "question"};
-    static const uint32_t numbers[] = {0, 1, 9, 10, 19, 20, 21, 22, 23};
+    static const uint32_t numbers[] = {0, 1, 9, 10, 19, 20, 21, 22, 23, 26};
     printf("case 91\n");
     for (size_t k = 0; k < sizeof numbers / sizeof *numbers; k++) printf("%u %s\n", numbers[k], names[plain_family(numbers[k])]);
+}
+
+/* ---- lists of 26 entries, the most that a node may have, and of 27 */
+
+static void plan_star(int title, size_t leaves, size_t length, size_t slots) {
+    Mesh mesh = mesh_of_star(leaves);
+    plan_lists(title, mesh.nodes, mesh.starts, mesh.neighbours, length, slots);
+}
+
+/* 28 nodes of which the first has a list, and no other, planned into buffers that are too short. */
+static void plan_first(int title, const uint16_t *list, uint32_t length) {
+    uint32_t starts[29] = {0};
+    for (size_t v = 1; v < 29; v++) starts[v] = length;
+    plan_lists(title, 28, (List32){starts, 29}, (List16){list, length}, 2, 1);
+}
+
+/* 29 nodes of which the last has a list, and no other, planned likewise. */
+static void plan_last(int title, const uint16_t *list, uint32_t length) {
+    uint32_t starts[30] = {[29] = length};
+    plan_lists(title, 29, (List32){starts, 30}, (List16){list, length}, 2, 1);
+}
+
+/* The list of a star's centre, and others that begin like it, as the first node's alone and as the last's: 26 comes after 4, 5 and 6, before 7, and
+ * all of them before 8. */
+static void lists_alone(void) {
+    uint16_t ascending[27], skipping[27], swapped[27];
+    for (uint16_t k = 0; k < 27; k++) ascending[k] = skipping[k] = swapped[k] = k + 1;
+    skipping[26] = 28;
+    swapped[0] = 2;
+    swapped[1] = 1;
+    plan_first(103, skipping, 27);
+    plan_first(104, swapped, 27);
+    plan_first(105, ascending, 27);
+    plan_first(106, ascending, 26);
+    plan_last(107, skipping, 27);
+    plan_last(108, ascending, 27);
+    plan_last(109, ascending, 26);
+}
+
+static void long_lists(void) {
+    plan_star(101, 26, 28, 28);
+    plan_star(102, 27, 29, 28);
+    lists_alone();
+    plan_star(110, 27, 2, 0);
+    plan_star(111, 26, 2, 0);
+    plan_star(112, 26, 27, 25);
 }
 
 int main(void) {
@@ -301,5 +347,6 @@ int main(void) {
     answered_questions();
     telling_questions();
     families();
+    long_lists();
     return 0;
 }

@@ -48,7 +48,8 @@ static void add_refused(void) {
     add(2, LIST32(0, 2, 2), LIST16(5, 0));                               /* 4 */
     add(2, LIST32(0, 1, 1), LIST16(0));                                  /* 5 */
     add(3, LIST32(0, 2, 3, 4), LIST16(2, 1, 0, 0));                      /* 6 */
-    add(3, LIST32(0, 0, 0, MOST_ENTRIES), (List16){zeros, MOST_ENTRIES}); /* 6: so many entries are within the limit */
+    add(3, LIST32(0, 0, 0, MOST_ENTRIES), (List16){zeros, MOST_ENTRIES}); /* 6, before 26: so many entries are no 20 */
+    add_mesh(mesh_of_star(27));                                          /* 26 */
     add(2, LIST32(0, 1, 1), LIST16(1));                                  /* 7 */
 }
 
@@ -70,6 +71,7 @@ static void add_accepted(void) {
     add_mesh(mesh_of_edges(2, ""));
     add_mesh(mesh_of_edges(4, "01 12 23 03"));
     add_mesh(mesh_of_edges(4, "01 02 03"));
+    add_mesh(mesh_of_star(26));
     add_mesh(mesh_of_plate(16, 16));
 }
 

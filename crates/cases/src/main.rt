@@ -3,6 +3,7 @@
 // that what stands behind the entries used is seen too.
 // Cost: a fixed run; every function is linear in what it is lent, or plans or reads it once.
 mod files;
+mod long_lists;
 mod questions;
 mod show;
 
@@ -26,11 +27,11 @@ fn plan_lent(
     columns: usize,
     slots: usize,
 ) {
-    let mut order = [60000u16; 16];
-    let mut positions = [60000u16; 16];
-    let mut sizes = [60000u16; 16];
-    let mut parents = [60000u16; 16];
-    let mut columnStarts = [60000u32; 16];
+    let mut order = [60000u16; 32];
+    let mut positions = [60000u16; 32];
+    let mut sizes = [60000u16; 32];
+    let mut parents = [60000u16; 32];
+    let mut columnStarts = [60000u32; 32];
     let mut rows = [60000u16; 32];
     let answer = planner::plan(
         n,
@@ -73,7 +74,14 @@ fn plan_edges(title: u8, n: u8, edges: &[u8], slots: usize) {
 }
 
 // Any lists of n nodes, planned into buffers of this length, one more for the columns, and rows of their length.
-fn plan_lists(title: u8, n: usize, starts: &[u32], neighbours: &[u16], length: u8, slots: usize) {
+pub(crate) fn plan_lists(
+    title: u8,
+    n: usize,
+    starts: &[u32],
+    neighbours: &[u16],
+    length: u8,
+    slots: usize,
+) {
     print_title(title);
     let size = length as usize;
     plan_lent(n, starts, neighbours, size, size + 1, slots);
@@ -194,6 +202,7 @@ fn families() {
     print_family(21);
     print_family(22);
     print_family(23);
+    print_family(26);
 }
 
 fn main() {
@@ -204,4 +213,5 @@ fn main() {
     files::all();
     questions::all();
     families();
+    long_lists::all();
 }

@@ -7,9 +7,10 @@ use meshes::print_difference;
 use meshes::print_number;
 use meshes::print_place;
 
+// `refused` has a count for each number; planning refuses by 1 to 9 and 26.
 pub(crate) struct Counts {
     planned: usize,
-    refused: [usize; 10],
+    refused: [usize; 27],
     not_cliques: usize,
     different: usize,
 }
@@ -17,7 +18,7 @@ pub(crate) struct Counts {
 pub(crate) fn none() -> Counts {
     Counts {
         planned: 0,
-        refused: [0; 10],
+        refused: [0; 27],
         not_cliques: 0,
         different: 0,
     }
@@ -59,7 +60,7 @@ pub(crate) fn counted(
     let number = o.refusal as usize;
     if number == 0 {
         d.planned = more(d.planned);
-    } else if number < 10 {
+    } else if number < 27 {
         d.refused[number] = more(d.refused[number]);
     }
     d
@@ -71,7 +72,7 @@ fn print_planned(c: Counts) {
 }
 
 fn print_refused(c: Counts, number: usize) {
-    if number < 10 {
+    if number < 27 {
         io::write_all(STDOUT_FILENO, b"refused ");
         io::print_decimal(STDOUT_FILENO, number as u64);
         io::write_all(STDOUT_FILENO, b": ");
@@ -94,6 +95,7 @@ pub(crate) fn print(c: Counts) {
     for number in 1..10usize {
         print_refused(c, number);
     }
+    print_refused(c, 26);
     print_not_cliques(c);
     print_different(c);
 }

@@ -35,7 +35,7 @@ fn drawn(c: Counts, seed: u64) -> Counts {
 
 fn all_drawn(c: Counts) -> Counts {
     let mut d = c;
-    for seed in 0..1500u64 {
+    for seed in 0..1800u64 {
         d = drawn(d, seed);
     }
     d

@@ -16,8 +16,10 @@ pub(crate) const COLUMN: usize = 3;
 
 const ROUND_TRIP: usize = 4;
 
-// The subjects, by the number of their first: the meshes that `main` gives by their edges, in turn; meshes that a seed draws; lists to be
-// written, and layouts, that a seed draws.
+const PLAN: usize = 5;
+
+// The subjects, by the number of their first: the meshes that `main` gives by their edges and the plans with every slot, in turn; meshes that a seed
+// draws; lists to be written, and layouts, that a seed draws.
 pub(crate) const GIVEN: usize = 0;
 
 pub(crate) const DRAWN_MESHES: usize = 1000;
@@ -31,6 +33,7 @@ pub(crate) const DRAWN_LAYOUTS: usize = 6000;
 pub(crate) struct Counts {
     met: [usize; 92],
     too_large: usize,
+    meshes_refused: usize,
     round_trips: usize,
     different: usize,
     subject: usize,
@@ -41,6 +44,7 @@ pub(crate) fn none() -> Counts {
     Counts {
         met: [0; 92],
         too_large: 0,
+        meshes_refused: 0,
         round_trips: 0,
         different: 0,
         subject: 0,
@@ -74,6 +78,12 @@ pub(crate) fn returned(mut c: Counts, same: bool) -> Counts {
     compared(c, ROUND_TRIP, same)
 }
 
+// One more drawn mesh that planning refuses, as it should for 26 alone: such a mesh has no other fault.
+pub(crate) fn refused(mut c: Counts, refusal: u32) -> Counts {
+    c.meshes_refused = more(c.meshes_refused);
+    compared(c, PLAN, refusal == 26)
+}
+
 // One more answer of an operation. Where the naive code has none (too large), nothing is compared.
 pub(crate) fn counted(mut c: Counts, operation: usize, refusal: u32, same: bool) -> Counts {
     if refusal == TOO_LARGE {
@@ -99,8 +109,10 @@ fn print_name(operation: usize) {
         io::write_all(STDOUT_FILENO, b"pair ");
     } else if operation == COLUMN {
         io::write_all(STDOUT_FILENO, b"column ");
-    } else {
+    } else if operation == ROUND_TRIP {
         io::write_all(STDOUT_FILENO, b"round trip ");
+    } else {
+        io::write_all(STDOUT_FILENO, b"plan ");
     }
 }
 
@@ -137,6 +149,8 @@ pub(crate) fn print(c: Counts) {
     }
     io::write_all(STDOUT_FILENO, b"too large to compare ");
     print_number(c.too_large);
+    io::write_all(STDOUT_FILENO, b"meshes refused ");
+    print_number(c.meshes_refused);
     io::write_all(STDOUT_FILENO, b"round trips ");
     print_number(c.round_trips);
     io::write_all(STDOUT_FILENO, b"different ");

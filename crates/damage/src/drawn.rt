@@ -1,4 +1,4 @@
-// Drafts of at most eight nodes that a seed draws, with parts, parents and slots that no planner has chosen.
+// Drafts with parts, parents and slots that no planner has chosen: of at most eight nodes that a seed draws, and with every slot.
 use crate::cells::cell;
 use crate::cells::put_cell;
 use crate::cells::with_cells;
@@ -149,6 +149,33 @@ fn empty(n: usize) -> Draft {
         rows: [meshes::STALE_ROWS; 2100],
         lengths: [80, 80, 80, 80, 2100, 4561],
     }
+}
+
+// The nodes in their order, in one part.
+fn in_one_part(d: Draft) -> Draft {
+    let mut e = d;
+    for i in 0..64usize {
+        if i < d.n {
+            e.order[i] = (i % 64) as u16;
+        }
+    }
+    e.p = 1;
+    e.sizes[0] = (d.n % 65536) as u16;
+    e.parents[0] = 65535;
+    e
+}
+
+// A draft of n nodes, at most 64, in one part with every slot.
+pub(crate) fn full_draft(n: u8) -> Draft {
+    let mut cells = [0u8; 4096];
+    for k in 0..4096usize {
+        let j = k / 64;
+        let i = k % 64;
+        if j < i && i < n as usize {
+            put_cell(&mut cells, j, i, 1);
+        }
+    }
+    with_cells(in_one_part(empty(n as usize)), &cells)
 }
 
 pub(crate) fn drawn_draft(seed: u64) -> Draft {

@@ -138,6 +138,11 @@ fn every_length(c: Counts, d: Draft, which: usize) -> Counts {
     e
 }
 
+// A layout as it is.
+pub(crate) fn every_pair(c: Counts, d: Draft) -> Counts {
+    ask_draft(c, as_layout(d), d.n)
+}
+
 // A layout as it is; with each border in each column start, each row and n; and with other lengths.
 pub(crate) fn every_question(c: Counts, d: Draft) -> Counts {
     let s = as_layout(d);

@@ -18,6 +18,7 @@ use crate::counts::GIVEN;
 use crate::counts::begun;
 use crate::counts::none;
 use crate::counts::print;
+use crate::counts::refused;
 use crate::counts::returned;
 use crate::draft::Draft;
 use crate::draft::Wrote;
@@ -27,6 +28,7 @@ use crate::draft::file_of;
 use crate::draft::same_bytes;
 use crate::draft::try_writing;
 use crate::draft::write;
+use crate::drawn::full_draft;
 use crate::file::File;
 use crate::files::try_file;
 use crate::held::planned;
@@ -113,23 +115,38 @@ fn all_middling(c: Counts) -> Counts {
     middling(regions, 11, grid)
 }
 
-// A mesh of at most 64 nodes that the seed draws.
+// A plan of one part with every slot. That of more than 27 nodes is no mesh's, and is written, read and asked about all the same.
+fn full(c: Counts, number: u64, n: u8) -> Counts {
+    let d = full_draft(n);
+    let f = encoded(d);
+    let e = try_file(try_writing(begun(c, GIVEN, number), d), f);
+    layouts::every_pair(files::drawn_pairs(e, f, 3000, 100), d)
+}
+
+fn all_full(c: Counts) -> Counts {
+    full(full(full(c, 12, 27), 13, 28), 14, 64)
+}
+
+// A mesh of at most 64 nodes that the seed draws. One with a list that is too long has no plan.
 fn drawn_mesh(c: Counts, seed: u64) -> Counts {
+    let d = begun(c, DRAWN_MESHES, seed);
     let h = planned(meshes::drawn(seed));
+    if h.refusal != 0 {
+        return refused(d, h.refusal);
+    }
     let f = encoded(draft_of(h));
-    let d = round_trip(begun(c, DRAWN_MESHES, seed), h);
-    files::drawn_pairs(d, f, seed % 65536 * 16, 16)
+    files::drawn_pairs(round_trip(d, h), f, seed % 65536 * 16, 16)
 }
 
 fn all_drawn(c: Counts) -> Counts {
     let mut d = c;
-    for seed in 0..200u64 {
+    for seed in 0..250u64 {
         d = drawn_mesh(d, seed);
     }
     d
 }
 
 fn main() {
-    let c = all_drawn(all_middling(all_small(none())));
+    let c = all_drawn(all_full(all_middling(all_small(none()))));
     print(layouts::all_drawn(drafts::all_drawn(c)));
 }

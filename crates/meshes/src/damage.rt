@@ -8,6 +8,7 @@ use crate::lent::with_start;
 use crate::numbers::less;
 use crate::numbers::more;
 use crate::random::draw;
+use crate::relisted::relisted;
 use plan::Plan;
 
 // A wrong number of nodes, of starts or of entries, or a wrong start.
@@ -105,6 +106,29 @@ fn damage_entry(c: Case, what: usize, seed: u64) -> Case {
     }
 }
 
+// How much more n is than `count`, or 0.
+fn beyond(n: usize, count: usize) -> usize {
+    if n < count {
+        return 0;
+    }
+    n - count
+}
+
+// A node with a list of other nodes, of about as many entries as are allowed; for some draws one of them is wrong too.
+fn damage_list(c: Case, what: usize, seed: u64) -> Case {
+    let v = draw(seed, 8, 5, c.n);
+    let count = Plan::NEIGHBOURS - 1 + draw(seed, 9, 5, 4) % 4;
+    let first = draw(seed, 10, 5, beyond(c.n, count));
+    let d = relisted(c, v, first, count);
+    let e = start(d, v) % 4096 + draw(seed, 11, 5, count) % 64;
+    match what {
+        0 => with_entry(d, e, d.n),
+        1 => with_entry(d, e, v),
+        2 => swapped(d, e),
+        _ => d,
+    }
+}
+
 // A result of another length.
 fn damage_lengths(l: Lengths, n: usize, what: usize) -> Lengths {
     let mut d = l;
@@ -127,8 +151,11 @@ fn damage_results(c: Case, what: usize) -> Case {
     d
 }
 
-// A case with one damage, which the seed draws.
+// A case with one damage, which the seed draws. A list that is too long needs nodes enough for its entries.
 pub fn damaged(c: Case, seed: u64) -> Case {
+    if Plan::NEIGHBOURS < c.n && draw(seed, 12, 5, 4) == 0 {
+        return damage_list(c, draw(seed, 13, 5, 8), seed);
+    }
     match draw(seed, 4, 5, 3) {
         0 => damage_starts(c, draw(seed, 5, 5, 10), seed),
         1 => damage_entry(c, draw(seed, 6, 5, 7), seed),

@@ -1,6 +1,7 @@
 // Graphs of at most 64 nodes as dense matrices, and the neighbour lists that are lent for them.
 use crate::lent::Case;
 use crate::lent::least;
+use crate::numbers::more;
 
 // Puts w next to v in the matrix.
 fn put_neighbour(cells: &mut [u8; 4096], v: u8, w: u8) {
@@ -25,6 +26,26 @@ fn joined(cells: &[u8; 4096], v: u8, w: u8) -> bool {
         }
     }
     false
+}
+
+// How many neighbours v has.
+fn degree(cells: &[u8; 4096], v: u8) -> usize {
+    let mut found = 0usize;
+    for w in 0..64u8 {
+        if joined(cells, v, w) {
+            found = more(found);
+        }
+    }
+    found
+}
+
+// Joins v and w where both have fewer than `most` neighbours.
+pub(crate) fn join_within(cells: &mut [u8; 4096], most: usize, v: u8, w: u8) {
+    if degree(cells, v) < most {
+        if degree(cells, w) < most {
+            join(cells, v, w);
+        }
+    }
 }
 
 // Writes a neighbour and gives where the next one goes.
@@ -88,6 +109,17 @@ pub fn from_edges(n: u8, edges: &[u8]) -> Case {
         join(&mut cells, wide(edges, i * 2), wide(edges, i * 2 + 1));
     }
     lists(n, &cells)
+}
+
+// A star: node 0 next to so many leaves, at most 63.
+pub fn star(leaves: u8) -> Case {
+    let mut cells = [0u8; 4096];
+    for w in 0..64u8 {
+        if w <= leaves {
+            join(&mut cells, 0, w);
+        }
+    }
+    lists(leaves % 64 + 1, &cells)
 }
 
 // The pairs of five nodes.

@@ -8,6 +8,7 @@ mod held;
 mod lent;
 mod numbers;
 mod random;
+mod relisted;
 mod shape;
 
 pub use buffers::first8;
@@ -22,6 +23,7 @@ pub use buffers::holds32;
 pub use damage::damaged;
 pub use graph::from_edges;
 pub use graph::numbered;
+pub use graph::star;
 pub use held::Held;
 pub use held::STALE_COLUMN_STARTS;
 pub use held::STALE_ORDER;

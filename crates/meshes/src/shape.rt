@@ -1,16 +1,19 @@
-// The kinds of sound meshes.
-use crate::graph::join;
+// The kinds of meshes.
+use crate::graph::join_within;
 use crate::graph::lists;
 use crate::lent::Case;
 use crate::lent::Lengths;
 use crate::random::draw;
+use plan::Plan;
 
 // A kind of mesh of n nodes. `width` is that of a grid, a band or a block, and for dense random meshes one less than the chance of an edge in tenths.
+// Edges that would give a node more than `most` neighbours are left out.
 struct Shape {
     seed: u64,
     kind: usize,
     n: u8,
     width: u8,
+    most: usize,
 }
 
 fn remainder(v: u8, width: u8) -> u8 {
@@ -55,20 +58,21 @@ fn simple_edge(s: Shape, kind: usize, v: u8, w: u8) -> bool {
         7 => in_grid(v, d, s.width, true),
         8 => draw(s.seed, v as usize, w as usize, s.n as usize) < 2,
         9 => draw(s.seed, v as usize, w as usize, 10) <= s.width as usize,
-        _ => d <= s.width && draw(s.seed, v as usize, w as usize, 2) == 0,
+        10 => d <= s.width && draw(s.seed, v as usize, w as usize, 2) == 0,
+        _ => d == 1 || v == 0,
     }
 }
 
 // A union of blocks, each of a kind of its own, or one of the simple kinds.
 fn edge(s: Shape, v: u8, w: u8) -> bool {
-    if s.kind < 11 {
+    if s.kind < 12 {
         return simple_edge(s, s.kind, v, w);
     }
     let block = quotient(v, s.width);
     if quotient(w, s.width) != block {
         return false;
     }
-    let kind = draw(s.seed, block as usize, 1, 11);
+    let kind = draw(s.seed, block as usize, 1, 12);
     simple_edge(s, kind, remainder(v, s.width), remainder(w, s.width))
 }
 
@@ -97,7 +101,7 @@ fn labels(seed: u64, n: u8) -> [u8; 64] {
 fn join_later(cells: &mut [u8; 4096], s: Shape, l: &[u8; 64], v: u8) {
     for w in 0..64u8 {
         if w < s.n && edge(s, v, w) {
-            join(cells, label(l, v), label(l, w));
+            join_within(cells, s.most, label(l, v), label(l, w));
         }
     }
 }
@@ -135,16 +139,26 @@ fn with_room(l: Lengths, seed: u64) -> Lengths {
     }
 }
 
-// The sound mesh that a seed draws.
+// The most neighbours of a node: as many as are allowed, for one seed in eight one more, and for two any number.
+fn most_neighbours(seed: u64) -> usize {
+    match draw(seed, 4, 4, 8) {
+        0 | 1 => 64,
+        2 => Plan::NEIGHBOURS + 1,
+        _ => Plan::NEIGHBOURS,
+    }
+}
+
+// The mesh that a seed draws. It is sound but for lists longer than allowed, which few have.
 pub fn drawn(seed: u64) -> Case {
     let most = draw(seed, 0, 4, 64) % 64;
     let n = (1 + draw(seed, 1, 4, most + 1) % 64) as u8;
     let width = (1 + draw(seed, 2, 4, 8) % 8) as u8;
     let s = Shape {
         seed: seed,
-        kind: draw(seed, 3, 4, 14),
+        kind: draw(seed, 3, 4, 15),
         n: n,
         width: width,
+        most: most_neighbours(seed),
     };
     let l = labels(seed, n);
     let mut c = mesh(s, &l);

@@ -1,9 +1,16 @@
-// Checks 1 to 7, each over the whole mesh before the next, and the matrix of a mesh that passes them.
+// Checks 1 to 7, with 26 between 6 and 7, each over the whole mesh before the next, and the matrix of a mesh that passes them.
 use crate::lists::end;
 use crate::lists::entry;
 use crate::lists::falling;
+use crate::lists::plus;
 use crate::lists::start;
 use crate::sets::only;
+
+// The most entries of a list.
+pub(crate) const NEIGHBOURS: usize = 26;
+
+// The checks that look at entries, in their order.
+const ENTRY_CHECKS: [u32; 5] = [4, 5, 6, 26, 7];
 
 fn bad_starts(n: usize, starts: &[u32], neighbours: &[u16]) -> bool {
     if starts.len() == 0 {
@@ -28,7 +35,7 @@ fn lists(starts: &[u32], neighbours: &[u16], v: usize, w: usize) -> bool {
     false
 }
 
-// Whether entry e of v's list fails the check: 4, 5, 6 or 7.
+// Whether entry e of v's list fails the check: 4, 5, 6, 26 (as many entries as a list may have stand before it) or 7.
 fn entry_fails(
     number: u32,
     n: usize,
@@ -49,6 +56,9 @@ fn entry_fails(
             return w <= entry(neighbours, e - 1);
         }
         return false;
+    }
+    if number == 26 {
+        return plus(start(starts, v), NEIGHBOURS) <= e;
     }
     !lists(starts, neighbours, w, v)
 }
@@ -82,7 +92,8 @@ pub(crate) fn mesh(n: usize, starts: &[u32], neighbours: &[u16]) -> u32 {
     if 65536 < neighbours.len() {
         return 3;
     }
-    for number in 4..8u32 {
+    for k in 0..5usize {
+        let number = ENTRY_CHECKS[k];
         if mesh_fails(number, n, starts, neighbours) {
             return number;
         }

@@ -88,8 +88,8 @@ fn planned(n: usize, starts: &[u32], neighbours: &[u16]) -> NaivePlan {
     }
 }
 
-// The plan of a lent mesh. The last six numbers are the lengths of the lent results. Refusals 1 to 8 are right for every n; a plan, and refusal 9,
-// for n of at most 64.
+// The plan of a lent mesh. The last six numbers are the lengths of the lent results. Refusals 1 to 8 and 26 are right for every n; a plan, and
+// refusal 9, for n of at most 64.
 pub fn plan(
     n: usize,
     starts: &[u32],

@@ -7,18 +7,18 @@ use meshes::print_number;
 use naive::NaiveMesh;
 
 // The counts, in the order in which they are printed. The comparisons whose answer is a refusal have its number, counted from `ACCEPTED`.
-const NUMBERS: usize = 30;
+const NUMBERS: usize = 31;
 
 pub(crate) const TEXTS: usize = 0;
 
 pub(crate) const ACCEPTED: usize = 1;
 
-const TOO_LARGE: usize = 27;
+const TOO_LARGE: usize = 28;
 
 // Texts whose known answer was not given by the naive reader.
-pub(crate) const NOT_AS_KNOWN: usize = 28;
+pub(crate) const NOT_AS_KNOWN: usize = 29;
 
-pub(crate) const DIFFERENT: usize = 29;
+pub(crate) const DIFFERENT: usize = 30;
 
 // `subject` is what is tried, a line of the input or a number that draws, and `turn` how many comparisons of it were made: they tell where a
 // difference is. `answer` is the last one.
@@ -92,7 +92,8 @@ fn print_line(k: usize, x: usize) {
     let labels =
         b"texts |accepted |refused 1: |refused 2: |refused 3: |refused 4: |refused 5: |refused 6: |refused 7: |refused 8: |refused 9: |\
         refused 10: |refused 11: |refused 12: |refused 13: |refused 14: |refused 15: |refused 16: |refused 17: |refused 18: |refused 19: |\
-        refused 20: |refused 21: |refused 22: |refused 23: |refused 24: |refused 25: |too large to compare |not as known |different |";
+        refused 20: |refused 21: |refused 22: |refused 23: |refused 24: |refused 25: |refused 26: |too large to compare |not as known |\
+        different |";
     io::write_all(STDOUT_FILENO, piece(labels, k, b'|'));
     print_number(x);
 }

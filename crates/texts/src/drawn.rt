@@ -5,9 +5,12 @@ use crate::damage::DAMAGES;
 use crate::damage::damaged;
 use crate::draft::Draft;
 use crate::draft::side;
-use crate::draft::with_mixed;
+use crate::draft::with_allowed;
 use crate::draft::with_more;
 use crate::draft::with_pair;
+use crate::draft::without_pairs;
+use crate::hub::hub_degree;
+use crate::hub::with_hub;
 use crate::style::written;
 use crate::text::Text;
 use crate::trial::ANY;
@@ -15,9 +18,12 @@ use crate::trial::try_text;
 use meshes::draw;
 use meshes::less;
 use meshes::more;
+use plan::Plan;
 
-// The subject of the first, behind every line of the input.
+// The subjects of the first pattern and of the first with a hub, behind every line of the input.
 const FIRST: usize = 10000;
+
+const FIRST_HUB: usize = 20000;
 
 // A sound draft: of at most 12 nodes, one in eight of at most 60; the pairs are some tenths of all, in an order that the seed draws.
 fn sound(seed: u64) -> Draft {
@@ -27,18 +33,12 @@ fn sound(seed: u64) -> Draft {
     }
     let n = more(draw(seed, 2, 31, most));
     let tenths = more(draw(seed, 0, 31, 10));
-    let mut d = Draft {
-        height: n,
-        width: n,
-        stated: 0,
-        count: 0,
-        numbers: [0; 600],
-    };
+    let mut d = without_pairs(n);
     for k in 0..n % 65536 * 64 {
         let r = k / 64 + 1;
         let s = k % 64;
         if (s < r) & (draw(seed, r, s, 10) < tenths) {
-            d = with_mixed(d, seed, r, s + 1);
+            d = with_allowed(d, seed, r, s + 1);
         }
     }
     d
@@ -114,17 +114,16 @@ fn damaged_text(t: Text, seed: u64) -> Text {
     damaged(t, draw(seed, 0, 34, t.length), draw(seed, 1, 34, DAMAGES))
 }
 
-// The text of a seed; the same with one damage and with two to what it says, to how, and to both.
-fn drawn(c: Counts, seed: u64) -> Counts {
+// The text of a draft, whose answer is known, written as the seed draws; the same with one damage and with two to what it says, to how, and to both.
+fn try_draft(c: Counts, d: Draft, known: usize, seed: u64) -> Counts {
     let next = seed % 4294967296 + 7;
-    let d = sound(seed);
     let once = damaged_draft(d, seed);
     let t = written(d, seed);
     let u = written(once, seed);
     let v = damaged_text(t, seed);
-    let sound = try_text(c, t, 0);
+    let first = try_text(c, t, known);
     let said = try_text(
-        try_text(sound, u, ANY),
+        try_text(first, u, ANY),
         written(damaged_draft(once, next), seed),
         ANY,
     );
@@ -132,10 +131,37 @@ fn drawn(c: Counts, seed: u64) -> Counts {
     try_text(changed, damaged_text(u, seed), ANY)
 }
 
-pub(crate) fn all(c: Counts) -> Counts {
+fn all_sound(c: Counts) -> Counts {
     let mut d = c;
     for number in 0..2000usize {
-        d = drawn(begun(d, FIRST + number), (number * 5003) as u64);
+        let seed = (number * 5003) as u64;
+        d = try_draft(begun(d, FIRST + number), sound(seed), 0, seed);
     }
     d
+}
+
+// What the reader answers to a draft with a hub.
+fn hub_answer(seed: u64) -> usize {
+    if Plan::NEIGHBOURS < hub_degree(seed) {
+        return 26;
+    }
+    0
+}
+
+fn all_hubs(c: Counts) -> Counts {
+    let mut d = c;
+    for number in 0..400usize {
+        let seed = (number * 5009) as u64;
+        d = try_draft(
+            begun(d, FIRST_HUB + number),
+            with_hub(seed),
+            hub_answer(seed),
+            seed,
+        );
+    }
+    d
+}
+
+pub(crate) fn all(c: Counts) -> Counts {
+    all_hubs(all_sound(c))
 }

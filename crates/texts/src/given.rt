@@ -13,7 +13,7 @@ use crate::trial::try_text;
 use libc::STDIN_FILENO;
 
 // The most lines.
-const LINES: usize = 400;
+const LINES: usize = 500;
 
 // Number k of a line, counted from 0 as its words are.
 pub(crate) fn number(line: &[u8], k: usize) -> usize {

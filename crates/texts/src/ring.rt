@@ -16,6 +16,7 @@ use crate::trial::same;
 use meshes::first8;
 use meshes::front16;
 use meshes::front32;
+use meshes::less;
 use meshes::more;
 use naive::NaiveMesh;
 use plan::Plan;
@@ -96,43 +97,83 @@ fn put_text(bytes: &mut [u8], m: Ring) -> usize {
     next
 }
 
+// What the reader is known to answer, and, where that is a mesh, how far its ring reaches: each node is joined to so many on both sides.
+struct Known {
+    answer: NaiveMesh,
+    reach: usize,
+}
+
 fn wide(x: u16) -> usize {
     x as usize
 }
 
-// Entry e of the ring of 4,096 nodes in which each is joined to the eight on both sides, where there are `size` entries, 16 to a node. Those of node
-// v are v − 8 to v − 1 and v + 1 to v + 8, here from the first to the last that is not negative and below 4,096.
-fn entry(e: usize, size: usize) -> usize {
-    if size <= e {
-        return STALE_NEIGHBOURS as usize;
+fn entry(neighbours: &[u16; ENTRIES], e: usize) -> usize {
+    if e < ENTRIES {
+        return wide(neighbours[e]);
     }
-    let v = e / 16 % 4096;
-    let mut k = e % 16;
-    if v < 8 {
-        k = k + 8 - v;
-    }
-    if 4087 < v {
-        k = k % 16 + 4103 - v;
-    }
-    k = k % 16;
-    if 7 < k {
-        k = k % 16 + 1;
-    }
-    (v + 4088 + k % 32) % 4096
+    0
 }
 
-fn start(v: usize, size: usize) -> usize {
-    if (size == 0) | (size / 16 < v) {
-        return STALE_STARTS as usize;
+// Whether two numbers that are so much apart are joined in a ring of so many nodes.
+fn within(distance: usize, nodes: usize, reach: usize) -> bool {
+    if distance <= reach {
+        return 0 < distance;
     }
-    v % 65536 * 16
+    (distance < nodes) & (nodes <= distance % 65536 + reach % 65536)
 }
 
-// Whether the lists are those of this ring, with 65,536 entries, or, for a size of 0, nothing was written.
-fn holds(starts: &[u32; STARTS], neighbours: &[u16; ENTRIES], size: usize) -> bool {
+fn next_to(v: usize, w: usize, nodes: usize, reach: usize) -> bool {
+    if v < w {
+        return within(w - v, nodes, reach);
+    }
+    within(v - w, nodes, reach)
+}
+
+// Whether entry e is one of the ring, or stale behind them. A list has as many entries as its node has neighbours, and each is greater than the one
+// before it, so that it has them all.
+fn entry_holds(neighbours: &[u16; ENTRIES], known: Known, e: usize) -> bool {
+    let w = entry(neighbours, e);
+    let degree = known.reach % 65536 * 2;
+    let answer = known.answer;
+    if answer.entries <= e {
+        return w == STALE_NEIGHBOURS as usize;
+    }
+    if degree == 0 {
+        return false;
+    }
+    if 0 < e % degree {
+        if w <= entry(neighbours, less(e)) {
+            return false;
+        }
+    }
+    (w < answer.nodes) & next_to(e / degree, w, answer.nodes, known.reach)
+}
+
+fn start(starts: &[u32; STARTS], v: usize) -> usize {
+    if v < STARTS {
+        return long(starts[v]);
+    }
+    0
+}
+
+// Whether start v is one of the ring, or stale behind them.
+fn start_holds(starts: &[u32; STARTS], known: Known, v: usize) -> bool {
+    let x = start(starts, v);
+    let answer = known.answer;
+    if (answer.entries == 0) | (answer.nodes < v) {
+        return x == STALE_STARTS as usize;
+    }
+    if v == 0 {
+        return x == 0;
+    }
+    x == start(starts, v - 1) % 4294967296 + known.reach % 65536 * 2
+}
+
+// Whether the lists are those of the ring, or, for a refusal, nothing was written.
+fn holds(starts: &[u32; STARTS], neighbours: &[u16; ENTRIES], known: Known) -> bool {
     for e in 0..ENTRIES {
         let v = e % STARTS;
-        if (wide(neighbours[e]) != entry(e, size)) | (long(starts[v]) != start(v, size)) {
+        if !(entry_holds(neighbours, known, e) & start_holds(starts, known, v)) {
             return false;
         }
     }
@@ -140,7 +181,7 @@ fn holds(starts: &[u32; STARTS], neighbours: &[u16; ENTRIES], size: usize) -> bo
 }
 
 // Whether the proved reader answers as known, and leaves the ring, or, where it refuses, all as it was.
-fn as_known(text: &[u8], start_count: usize, entry_count: usize, known: NaiveMesh) -> bool {
+fn as_known(text: &[u8], start_count: usize, entry_count: usize, known: Known) -> bool {
     let mut starts = [STALE_STARTS; STARTS];
     let mut neighbours = [STALE_NEIGHBOURS; ENTRIES];
     let answer = read(
@@ -148,7 +189,7 @@ fn as_known(text: &[u8], start_count: usize, entry_count: usize, known: NaiveMes
         front32(&mut starts, start_count),
         front16(&mut neighbours, entry_count),
     );
-    same(answer, known) & holds(&starts, &neighbours, known.entries)
+    same(answer, known.answer) & holds(&starts, &neighbours, known)
 }
 
 // Room for a text. Its length is what lending it needs.
@@ -173,25 +214,46 @@ fn described(line: &[u8]) -> Ring {
     }
 }
 
-// What the reader is known to answer: a refusal, or, for 0, the ring of 4,096 nodes.
-fn answer(refusal: usize) -> NaiveMesh {
-    let mut known = NaiveMesh {
+// How far the ring reaches that has so many pairs, a diagonal one for each node among them.
+fn reach(nodes: usize, pairs: usize) -> usize {
+    if nodes == 0 {
+        return 0;
+    }
+    less(pairs / nodes)
+}
+
+// How many entries it has.
+fn entries(nodes: usize, pairs: usize) -> usize {
+    if pairs < nodes {
+        return 0;
+    }
+    (pairs - nodes) % 1048576 * 2
+}
+
+// What the reader is known to answer: a refusal, or, for 0, the ring, of which the pairs left out are the diagonal ones, or none.
+fn known_of(refusal: usize, m: Ring) -> Known {
+    let pairs = m.skipped % 1048576 + m.count % 1048576;
+    let mut answer = NaiveMesh {
         refusal: (refusal % 100) as u32,
         nodes: 0,
         entries: 0,
     };
     if refusal == 0 {
-        known.nodes = Plan::NODES;
-        known.entries = Plan::ENTRIES;
+        answer.nodes = m.nodes;
+        answer.entries = entries(m.nodes, pairs);
     }
-    known
+    Known {
+        answer: answer,
+        reach: reach(m.nodes, pairs),
+    }
 }
 
 pub(crate) fn try_ring(c: Counts, line: &[u8]) -> Counts {
-    let known = answer(number(line, 1));
+    let m = described(line);
+    let known = known_of(number(line, 1), m);
     let mut bytes = blank();
-    let length = put_text(&mut bytes, described(line));
+    let length = put_text(&mut bytes, m);
     let text = first8(&bytes, length);
     let same = as_known(text, number(line, 11), number(line, 12), known);
-    counted(raised(c, TEXTS), known, same)
+    counted(raised(c, TEXTS), known.answer, same)
 }

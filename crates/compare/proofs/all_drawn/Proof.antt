@@ -8,7 +8,7 @@ abbrev Inv-loop : tie.InvT-loop
 Inv-loop d₀ seed₀ d seed = Unit {0}
 
 abbrev μ-loop : tie.MeasureT-loop
-μ-loop d₀ seed₀ d seed = 1500 - seed
+μ-loop d₀ seed₀ d seed = 1800 - seed
 
 pub all-drawn-spec : {M : Type 1} → statement M
 all-drawn-spec =

@@ -5,10 +5,10 @@ use Rattle.damage.proofs.counts.print.Statement.{statement}
 use Rattle.damage.proofs.counts.print.Tie as tie
 
 abbrev Inv-loop : tie.InvT-loop
-Inv-loop c operation₀ t3 t4 t5 operation = Unit {0}
+Inv-loop c operation₀ t3 t4 t5 t6 operation = Unit {0}
 
 abbrev μ-loop : tie.MeasureT-loop
-μ-loop c operation₀ t3 t4 t5 operation = 4 - operation
+μ-loop c operation₀ t3 t4 t5 t6 operation = 4 - operation
 
 pub print-spec : {M : Type 1} → statement M
 print-spec =
@@ -21,6 +21,9 @@ print-spec =
     (λ c. search needs)
     (λ c. search needs)
     (λ c. search needs)
+    (λ c. search needs)
+    (λ c κs. search needs)
+    (λ c κs. search needs)
     (λ c. search needs)
     (λ c κs. search needs)
     (λ c κs. search needs)

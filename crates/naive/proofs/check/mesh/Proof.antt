@@ -5,10 +5,10 @@ use Rattle.naive.proofs.check.mesh.Statement.{statement}
 use Rattle.naive.proofs.check.mesh.Tie as tie
 
 abbrev Inv-loop : tie.InvT-loop
-Inv-loop n starts neighbours number₀ number = Unit {0}
+Inv-loop n starts neighbours k₀ k = Unit {0}
 
 abbrev μ-loop : tie.MeasureT-loop
-μ-loop n starts neighbours number₀ number = 8 - number
+μ-loop n starts neighbours k₀ k = 5 - k
 
 pub mesh-spec : {M : Type 1} → statement M
 mesh-spec =
@@ -18,6 +18,8 @@ mesh-spec =
     μ-loop
     (λ c. search needs)
     (λ c κs. search needs)
+    (λ c. search needs)
+    (λ c. search needs)
     (λ c. search needs)
     (λ c. search needs)
     (λ c. search needs)

@@ -8,7 +8,7 @@ abbrev Inv-loop : tie.InvT-loop
 Inv-loop c k₀ k = Unit {0}
 
 abbrev μ-loop : tie.MeasureT-loop
-μ-loop c k₀ k = 30 - k
+μ-loop c k₀ k = 31 - k
 
 pub print-spec : {M : Type 1} → statement M
 print-spec =

@@ -8,7 +8,7 @@ abbrev Inv-loop : tie.InvT-loop
 Inv-loop length lines d₀ k₀ d k = Unit {0}
 
 abbrev μ-loop : tie.MeasureT-loop
-μ-loop length lines d₀ k₀ d k = 400 - k
+μ-loop length lines d₀ k₀ d k = 500 - k
 
 pub all-spec : {M : Type 1} → statement M
 all-spec =
