@@ -12,10 +12,9 @@ use borrow.Author.Tests.{not-true, not-false}
 use Rattle.plan.specs.declared.MeshAnswer.the-variants.{Refused}
 use Rattle.plan.specs.Lists.{every, keep, written}
 use Rattle.plan.specs.Refusals.{firstFault}
-use Rattle.plan.specs.Mesh.{Mesh, maxEntries}
-use Rattle.plan.specs.MatrixMarket.{Line, maxNumber, holdsNumbers, rowCount, pairLines, pairsOf, badText, badMatrix, givenAgain, repeatedPair, listsOf, meshOf, textMesh, MeshBuffers, meshBuffers, meshCapacity, textChecks, TextRead}
+use Rattle.plan.specs.Mesh.{Mesh}
+use Rattle.plan.specs.MatrixMarket.{Line, maxNumber, holdsNumbers, rowCount, pairLines, pairsOf, badText, badMatrix, givenAgain, repeatedPair, meshOf, textMesh, MeshBuffers, meshBuffers, meshCapacity, textChecks, TextRead}
 use Rattle.plan.specs.AcceptedTexts.{offDiagonal}
-use Rattle.theory.specs.Keys.{pairOfKey}
 use Rattle.theory.proofs.Bools.{or-false-right}
 use Rattle.theory.proofs.Refusals.{no-fault}
 use Rattle.theory.proofs.TextEntries.{entries-by-pairs}
@@ -24,7 +23,7 @@ use Rattle.sorting.specs.Sorted.{sorted}
 use Rattle.lexer.specs.Suffixes.{linesAt}
 use Rattle.matrix_market.specs.declared.pairs.Tally.{Tally}
 use Rattle.matrix_market.specs.Lines.{pairsIn, keysIn, tallyOf, wrongLines, wrongMatrix, pairsChecks}
-use Rattle.matrix_market.specs.Made.{sizeChecks, ListsHanded}
+use Rattle.matrix_market.specs.Made.{sizeChecks}
 use Rattle.matrix_market.specs.SortedPairs.{keyLists}
 use Rattle.matrix_market.proofs.Runs.{links-few, keys-long}
 use Rattle.matrix_market.proofs.Reading.{kind-head, text-lines, text-matrix, lines-good, fault-23, fault-pairs, fault-25, fault-size, refused-read, TextSized, text-entries, text-pairs, keys-sorted, keys-mesh, handed-read}
