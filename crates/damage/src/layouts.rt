@@ -138,8 +138,8 @@ fn every_length(c: Counts, d: Draft, which: usize) -> Counts {
     e
 }
 
-// A layout as it is.
-pub(crate) fn every_pair(c: Counts, d: Draft) -> Counts {
+// Every question over a draft's layout as it is.
+pub(crate) fn ask_layout(c: Counts, d: Draft) -> Counts {
     ask_draft(c, as_layout(d), d.n)
 }
 

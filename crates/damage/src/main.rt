@@ -120,7 +120,7 @@ fn full(c: Counts, number: u64, n: u8) -> Counts {
     let d = full_draft(n);
     let f = encoded(d);
     let e = try_file(try_writing(begun(c, GIVEN, number), d), f);
-    layouts::every_pair(files::drawn_pairs(e, f, 3000, 100), d)
+    layouts::ask_layout(files::drawn_pairs(e, f, 3000, 100), d)
 }
 
 fn all_full(c: Counts) -> Counts {

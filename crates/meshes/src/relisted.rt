@@ -71,7 +71,7 @@ fn new_starts(c: Case, l: NewList) -> [u32; 72] {
     starts
 }
 
-// The mesh with another list of v. All lists have at most 4,096 entries.
+// The mesh with another list of v. Of all lists together the first 4,096 entries are kept.
 pub(crate) fn relisted(c: Case, v: usize, first: usize, count: usize) -> Case {
     let l = NewList {
         v: v,
