@@ -68,11 +68,10 @@ texts =
     ∷ made 300 65536 26 301 65535 8
     ∷ made 300 65536 26 301 65536 0
     -- 26: a list of 27 entries, before 8 and behind 25; one of 26, to which a diagonal pair adds nothing
-    ∷ made 300 65536 27 0 0 26
-    ∷ made 300 65536 27 301 65536 26
+    ∷ made 300 27 27 0 0 26
+    ∷ made 300 27 27 301 27 26
     ∷ refuses 26 (behind "28 28 27\n" ++ starLines 27)
     ∷ refuses 25 (behind "28 28 28\n" ++ starLines 27 ++ bytes "28 1\n")
-    ∷ gives (behind "27 27 26\n" ++ starLines 26) (upFrom 0 27 ++ (52 ∷ [])) (replicate 26 26 ++ upFrom 0 26)
     ∷ gives (behind "27 27 27\n27 27\n" ++ starLines 26) (upFrom 0 27 ++ (52 ∷ [])) (replicate 26 26 ++ upFrom 0 26)
     -- Accepted. The ring, plainly; then with any letter case, spaces and tabs at a line's ends and between, carriage returns, comments, blank
     -- lines, the pairs in another order, a diagonal one among them, and no line feed at the end.
