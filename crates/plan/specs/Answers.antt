@@ -7,6 +7,8 @@ use Rattle.plan.specs.declared.WriteAnswer.{WriteAnswer}
 use Rattle.plan.specs.declared.WriteAnswer.the-variants as write
 use Rattle.plan.specs.declared.PairAnswer.{PairAnswer}
 use Rattle.plan.specs.declared.PairAnswer.the-variants as pair
+use Rattle.plan.specs.declared.SlotAnswer.{SlotAnswer}
+use Rattle.plan.specs.declared.SlotAnswer.the-variants as slot
 use Rattle.plan.specs.declared.MeshAnswer.{MeshAnswer}
 use Rattle.plan.specs.declared.MeshAnswer.the-variants as mesh
 
@@ -47,6 +49,11 @@ pairReply (pair.Slot s) = accepted (slotCase ∷ s ∷ [])
 pairReply pair.Diagonal = accepted (diagonalCase ∷ [])
 pairReply pair.NoSlot = accepted (noSlotCase ∷ [])
 pairReply (pair.Refused k) = refused k
+
+-- the question about a slot: its row, then its column
+abbrev pub slotReply : SlotAnswer → Reply
+slotReply (slot.Found p) = accepted (p .row ∷ p .column ∷ [])
+slotReply (slot.Refused k) = refused k
 
 -- reading a text: nodes and entries
 abbrev pub meshReply : MeshAnswer → Reply

@@ -16,6 +16,7 @@ pub mod Reading
 pub mod Writing
 pub mod RoundTrips
 pub mod Questions
+pub mod SlotsAndPairs
 pub mod Listing
 pub mod Enough
 pub mod MatrixMarket
@@ -24,4 +25,5 @@ pub mod Everything
 pub mod MeshCases
 pub mod ChoiceCases
 pub mod Starred
+pub mod SlotCases
 pub mod WorkedTexts

@@ -1,11 +1,12 @@
--- Document 01, "Two questions over a layout (n, column starts, rows)", and the companion of the second.
-use mathlib.Core.Bool.{Bool, cond, _||_}
-use mathlib.Core.List.{List, [], _∷_, _++_}
+-- Document 01, "Two questions over a layout (n, column starts, rows)", and the companion of the second; document 02, E4, from slot back to pair.
+-- A question is named after what is asked about: the pair question gives a slot, and the slot question a pair.
+use mathlib.Core.Bool.{Bool, cond, _&&_, _||_}
+use mathlib.Core.List.{List, [], _∷_, _++_, headD}
 use Prim.Native.Nat.{ℕ, zero, suc, _+_, _-_, min, max}
 use lib.Dec.{leb, ltb, eqb}
 use lib.ListN.{length, getD, take, drop}
 use Rattle.plan.specs.declared.Span.{Span}
-use Rattle.plan.specs.Lists.{exists, isIn, indexOf, listAt}
+use Rattle.plan.specs.Lists.{exists, keep, below, isIn, indexOf, listAt}
 use Rattle.plan.specs.Refusals.{Checks, firstFault}
 use Rattle.plan.specs.Answers.{Reply, accepted, refused, slotCase, diagonalCase, noSlotCase}
 use Rattle.plan.specs.Mesh.{badNodeCount, badStarts}
@@ -67,3 +68,28 @@ unfoldable pub columnRows : ℕ → List ℕ → List ℕ → ℕ → List ℕ
 columnRows n columnStarts rows j =
     let s : Span = columnSpan n columnStarts rows j in
     take (s .count) (drop (s .start) rows)
+
+-- 27: "a slot number not below the number of slots", which is column start n
+unfoldable pub slotOutside : ℕ → List ℕ → ℕ → Bool
+slotOutside n columnStarts s = leb (getD columnStarts n 0) s
+
+-- the checks of the question about a slot: "27 a slot number not below the number of slots, after 22"
+unfoldable pub slotChecks : ℕ → List ℕ → List ℕ → ℕ → Checks
+slotChecks n columnStarts rows s = layoutChecks n columnStarts rows ++ (27, slotOutside n columnStarts s) ∷ []
+
+-- whether slot s is one of column j's: "Slots are numbered from 0, column after column."
+unfoldable pub holdsSlot : List ℕ → ℕ → ℕ → Bool
+holdsSlot columnStarts s j = leb (getD columnStarts j 0) s && ltb s (getD columnStarts (j + 1) 0)
+
+-- the column that holds slot s; in a layout there is just one
+unfoldable pub columnOf : ℕ → List ℕ → ℕ → ℕ
+columnOf n columnStarts s = headD (keep (holdsSlot columnStarts s) (below n)) 0
+
+-- by the number of the first fault: "the workshop knows its slot number and wants the row and the column". The row is the later position.
+unfoldable pub slotFound : ℕ → ℕ → List ℕ → List ℕ → ℕ → Reply
+slotFound zero n columnStarts rows s = accepted (getD rows s 0 ∷ columnOf n columnStarts s ∷ [])
+slotFound (suc k) n columnStarts rows s = refused (suc k)
+
+-- the third question: the pair of a slot
+unfoldable pub slotQuestion : ℕ → List ℕ → List ℕ → ℕ → Reply
+slotQuestion n columnStarts rows s = slotFound (firstFault (slotChecks n columnStarts rows s)) n columnStarts rows s

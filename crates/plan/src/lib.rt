@@ -79,6 +79,18 @@ pub enum PairAnswer {
     Refused(u32),
 }
 
+// A pair of positions that has a slot: the row is the later position, the column the earlier.
+pub struct Pair {
+    pub row: u32,
+    pub column: u32,
+}
+
+// The answer to the question about a slot: its pair, or a refusal.
+pub enum SlotAnswer {
+    Found(Pair),
+    Refused(u32),
+}
+
 // A mesh by its counts. Its starts and neighbours stand in the lent buffers.
 pub struct MeshCounts {
     pub nodes: u32,

@@ -8,9 +8,9 @@ use native.Mathlib.Omega.{arith}
 use lib.Dec.{eqb, ltb}
 use lib.ListN.{length, getD, take, drop}
 use borrow.Author.Tests.{eq-eqb, ltb-true, lt-ltb, ltb-false}
-use Rattle.plan.specs.Lists.{falls, keep, upFrom, below, isIn, ascending}
-use Rattle.theory.proofs.Bools.{or-false-left, or-false-right, and-left, and-right, and-both, clash, iff-eq}
-use Rattle.theory.proofs.Lists.{isIn-head, isIn-tail, isIn-cons, isIn-getD, of-keep}
+use Rattle.plan.specs.Lists.{falls, keep, upFrom, below, isIn, indexOf, ascending}
+use Rattle.theory.proofs.Bools.{or-false-left, or-false-right, and-left, and-right, and-both, clash, iff-eq, lt-or-le}
+use Rattle.theory.proofs.Lists.{isIn-head, isIn-tail, isIn-cons, isIn-getD, of-keep, getD-indexOf, indexOf-le}
 use Rattle.theory.proofs.Ranges.{isIn-upFrom}
 
 pub ascending-tail : (x : ℕ) (l : List ℕ) → ascending (x ∷ l) ≡ true → ascending l ≡ true
@@ -134,6 +134,16 @@ ascending-getD [] h i j lt le = absurd (omega arith)
 ascending-getD (x ∷ l) h i zero lt le = absurd (omega arith)
 ascending-getD (x ∷ l) h zero (suc j) lt le = ascending-lt x l h (getD l j 0) (isIn-getD l j 0 (omega arith))
 ascending-getD (x ∷ l) h (suc i) (suc j) lt le = ascending-getD l (ascending-tail x l h) i j (omega arith) (omega arith)
+
+-- so each element of an ascending list stands at one place only
+pub ascending-indexOf : (l : List ℕ) → ascending l ≡ true → (k : ℕ) → k < length l → indexOf (getD l k 0) l ≡ k
+ascending-indexOf l h k lt =
+    let i : ℕ = indexOf (getD l k 0) l in
+    let le : i ≤ k = indexOf-le l k 0 lt in
+    elim (lt-or-le i k) [
+      | inl s ↦ absurd (omega (arith, ascending-getD l h i k s lt, getD-indexOf l (getD l k 0) 0 (omega arith)))
+      | inr s ↦ omega arith
+    ]
 
 -- an earlier place of a list that does not fall holds no greater number
 pub falls-getD : (l : List ℕ) → falls l ≡ false → (i j : ℕ) → i ≤ j → j < length l → getD l i 0 ≤ getD l j 0

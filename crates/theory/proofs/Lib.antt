@@ -15,6 +15,8 @@ pub mod Orders
 pub mod Compressed
 pub mod Places
 pub mod ColumnRule
+pub mod Asked
+pub mod SlotsAndPairs
 pub mod Coding
 pub mod FileFields
 pub mod Joined
