@@ -35,6 +35,7 @@ typedef struct {
     __typeof__(ndp_read) *read;
     __typeof__(ndp_slot) *slot;
     __typeof__(ndp_rows) *rows;
+    __typeof__(ndp_pair) *pair;
     __typeof__(ndp_matrix_market) *matrix_market;
     Memory *memory;
     NdpPlan reply, read_reply;
@@ -42,6 +43,7 @@ typedef struct {
     NdpWritten written;
     NdpSlot pairs[QUESTIONS];
     NdpRows columns[QUESTIONS];
+    NdpPair slots[QUESTIONS];
     NdpMesh mesh_reply;
 } Program;
 
@@ -49,16 +51,17 @@ enum { PLAIN, PROVED, PROGRAMS };
 static Memory plain_memory, proved_memory, untouched;
 static Program programs[PROGRAMS] = {
     {.plan = plain_plan, .stage_order = plain_stage_order, .write = plain_write, .read = plain_read, .slot = plain_slot, .rows = plain_rows,
-     .matrix_market = plain_matrix_market, .memory = &plain_memory},
+     .pair = plain_pair, .matrix_market = plain_matrix_market, .memory = &plain_memory},
     {.plan = ndp_plan, .stage_order = stage_order, .write = ndp_write, .read = ndp_read, .slot = ndp_slot, .rows = ndp_rows,
-     .matrix_market = ndp_matrix_market, .memory = &proved_memory},
+     .pair = ndp_pair, .matrix_market = ndp_matrix_market, .memory = &proved_memory},
 };
 
-/* The mesh, the text and the plan at hand, and the positions that the questions ask about. */
+/* The mesh, the text and the plan at hand, and the positions and slots that the questions ask about. */
 static Mesh mesh;
 static Text text;
 static NdpPlan plan;
 static uint16_t asked[QUESTIONS][2];
+static size_t asked_slots[QUESTIONS];
 
 /* ---- the operations */
 
@@ -102,15 +105,21 @@ static void ask_columns(Program *p) {
         p->columns[k] = p->rows(plan.nodes, m->column_starts, plan.nodes + 1, m->rows, plan.slots, asked[k][0]);
 }
 
+static void ask_slots(Program *p) {
+    const Memory *m = p->memory;
+    for (int k = 0; k < QUESTIONS; k++)
+        p->slots[k] = p->pair(plan.nodes, m->column_starts, plan.nodes + 1, m->rows, plan.slots, asked_slots[k]);
+}
+
 static void read_text(Program *p) {
     Memory *m = p->memory;
     p->mesh_reply = p->matrix_market(text.bytes, text.length, m->starts, NODES + 1 + GUARD, m->neighbours, ENTRIES + GUARD);
 }
 
-/* The first four make the plan of a mesh, each as far as its name says; the next four need a plan, and the last a text. */
-enum { CHECK, ORDER, COUNT, PLAN, WRITE, READ, PAIR, COLUMN, TEXT, OPERATIONS };
+/* The first four make the plan of a mesh, each as far as its name says; the next five need a plan, and the last a text. */
+enum { CHECK, ORDER, COUNT, PLAN, WRITE, READ, PAIR, COLUMN, SLOT, TEXT, OPERATIONS };
 static void (*const operations[OPERATIONS])(Program *) = {up_to_check, up_to_order, up_to_count, whole_plan, write_file,
-                                                          read_file,   ask_pairs,   ask_columns, read_text};
+                                                          read_file,   ask_pairs,   ask_columns, ask_slots,  read_text};
 
 /* ---- comparing the results */
 
@@ -163,13 +172,14 @@ static int compare_planning(void) {
     return compare_plans() && same && programs[PLAIN].parts == plan.parts && programs[PROVED].parts == plan.parts;
 }
 
-/* Draws the pairs that are asked about, half of them with a slot. The first position of each is the column asked about. */
+/* Draws the slots and the pairs that are asked about; half of the pairs are those of the slots. A pair's first position is the column asked about. */
 static void draw_questions(void) {
     for (int k = 0; k < QUESTIONS; k++) {
         size_t slot = next_random(plan.slots), column = 0;
         while (plain_memory.column_starts[column + 1] <= slot) column++;
         asked[k][0] = k % 2 ? plain_memory.rows[slot] : next_random(plan.nodes);
         asked[k][1] = column;
+        asked_slots[k] = slot;
     }
 }
 
@@ -188,8 +198,9 @@ static int compare_file(void) {
     draw_questions();
     run_both(PAIR);
     run_both(COLUMN);
+    run_both(SLOT);
     return same && memcmp(plain->pairs, proved->pairs, sizeof plain->pairs) == 0 &&
-           memcmp(plain->columns, proved->columns, sizeof plain->columns) == 0;
+           memcmp(plain->columns, proved->columns, sizeof plain->columns) == 0 && memcmp(plain->slots, proved->slots, sizeof plain->slots) == 0;
 }
 
 /* Whether the front of the memory for a mesh holds `expected`, and nothing is written past it. */
@@ -249,7 +260,7 @@ static void time_once(Line *line, int operation, int program) {
     double from = now();
     operations[operation](&programs[program]);
     double time = now() - from - clock_cost, *best = &line->best[operation][program];
-    if (operation == PAIR || operation == COLUMN) time /= QUESTIONS;
+    if (PAIR <= operation && operation <= SLOT) time /= QUESTIONS;
     if (*best == 0 || time < *best) *best = time;
 }
 
@@ -301,7 +312,7 @@ static void measure_families(void) {
         case 4: make_plate(&mesh, 1, nodes, 0, 0); break;
         default: make_tree(&mesh, nodes, 2);
         }
-        measure_mesh(name, CHECK, COLUMN);
+        measure_mesh(name, CHECK, SLOT);
     }
 }
 
@@ -337,7 +348,7 @@ static void measure_largest_plan(void) {
     Line *line = new_line("largest plan");
     line->same = compare_file();
     line->plan = plan;
-    time_operations(line, WRITE, COLUMN);
+    time_operations(line, WRITE, SLOT);
 }
 
 /* Compares and times the reading of the text at hand. */
@@ -397,16 +408,16 @@ static void print_alone(const Line *line, int operation) {
     else printf(" %5s", "-");
 }
 
-/* A block of four operations from `first` on, for the lines before `end`. */
-static void print_four(const char *title, const char *const names[4], int first, int end) {
+/* A block of `count` operations from `first` on, for the lines before `end`. */
+static void print_block(const char *title, const char *const *names, int first, int count, int end) {
     printf("%s, microseconds\n%-19s", title, "");
-    for (int k = 0; k < 4; k++) printf(" %21s", names[k]);
+    for (int k = 0; k < count; k++) printf(" %21s", names[k]);
     printf("\n%-19s", "mesh");
-    for (int k = 0; k < 4; k++) printf(" %7s %7s %5s", "plain", "proved", "ratio");
+    for (int k = 0; k < count; k++) printf(" %7s %7s %5s", "plain", "proved", "ratio");
     printf("\n");
     for (int l = 0; l < end; l++) {
         printf("%-19s", lines[l].name);
-        for (int o = first; o < first + 4; o++) print_alone(&lines[l], o);
+        for (int o = first; o < first + count; o++) print_alone(&lines[l], o);
         printf("\n");
     }
     printf("\n");
@@ -492,16 +503,16 @@ static int print_differences(void) {
 
 int main(void) {
     static const char *const stages[4] = {"check", "order", "count", "rows"};
-    static const char *const uses[4] = {"write", "read", "question: pair", "question: column"};
+    static const char *const uses[5] = {"write", "read", "question: pair", "question: column", "question: slot"};
     memset(&untouched, FILL, sizeof untouched);
     measure_clock();
     measure_families();
     measure_largest_plan();
     measure_others();
     measure_texts();
-    print_four("Stages of planning", stages, CHECK, LARGEST);
+    print_block("Stages of planning", stages, CHECK, 4, LARGEST);
     print_planning();
-    print_four("File and questions", uses, WRITE, LARGEST + 1);
+    print_block("File and questions", uses, WRITE, 5, LARGEST + 1);
     print_texts();
     print_growth();
     print_goal("Planning", PLAN, 1.5);

@@ -15,6 +15,7 @@ __typeof__(ndp_read) plain_read;
 __typeof__(ndp_write) plain_write;
 __typeof__(ndp_slot) plain_slot;
 __typeof__(ndp_rows) plain_rows;
+__typeof__(ndp_pair) plain_pair;
 __typeof__(ndp_matrix_market) plain_matrix_market;
 __typeof__(ndp_family) plain_family;
 #endif

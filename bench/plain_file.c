@@ -1,4 +1,4 @@
-/* Plain C: the plan file, the two questions over a layout, and the family of a refusal. Numbers of checks are document 01's. The reader decodes the
+/* Plain C: the plan file, the three questions over a layout, and the family of a refusal. Numbers of checks are document 01's. The reader decodes the
  * file into memory of its own, where the writer's checks look at it, and copies it to the caller when nothing is left to refuse. */
 #include "plain.h"
 #include <string.h>
@@ -233,6 +233,20 @@ NdpRows plain_rows(size_t n, const uint32_t *column_starts, size_t column_starts
     if (!refusal && j >= n) refusal = 21;
     if (refusal) return (NdpRows){refusal, 0, 0};
     return (NdpRows){0, column_starts[j], column_starts[j + 1] - column_starts[j]};
+}
+
+/* The slot's column is the last one that starts at the slot or before it: columns without rows share their start with the next. Column 0 starts at
+ * or before every slot, and column_starts[n] behind every slot, so the bisection keeps the answer from `low` up to, not including, `high`. */
+NdpPair plain_pair(size_t n, const uint32_t *column_starts, size_t column_starts_length, const uint16_t *rows, size_t rows_length, size_t slot) {
+    uint32_t refusal = check_layout(n, column_starts, column_starts_length, rows, rows_length);
+    if (!refusal && slot >= column_starts[n]) refusal = 27;
+    if (refusal) return (NdpPair){refusal, 0, 0};
+    size_t low = 0, high = n;
+    while (high - low > 1) {
+        size_t middle = low + (high - low) / 2;
+        if (column_starts[middle] <= slot) low = middle; else high = middle;
+    }
+    return (NdpPair){0, rows[slot], low};
 }
 
 /* ---- the family of a refusal */

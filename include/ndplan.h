@@ -19,8 +19,9 @@
  *   rows           s entries      the rows of column j are rows[column_starts[j]] up to, not including, rows[column_starts[j + 1]]: strictly
  *                                 ascending, above j and below n.
  * Slots are numbered from 0, column after column: slot k is the factor's entry in row rows[k] of the column j with column_starts[j] <= k and
- * k < column_starts[j + 1]. The diagonal has no slot; every other entry without one is zero in the factor. The stiffness between two nodes v and w
- * goes to the slot of positions[v] and positions[w], in the column of the smaller. So a solver keeps s numbers for the slots and n for the diagonal.
+ * k < column_starts[j + 1]; ndp_pair finds the two. The diagonal has no slot; every other entry without one is zero in the factor. The stiffness
+ * between two nodes v and w goes to the slot of positions[v] and positions[w], in the column of the smaller. So a solver keeps s numbers for the
+ * slots and n for the diagonal.
  *
  * THE FILE, little-endian: bytes 0 to 2 are the letters NDP, 3 and 4 the version, 5 to 8 n, 9 to 12 p, 13 to 16 s. Numbers of 2 bytes follow: the
  * order, n of them; a size and a parent for each of the p parts; the number of rows for each of the n columns; the s rows.
@@ -39,8 +40,8 @@
  * buffers of its own. ndp_matrix_market needs less than 320 KB of stack, ndp_plan less than 128 KB, every other function less than 80 KB.
  *
  * REFUSALS. A reply has the number of the first check that fails, or 0; ndp_refusal_text, at the end, says what each number means. Planning checks
- * 1 to 6, 26, then 7 to 9, reading 10 to 19, then 8 and 9, writing 13, 15 to 19, then 8, a question 1, 22, then 21, reading a text 23 to 25, 1, 3,
- * 26, then 8, in this order. Each check covers the whole input before the next begins. */
+ * 1 to 6, 26, then 7 to 9, reading 10 to 19, then 8 and 9, writing 13, 15 to 19, then 8, a question 1, 22, then 21 where it names positions and 27
+ * where it names a slot, reading a text 23 to 25, 1, 3, 26, then 8, in this order. Each check covers the whole input before the next begins. */
 #ifndef NDPLAN_H
 #define NDPLAN_H
 #include <stddef.h>
@@ -86,6 +87,11 @@ typedef struct {
     uint32_t refusal, start, count;
 } NdpRows;
 
+/* The row and the column of a slot. */
+typedef struct {
+    uint32_t refusal, row, column;
+} NdpPair;
+
 /* Reading a text: the nodes n, and the neighbour entries, two for each pair that is not diagonal. */
 typedef struct {
     uint32_t refusal, nodes, entries;
@@ -117,6 +123,11 @@ NdpSlot ndp_slot(size_t n, const uint32_t *column_starts, size_t column_starts_l
 
 /* The rows of column j: rows[start] up to, not including, rows[start + count]. The lengths are as in ndp_slot. Refuses with 1, 22 and 21. */
 NdpRows ndp_rows(size_t n, const uint32_t *column_starts, size_t column_starts_length, const uint16_t *rows, size_t rows_length, size_t j);
+
+/* The row and the column of a slot: the row is the later position, and ndp_slot of the two gives the slot again. The lengths are as in ndp_slot, and
+ * the slots are numbered from 0 up to, not including, column_starts[n], whatever the length of `rows`.
+ * Refuses with 1, 22 and 27. It looks at the whole layout each time, as ndp_slot does. */
+NdpPair ndp_pair(size_t n, const uint32_t *column_starts, size_t column_starts_length, const uint16_t *rows, size_t rows_length, size_t slot);
 
 /* Reads the mesh of a Matrix Market text of `text_length` bytes: n + 1 entries go to the front of `starts`, as many as the reply says to the front of
  * `neighbours`. NDP_MAX_NODES + 1 and NDP_MAX_ENTRIES always suffice. The lists are those of the pairs, whatever order these came in, and what is
@@ -160,6 +171,7 @@ static inline const char *ndp_refusal_text(uint32_t number) {
         /* 24 */ "the matrix is not square, an index is outside it, or a row number is less than its column's",
         /* 25 */ "a pair is given again, diagonal ones too",
         /* 26 */ "a list is longer than 26 entries",
+        /* 27 */ "a slot number is not below the number of slots",
     };
     return number < sizeof texts / sizeof *texts ? texts[number] : "unknown refusal";
 }

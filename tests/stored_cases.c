@@ -338,6 +338,75 @@ static void long_lists(void) {
     plan_star(112, 26, 27, 25);
 }
 
+/* ---- questions about slots */
+
+static void ask_slot(int title, size_t n, List32 starts, List16 lent_rows, size_t slot) {
+    NdpPair reply = plain_pair(n, starts.at, starts.length, lent_rows.at, lent_rows.length, slot);
+    printf("case %d\n", title);
+    if (reply.refusal) printf("refused %u\n", reply.refusal);
+    else printf("pair %u %u\n", reply.row, reply.column);
+}
+
+/* The layout of mesh 4: every slot; numbers that are no slot's, some with a slot's number in their low 16 or 32 bits; and rows that are longer than
+ * the last start. */
+static void slots_of_path(void) {
+    List32 starts = LIST32(0, 1, 2, 4, 5, 5);
+    List16 path_rows = LIST16(1, 4, 3, 4, 4), longer = LIST16(1, 4, 3, 4, 4, 0, 9, 0);
+    static const size_t none[] = {5, 6, 65536, 4294967295, 4294967296, 4294967300, SIZE_MAX}, lent[] = {4, 5, 7, 8};
+    for (size_t slot = 0; slot < 5; slot++) ask_slot(121, 5, starts, path_rows, slot);
+    for (size_t k = 0; k < sizeof none / sizeof *none; k++) ask_slot(122, 5, starts, path_rows, none[k]);
+    for (size_t k = 0; k < sizeof lent / sizeof *lent; k++) ask_slot(123, 5, starts, longer, lent[k]);
+}
+
+/* Columns without rows, which share their start with the next: at the front, between others and at the end; and layouts without slots. */
+static void slots_of_empty_columns(void) {
+    for (size_t slot = 0; slot < 5; slot++) ask_slot(124, 8, LIST32(0, 0, 0, 2, 2, 2, 4, 4, 4), LIST16(3, 7, 6, 7), slot);
+    ask_slot(124, 4, LIST32(0, 0, 0, 1, 1), LIST16(3), 0);
+    ask_slot(124, 4, LIST32(0, 1, 1, 1, 1), LIST16(3), 0);
+    ask_slot(125, 1, LIST32(0, 0), EMPTY16, 0);
+    ask_slot(125, 3, LIST32(0, 0, 0, 0), LIST16(1, 2, 2), 0);
+}
+
+/* The numbers of nodes at both ends, and just outside. */
+static void slots_at_limits(void) {
+    static const uint32_t bare[NODES + 2], starts[NODES + 1] = {[NODES - 1] = 1, [NODES] = 1};
+    ask_slot(126, 0, EMPTY32, EMPTY16, 0);
+    ask_slot(126, 0, LIST32(0), EMPTY16, 0);
+    ask_slot(126, 4097, EMPTY32, EMPTY16, 0);
+    ask_slot(126, 4097, (List32){bare, 4098}, EMPTY16, 0);
+    ask_slot(126, 4096, (List32){bare, 4097}, EMPTY16, 0);
+    ask_slot(126, 4096, (List32){starts, 4097}, LIST16(4095), 0);
+    ask_slot(126, 2, LIST32(0, 1, 1), LIST16(1), 0);
+}
+
+/* Unsound layouts, for mesh 4's nodes: with a number that is no slot's, and with one whose column and row are sound. */
+static void slots_of_unsound(void) {
+    List32 starts = LIST32(0, 1, 2, 4, 5, 5);
+    List16 path_rows = LIST16(1, 4, 3, 4, 4);
+    ask_slot(127, 5, LIST32(0, 1, 2, 4, 5, 5, 5), path_rows, 5);
+    ask_slot(127, 5, LIST32(1, 1, 2, 4, 5, 5), path_rows, 5);
+    ask_slot(127, 5, LIST32(0, 1, 2, 4, 3, 5), path_rows, 5);
+    ask_slot(127, 5, starts, LIST16(1, 4, 3, 4), 5);
+    ask_slot(127, 5, starts, LIST16(1, 4, 3, 5, 4), 5);
+    ask_slot(127, 5, EMPTY32, EMPTY16, 0);
+    ask_slot(128, 5, LIST32(0, 1, 2, 4, 5), path_rows, 0);
+    ask_slot(128, 5, LIST32(0, 1, 2, 4, 5, 5, 5), path_rows, 0);
+    ask_slot(128, 5, LIST32(1, 1, 2, 4, 5, 5), path_rows, 4);
+    ask_slot(128, 5, LIST32(0, 2, 1, 4, 5, 5), path_rows, 4);
+    ask_slot(128, 5, LIST32(0, 1, 2, 4, 3, 5), path_rows, 0);
+    ask_slot(128, 5, starts, LIST16(1, 4, 3, 4), 0);
+    ask_slot(128, 5, starts, LIST16(0, 4, 3, 4, 4), 4);
+    ask_slot(128, 5, starts, LIST16(1, 4, 3, 4, 5), 0);
+    ask_slot(128, 5, starts, LIST16(1, 4, 4, 3, 4), 0);
+}
+
+static void slots(void) {
+    slots_of_path();
+    slots_of_empty_columns();
+    slots_at_limits();
+    slots_of_unsound();
+}
+
 int main(void) {
     worked_meshes();
     telling_meshes();
@@ -348,5 +417,6 @@ int main(void) {
     telling_questions();
     families();
     long_lists();
+    slots();
     return 0;
 }

@@ -1,5 +1,5 @@
 /* Reads a mesh from a Matrix Market text (its path is the argument, samples/foot.mtx if there is none), plans it, writes the plan to a file in
- * memory, reads it back, and asks for a slot and a column. */
+ * memory, reads it back, and asks for a column, for a slot, and for that slot's row and column. */
 #include "ndplan.h"
 #include <stdio.h>
 
@@ -37,13 +37,18 @@ static int write_and_ask(NdpPlan plan) {
 
     NdpPlan read = read_plan(written.length);
     if (read.refusal) return refused(read.refusal);
-    NdpSlot pair = ndp_slot(n, column_starts, n + 1, rows, SLOTS, 4, 1);
-    if (pair.refusal) return refused(pair.refusal);
+    NdpSlot slot = ndp_slot(n, column_starts, n + 1, rows, SLOTS, 4, 1);
+    if (slot.refusal) return refused(slot.refusal);
     NdpRows column = ndp_rows(n, column_starts, n + 1, rows, SLOTS, 1);
     if (column.refusal) return refused(column.refusal);
     printf("read: %u slots; rows of column 1:", read.slots);
     for (uint32_t k = 0; k < column.count; k++) printf(" %u", rows[column.start + k]);
-    printf("; positions 4 and 1: %s %u\n", pair.kind == NDP_SLOT ? "slot" : pair.kind == NDP_DIAGONAL ? "diagonal" : "no slot", pair.slot);
+    printf("; positions 4 and 1: %s %u\n", slot.kind == NDP_SLOT ? "slot" : slot.kind == NDP_DIAGONAL ? "diagonal" : "no slot", slot.slot);
+    if (slot.kind == NDP_SLOT) {
+        NdpPair pair = ndp_pair(n, column_starts, n + 1, rows, SLOTS, slot.slot);
+        if (pair.refusal) return refused(pair.refusal);
+        printf("slot %u: row %u, column %u\n", slot.slot, pair.row, pair.column);
+    }
 
     file[3] = NDP_FILE_VERSION + 1; /* a version that this reader does not know */
     NdpPlan newer = read_plan(written.length);

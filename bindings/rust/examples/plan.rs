@@ -1,6 +1,6 @@
 //! Reads a mesh from a Matrix Market text (its path is the argument, `samples/foot.mtx` if there is none), plans it, writes
 //! the plan to a file's bytes, reads it back and asks about it.
-use ndplan::{OwnedMesh, Pair, Plan};
+use ndplan::{OwnedMesh, PairAnswer, Plan};
 use std::{env, error, fs};
 
 const SAMPLE: &str = concat!(env!("CARGO_MANIFEST_DIR"), "/../../samples/foot.mtx");
@@ -21,10 +21,13 @@ fn main() -> Result<(), Box<dyn error::Error>> {
     println!("file of {} bytes, read back the same: {}", file.len(), again == plan);
 
     println!("column 0 has rows {:?}", again.column(0)?);
-    match again.slot(8, 7)? {
-        Pair::Slot(number) => println!("positions 8 and 7 have slot {number}"),
-        Pair::Diagonal => println!("positions 8 and 7 are the same"),
-        Pair::NoSlot => println!("positions 8 and 7 have no slot"),
+    match again.slot(6, 0)? {
+        PairAnswer::Slot(number) => {
+            let pair = again.pair(number as usize)?;
+            println!("positions 6 and 0 have slot {number}, which is in row {} of column {}", pair.row, pair.column)
+        }
+        PairAnswer::Diagonal => println!("positions 6 and 0 are the same"),
+        PairAnswer::NoSlot => println!("positions 6 and 0 have no slot"),
     }
     let last = lists.nodes;
     if let Err(refusal) = again.column(last) {

@@ -36,6 +36,14 @@ pub struct NdpRows {
 
 #[repr(C)]
 #[derive(Clone, Copy, Debug, PartialEq, Eq)]
+pub struct NdpPair {
+    pub refusal: u32,
+    pub row: u32,
+    pub column: u32,
+}
+
+#[repr(C)]
+#[derive(Clone, Copy, Debug, PartialEq, Eq)]
 pub struct NdpMesh {
     pub refusal: u32,
     pub nodes: u32,
@@ -128,6 +136,15 @@ extern "C" {
         rows_length: usize,
         j: usize,
     ) -> NdpRows;
+
+    pub fn ndp_pair(
+        n: usize,
+        column_starts: *const u32,
+        column_starts_length: usize,
+        rows: *const u16,
+        rows_length: usize,
+        slot: usize,
+    ) -> NdpPair;
 
     pub fn ndp_matrix_market(
         text: *const u8,

@@ -6,7 +6,7 @@
 //! Market text, which [`OwnedMesh`] reads.
 //!
 //! ```
-//! use ndplan::{Mesh, OwnedMesh, Pair, Plan, Refusal};
+//! use ndplan::{Mesh, OwnedMesh, Pair, PairAnswer, Plan, Refusal};
 //!
 //! // The path 0-1-2-3-4.
 //! let mesh = Mesh { nodes: 5, starts: &[0, 1, 3, 5, 7, 8], neighbours: &[1, 0, 2, 1, 3, 2, 4, 3] };
@@ -14,7 +14,8 @@
 //! assert_eq!(plan.order(), [0, 1, 3, 4, 2]);
 //! assert_eq!(plan.sizes(), [2, 2, 1]);
 //! assert_eq!(plan.column(2)?, [3, 4]);
-//! assert_eq!(plan.slot(4, 3)?, Pair::Slot(4));
+//! assert_eq!(plan.slot(4, 3)?, PairAnswer::Slot(4));
+//! assert_eq!(plan.pair(4)?, Pair { row: 4, column: 3 });
 //! assert_eq!(plan.slot(0, 5), Err(Refusal(21)));
 //!
 //! let file = plan.write()?;
@@ -121,12 +122,19 @@ pub struct Layout<'c, 'r> {
 
 /// What a pair of positions has.
 #[derive(Clone, Copy, Debug, PartialEq, Eq)]
-pub enum Pair {
+pub enum PairAnswer {
     /// The slot with this number.
     Slot(u32),
     /// The positions are equal.
     Diagonal,
     NoSlot,
+}
+
+/// The two positions of a slot. The row is the later one.
+#[derive(Clone, Copy, Debug, PartialEq, Eq)]
+pub struct Pair {
+    pub row: u32,
+    pub column: u32,
 }
 
 /// Plans a mesh into `buffers`. The nodes of a part that is no part's parent are then all neighbours of one another.
@@ -208,15 +216,15 @@ pub fn write(plan: &PlanView, file: &mut [u8]) -> Result<usize, Refusal> {
 }
 
 /// What the positions a and b have, in either order. Refuses with 1, 22 and 21. It looks at the whole layout each time.
-pub fn slot(layout: &Layout, a: usize, b: usize) -> Result<Pair, Refusal> {
+pub fn slot(layout: &Layout, a: usize, b: usize) -> Result<PairAnswer, Refusal> {
     let (starts, rows) = (layout.column_starts, layout.rows);
     // SAFETY: each pointer and length is that of a slice, and nothing is written.
     let reply = unsafe { ffi::ndp_slot(layout.nodes, starts.as_ptr(), starts.len(), rows.as_ptr(), rows.len(), a, b) };
     accepted(reply.refusal)?;
     Ok(match reply.kind {
-        ffi::NDP_SLOT => Pair::Slot(reply.slot),
-        ffi::NDP_DIAGONAL => Pair::Diagonal,
-        _ => Pair::NoSlot,
+        ffi::NDP_SLOT => PairAnswer::Slot(reply.slot),
+        ffi::NDP_DIAGONAL => PairAnswer::Diagonal,
+        _ => PairAnswer::NoSlot,
     })
 }
 
@@ -229,6 +237,16 @@ pub fn rows<'r>(layout: &Layout<'_, 'r>, j: usize) -> Result<&'r [u16], Refusal>
     let start = reply.start as usize;
     // The library promises a place inside the rows. Were the promise broken, this would rather end the program than show too few.
     Ok(&rows[start..start + reply.count as usize])
+}
+
+/// The row and the column of a slot; [`slot`] of the two gives it again. Slots are numbered from 0 up to, not including, the
+/// last column start, however long `rows` is. Refuses with 1, 22 and 27. It looks at the whole layout each time.
+pub fn pair(layout: &Layout, slot: usize) -> Result<Pair, Refusal> {
+    let (starts, rows) = (layout.column_starts, layout.rows);
+    // SAFETY: each pointer and length is that of a slice, and nothing is written.
+    let reply = unsafe { ffi::ndp_pair(layout.nodes, starts.as_ptr(), starts.len(), rows.as_ptr(), rows.len(), slot) };
+    accepted(reply.refusal)?;
+    Ok(Pair { row: reply.row, column: reply.column })
 }
 
 /// Reads the mesh of a Matrix Market text, the whole of `text`, into `buffers`. Refuses with 23, 24, 25, 1, 3, 26 and 8.

@@ -1,7 +1,7 @@
 //! A mesh and a plan that own their memory.
 
-use crate::{plan, read, read_matrix_market, rows, slot, write};
-use crate::{Buffers, Counts, Layout, Mesh, MeshBuffers, Pair, PlanView, Refusal};
+use crate::{pair, plan, read, read_matrix_market, rows, slot, write};
+use crate::{Buffers, Counts, Layout, Mesh, MeshBuffers, Pair, PairAnswer, PlanView, Refusal};
 use crate::{MAX_ENTRIES, MAX_NODES, MAX_SLOTS};
 
 /// A mesh with its own memory, each list as long as it is used.
@@ -126,8 +126,13 @@ impl Plan {
     }
 
     /// What the positions a and b have, in either order. Refuses with 21.
-    pub fn slot(&self, a: usize, b: usize) -> Result<Pair, Refusal> {
+    pub fn slot(&self, a: usize, b: usize) -> Result<PairAnswer, Refusal> {
         slot(&self.layout(), a, b)
+    }
+
+    /// The row and the column of a slot; [`slot`](Plan::slot) of the two gives it again. Refuses with 27.
+    pub fn pair(&self, slot: usize) -> Result<Pair, Refusal> {
+        pair(&self.layout(), slot)
     }
 
     /// The plan's file. What planning and reading give is never refused by the writer.

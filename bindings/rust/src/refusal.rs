@@ -30,7 +30,7 @@ pub fn family(number: u32) -> Family {
 }
 
 /// What each number means, from 0 on, in the words of `include/ndplan.h`.
-const TEXTS: [&str; 27] = [
+const TEXTS: [&str; 28] = [
     "accepted",
     "the number of nodes is not 1 to 4096",
     "there is not one start more than nodes, or the starts do not begin at 0, fall, or do not end at the number of neighbour entries",
@@ -58,6 +58,7 @@ const TEXTS: [&str; 27] = [
     "the matrix is not square, an index is outside it, or a row number is less than its column's",
     "a pair is given again, diagonal ones too",
     "a list is longer than 26 entries",
+    "a slot number is not below the number of slots",
 ];
 
 impl Refusal {

@@ -3,7 +3,7 @@
 
 use crate::cliques::uncut_not_clique;
 use crate::guarded::Guarded;
-use ndplan::ffi::{self, NdpPlan, NdpRows, NdpSlot, NdpWritten};
+use ndplan::ffi::{self, NdpPair, NdpPlan, NdpRows, NdpSlot, NdpWritten};
 use ndplan::{Buffers, Counts, Layout, Mesh, Pair, PlanView, Refusal};
 use plain::{FileParts, MeshLists, PairAnswer, Planned, Room};
 
@@ -301,15 +301,15 @@ impl LentLayout {
         Layout { nodes: self.n, column_starts: self.starts.shown(), rows: self.rows.shown() }
     }
 
-    /// Asks for a pair and compares with the plain program's answer, which is given back.
-    pub fn pair(&mut self, a: usize, b: usize) -> Result<PairAnswer, u32> {
+    /// Asks for the slot of a pair and compares with the plain program's answer, which is given back.
+    pub fn slot_of_pair(&mut self, a: usize, b: usize) -> Result<PairAnswer, u32> {
         let (starts, rows) = (self.starts.shown().to_vec(), self.rows.shown().to_vec());
-        let expected = plain::pair(self.n, &starts, &rows, a, b);
+        let expected = plain::slot_of_pair(self.n, &starts, &rows, a, b);
         let (answer, reply) = match expected {
             Err(number) => (Err(Refusal(number)), NdpSlot { refusal: number, kind: 0, slot: 0 }),
-            Ok(PairAnswer::Slot(slot)) => (Ok(Pair::Slot(slot)), NdpSlot { refusal: 0, kind: 1, slot }),
-            Ok(PairAnswer::Diagonal) => (Ok(Pair::Diagonal), NdpSlot { refusal: 0, kind: 2, slot: 0 }),
-            Ok(PairAnswer::NoSlot) => (Ok(Pair::NoSlot), NdpSlot { refusal: 0, kind: 3, slot: 0 }),
+            Ok(PairAnswer::Slot(slot)) => (Ok(ndplan::PairAnswer::Slot(slot)), NdpSlot { refusal: 0, kind: 1, slot }),
+            Ok(PairAnswer::Diagonal) => (Ok(ndplan::PairAnswer::Diagonal), NdpSlot { refusal: 0, kind: 2, slot: 0 }),
+            Ok(PairAnswer::NoSlot) => (Ok(ndplan::PairAnswer::NoSlot), NdpSlot { refusal: 0, kind: 3, slot: 0 }),
         };
         assert_eq!(ndplan::slot(&self.layout(), a, b), answer, "pair {a} {b}, the wrapper");
         let (starts_length, rows_length) = (self.starts.len(), self.rows.len());
@@ -337,6 +337,23 @@ impl LentLayout {
             unsafe { ffi::ndp_rows(self.n, self.starts.pointer(), starts_length, self.rows.pointer(), rows_length, j) };
         let (start, count) = expected.unwrap_or((0, 0));
         assert_eq!(raw, NdpRows { refusal: expected.err().unwrap_or(0), start, count }, "column {j}, the C interface");
+        self.check(&starts, &rows);
+        expected
+    }
+
+    /// Asks for the row and the column of a slot and compares with the plain program's answer, which is given back.
+    pub fn pair_of_slot(&mut self, slot: usize) -> Result<(u32, u32), u32> {
+        let (starts, rows) = (self.starts.shown().to_vec(), self.rows.shown().to_vec());
+        let expected = plain::pair_of_slot(self.n, &starts, &rows, slot);
+        let answer = expected.map(|(row, column)| Pair { row, column }).map_err(Refusal);
+        assert_eq!(ndplan::pair(&self.layout(), slot), answer, "slot {slot}, the wrapper");
+        let (starts_length, rows_length) = (self.starts.len(), self.rows.len());
+        // SAFETY: each pointer and length is that of a lent slice.
+        let raw = unsafe {
+            ffi::ndp_pair(self.n, self.starts.pointer(), starts_length, self.rows.pointer(), rows_length, slot)
+        };
+        let (row, column) = expected.unwrap_or((0, 0));
+        assert_eq!(raw, NdpPair { refusal: expected.err().unwrap_or(0), row, column }, "slot {slot}, the C interface");
         self.check(&starts, &rows);
         expected
     }

@@ -19,6 +19,7 @@ mod families;
 mod large;
 mod large_texts;
 mod list_lengths;
+mod pairs;
 mod plans;
 mod replies;
 mod settled;

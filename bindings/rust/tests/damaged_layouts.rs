@@ -1,4 +1,4 @@
-//! Damaged layouts and positions for the questions.
+//! Damaged layouts, positions and slots for the questions.
 
 use crate::calls::{self, ample_room, LentLayout};
 use crate::damaged_files::border;
@@ -34,6 +34,16 @@ fn change(layout: &mut Parts, random: &mut Random) {
     }
 }
 
+/// Asks for a slot, and gives its refusal: the one that every question on the layout has, or else 27 from the last start on.
+fn compare_slot(layout: &mut LentLayout, parts: &Parts, random: &mut Random) -> Option<u32> {
+    let (last, length) = (parts.starts.last().map_or(0, |last| *last as usize), parts.rows.len());
+    let slots = [0, last.saturating_sub(1), last, last + 1, length, 1 << 32, usize::MAX, random.below(length + 1)];
+    let slot = random.pick(&slots);
+    let refusal = layout.pair_of_slot(slot).err();
+    assert_eq!(refusal, layout.column(0).err().or((slot >= last).then_some(27)));
+    refusal
+}
+
 #[test]
 fn layouts() {
     let (mut random, mut met) = (Random(16), BTreeSet::new());
@@ -52,25 +62,30 @@ fn layouts() {
             let n = mesh.n;
             let positions = [0, n - 1, n, n + 1, 65536, usize::MAX, random.below(n), random.below(n)];
             let (a, b) = (random.pick(&positions), random.pick(&positions));
-            let pair = layout.pair(a, b);
+            let pair = layout.slot_of_pair(a, b);
             let column = layout.column(a);
             if a == b {
                 assert_eq!(pair.err(), column.err());
             }
             met.extend(pair.err().into_iter().chain(column.err()));
+            met.extend(compare_slot(&mut layout, &parts, &mut random));
         }
     }
-    assert_eq!(met, BTreeSet::from([1, 21, 22]));
+    assert_eq!(met, BTreeSet::from([1, 21, 22, 27]));
 }
 
-/// 1 comes before 22, and 22 before 21.
+/// 1 comes before 22, and 22 before 21 and 27.
 #[test]
 fn order_of_the_checks() {
     let mut bad = LentLayout::of(2, &[0, 1, 1], &[2]);
-    assert_eq!((bad.pair(9, 9), bad.column(9)), (Err(22), Err(22)));
+    assert_eq!((bad.slot_of_pair(9, 9), bad.column(9)), (Err(22), Err(22)));
+    assert_eq!((bad.pair_of_slot(0), bad.pair_of_slot(1), bad.pair_of_slot(9)), (Err(22), Err(22), Err(22)));
     let mut none = LentLayout::of(0, &[3], &[2]);
-    assert_eq!((none.pair(9, 9), none.column(9)), (Err(1), Err(1)));
+    assert_eq!((none.slot_of_pair(9, 9), none.column(9)), (Err(1), Err(1)));
+    assert_eq!((none.pair_of_slot(0), none.pair_of_slot(9)), (Err(1), Err(1)));
     let mut sound = LentLayout::of(2, &[0, 1, 1], &[1]);
-    assert_eq!((sound.pair(0, 2), sound.pair(2, 0), sound.column(2)), (Err(21), Err(21), Err(21)));
-    assert_eq!((sound.pair(usize::MAX, 0), sound.column(usize::MAX)), (Err(21), Err(21)));
+    assert_eq!((sound.slot_of_pair(0, 2), sound.slot_of_pair(2, 0), sound.column(2)), (Err(21), Err(21), Err(21)));
+    assert_eq!((sound.slot_of_pair(usize::MAX, 0), sound.column(usize::MAX)), (Err(21), Err(21)));
+    assert_eq!((sound.pair_of_slot(0), sound.pair_of_slot(1)), (Ok((1, 0)), Err(27)));
+    assert_eq!((sound.pair_of_slot(1 << 32), sound.pair_of_slot(usize::MAX)), (Err(27), Err(27)));
 }

@@ -240,8 +240,9 @@ fn files_and_questions_have_no_such_limit() {
         write_expecting(&parts_of(&planned), length, &Ok(file.clone()));
         read_expecting(&file, &exact_room(n, slots), &Ok(planned.clone()));
         let mut layout = LentLayout::of(n, &planned.column_starts, &planned.rows);
-        assert_eq!(layout.pair(n - 1, 0), Ok(PairAnswer::Slot(planned.column_starts[1] - 1)));
+        assert_eq!(layout.slot_of_pair(n - 1, 0), Ok(PairAnswer::Slot(planned.column_starts[1] - 1)));
         assert_eq!(layout.column(0), Ok((0, planned.column_starts[1])));
+        assert_eq!(layout.pair_of_slot(slots - 1).map(|pair| pair.0), Ok(n as u32 - 1));
     }
 }
 

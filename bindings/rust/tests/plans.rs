@@ -66,7 +66,7 @@ pub fn compare_round_trip(planned: &Planned) {
     assert!(owned.unwrap().write().as_ref() == Ok(&file), "the owned plan's file");
 }
 
-/// Asks for every column and for pairs: all of them in a small plan, some in a large one.
+/// Asks for every column and for pairs: all of them in a small plan, some in a large one. Then for slots.
 fn compare_questions(planned: &Planned, random: &mut Random) {
     let n = planned.order.len();
     let mut rows = planned.rows.clone();
@@ -80,9 +80,21 @@ fn compare_questions(planned: &Planned, random: &mut Random) {
         _ => (0..60).map(|_| (random.below(n), random.below(n))).collect(),
     };
     for (a, b) in pairs {
-        let answer = layout.pair(a, b);
+        let answer = layout.slot_of_pair(a, b);
         assert_eq!(answer.is_ok(), a < n && b < n);
-        assert_eq!(answer, layout.pair(b, a));
+        assert_eq!(answer, layout.slot_of_pair(b, a));
+    }
+    compare_slots(&mut layout, planned.rows.len(), random);
+}
+
+/// Asks for slots: all of them in a small plan, some in a large one, and for two numbers behind them.
+fn compare_slots(layout: &mut LentLayout, slots: usize, random: &mut Random) {
+    let asked: Vec<usize> = match slots {
+        0..=66 => (0..slots).collect(),
+        _ => (0..60).map(|_| random.below(slots)).collect(),
+    };
+    for slot in asked.into_iter().chain([slots, slots + 1]) {
+        assert_eq!(layout.pair_of_slot(slot).is_ok(), slot < slots);
     }
 }
 

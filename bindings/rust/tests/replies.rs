@@ -1,8 +1,8 @@
 //! The C interface where a slice is a null pointer with length 0, and the lifetime of shown rows.
 
-use ndplan::ffi::{ndp_matrix_market, ndp_plan, ndp_read, ndp_rows, ndp_slot, ndp_write};
-use ndplan::ffi::{NdpMesh, NdpPlan, NdpRows, NdpSlot, NdpWritten};
-use ndplan::{Layout, Plan, Refusal};
+use ndplan::ffi::{ndp_matrix_market, ndp_pair, ndp_plan, ndp_read, ndp_rows, ndp_slot, ndp_write};
+use ndplan::ffi::{NdpMesh, NdpPair, NdpPlan, NdpRows, NdpSlot, NdpWritten};
+use ndplan::{Layout, Pair, PairAnswer, Plan, Refusal};
 use std::ptr::{null, null_mut};
 
 #[test]
@@ -51,12 +51,15 @@ fn other_functions_without_memory() {
         assert_eq!(written, NdpWritten { refusal: 13, length: 0 });
         assert_eq!(ndp_slot(0, null(), 0, null(), 0, 0, 0), NdpSlot { refusal: 1, kind: 0, slot: 0 });
         assert_eq!(ndp_rows(1, null(), 0, null(), 0, 0), NdpRows { refusal: 22, start: 0, count: 0 });
+        assert_eq!(ndp_pair(0, null(), 0, null(), 0, 7), NdpPair { refusal: 1, row: 0, column: 0 });
+        assert_eq!(ndp_pair(1, null(), 0, null(), 0, 7), NdpPair { refusal: 22, row: 0, column: 0 });
     }
     let starts = [0, 0];
     // SAFETY: the starts are a slice of length 2, the rows are null with length 0.
     unsafe {
         assert_eq!(ndp_slot(1, starts.as_ptr(), 2, null(), 0, 0, 0), NdpSlot { refusal: 0, kind: 2, slot: 0 });
         assert_eq!(ndp_rows(1, starts.as_ptr(), 2, null(), 0, 0), NdpRows { refusal: 0, start: 0, count: 0 });
+        assert_eq!(ndp_pair(1, starts.as_ptr(), 2, null(), 0, 0), NdpPair { refusal: 27, row: 0, column: 0 });
     }
 }
 
@@ -86,7 +89,22 @@ fn shown_rows_outlive_the_question() {
     assert_eq!(shown, Ok(&rows[..2]));
 }
 
-/// The columns and pairs of an owned plan.
+/// Each refusal of the question from slot to pair, where the other fields would have something to tell.
+#[test]
+fn a_refused_slot_has_no_pair() {
+    let (starts, rows) = ([0, 2, 3, 3], [1, 2, 2, 7]);
+    let asked = |n, starts: &[u32], slot| {
+        // SAFETY: each pointer and length is that of a slice.
+        unsafe { ndp_pair(n, starts.as_ptr(), starts.len(), rows.as_ptr(), rows.len(), slot) }
+    };
+    assert_eq!(asked(3, &starts, 2), NdpPair { refusal: 0, row: 2, column: 1 });
+    assert_eq!(asked(3, &starts, 3), NdpPair { refusal: 27, row: 0, column: 0 });
+    assert_eq!(asked(3, &starts[..3], 2), NdpPair { refusal: 22, row: 0, column: 0 });
+    assert_eq!(asked(3, &[0, 2, 3, 4], 2), NdpPair { refusal: 22, row: 0, column: 0 });
+    assert_eq!(asked(4097, &starts, 2), NdpPair { refusal: 1, row: 0, column: 0 });
+}
+
+/// The columns, pairs and slots of an owned plan.
 #[test]
 fn owned_plans_answer_questions() {
     let starts: Vec<u32> = (0..=27u32).map(|v| v * 26).collect();
@@ -98,8 +116,10 @@ fn owned_plans_answer_questions() {
     );
     for j in 0..27 {
         assert_eq!(plan.column(j).unwrap(), (j as u16 + 1..27).collect::<Vec<_>>());
-        assert_eq!(plan.slot(j, j), Ok(ndplan::Pair::Diagonal));
+        assert_eq!(plan.slot(j, j), Ok(PairAnswer::Diagonal));
     }
-    assert_eq!((plan.slot(26, 25), plan.slot(0, 1)), (Ok(ndplan::Pair::Slot(350)), Ok(ndplan::Pair::Slot(0))));
+    assert_eq!((plan.slot(26, 25), plan.slot(0, 1)), (Ok(PairAnswer::Slot(350)), Ok(PairAnswer::Slot(0))));
+    assert_eq!((plan.pair(350), plan.pair(0)), (Ok(Pair { row: 26, column: 25 }), Ok(Pair { row: 1, column: 0 })));
+    assert_eq!((plan.pair(351), plan.pair(usize::MAX)), (Err(Refusal(27)), Err(Refusal(27))));
     assert_eq!((plan.slot(27, 0), plan.column(27)), (Err(Refusal(21)), Err(Refusal(21))));
 }

@@ -161,13 +161,31 @@ fn the_writer_needs_each_slice() {
 #[test]
 fn questions_look_at_the_whole_layout() {
     let starts = [0, 1, 2, 4, 5, 5];
-    assert_eq!(LentLayout::of(5, &starts, &[1, 4, 3, 5, 4]).pair(0, 1), Err(22));
-    assert_eq!(LentLayout::of(5, &starts, &[2, 4, 3, 4, 4]).pair(0, 1), Ok(PairAnswer::NoSlot));
+    assert_eq!(LentLayout::of(5, &starts, &[1, 4, 3, 5, 4]).slot_of_pair(0, 1), Err(22));
+    assert_eq!(LentLayout::of(5, &starts, &[2, 4, 3, 4, 4]).slot_of_pair(0, 1), Ok(PairAnswer::NoSlot));
     assert_eq!(LentLayout::of(5, &starts, &[1, 4, 3, 4, 4, 0, 0]).column(3), Ok((4, 1)));
     assert_eq!(LentLayout::of(5, &starts, &[1, 4, 3, 4]).column(0), Err(22));
-    assert_eq!(LentLayout::of(5, &[0, 1, 2, 4, 5, 5, 5], &[1, 4, 3, 4, 4]).pair(0, 1), Err(22));
-    assert_eq!(LentLayout::of(5, &starts, &[1, 4, 3, 4, 4]).pair(5, 5), Err(21));
-    assert_eq!(LentLayout::of(5, &starts, &[1, 4, 3, 5, 4]).pair(5, 5), Err(22));
-    assert_eq!(LentLayout::of(0, &[], &[]).pair(0, 0), Err(1));
+    assert_eq!(LentLayout::of(5, &[0, 1, 2, 4, 5, 5, 5], &[1, 4, 3, 4, 4]).slot_of_pair(0, 1), Err(22));
+    assert_eq!(LentLayout::of(5, &starts, &[1, 4, 3, 4, 4]).slot_of_pair(5, 5), Err(21));
+    assert_eq!(LentLayout::of(5, &starts, &[1, 4, 3, 5, 4]).slot_of_pair(5, 5), Err(22));
+    assert_eq!(LentLayout::of(0, &[], &[]).slot_of_pair(0, 0), Err(1));
     assert_eq!(LentLayout::of(4097, &[0; 4098], &[]).column(0), Err(1));
+}
+
+/// The slots end at the last start, not at the rows' end; a slot's column is the last that starts at the slot or before it.
+#[test]
+fn slots_end_at_the_last_start() {
+    let (starts, rows) = ([0, 1, 2, 4, 5, 5], [1, 4, 3, 4, 4, 0, 4, 9]);
+    let mut longer = LentLayout::of(5, &starts, &rows);
+    assert_eq!((longer.pair_of_slot(4), longer.pair_of_slot(5)), (Ok((4, 3)), Err(27)));
+    assert_eq!((longer.pair_of_slot(7), longer.pair_of_slot(8)), (Err(27), Err(27)));
+    let mut exact = LentLayout::of(5, &starts, &rows[..5]);
+    assert_eq!((exact.pair_of_slot(4), exact.pair_of_slot(5)), (Ok((4, 3)), Err(27)));
+    assert_eq!(LentLayout::of(5, &starts, &[1, 4, 3, 5, 4]).pair_of_slot(0), Err(22));
+    assert_eq!(LentLayout::of(5, &starts, &[1, 4, 3, 5, 4]).pair_of_slot(5), Err(22));
+    assert_eq!(LentLayout::of(5, &starts, &[1, 4, 3, 4]).pair_of_slot(4), Err(22));
+    assert_eq!(LentLayout::of(0, &[], &[]).pair_of_slot(0), Err(1));
+    assert_eq!(LentLayout::of(3, &[0; 4], &[1]).pair_of_slot(0), Err(27));
+    let mut apart = LentLayout::of(6, &[0, 0, 0, 2, 2, 3, 3], &[4, 5, 5]);
+    assert_eq!([0, 1, 2].map(|slot| apart.pair_of_slot(slot)), [Ok((4, 2)), Ok((5, 2)), Ok((5, 4))]);
 }

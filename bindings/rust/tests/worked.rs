@@ -102,8 +102,18 @@ fn mesh_4_questions() {
             None if a == b => PairAnswer::Diagonal,
             None => PairAnswer::NoSlot,
         };
-        assert_eq!(layout.pair(a, b), Ok(expected));
+        assert_eq!(layout.slot_of_pair(a, b), Ok(expected));
     }
+}
+
+/// Every slot's row and column.
+#[test]
+fn mesh_4_slots() {
+    let plan = mesh_4();
+    let mut layout = LentLayout::of(5, &plan.column_starts, &plan.rows);
+    let pairs = [(1, 0), (4, 1), (3, 2), (4, 2), (4, 3)];
+    assert_eq!([0, 1, 2, 3, 4].map(|slot| layout.pair_of_slot(slot)), pairs.map(Ok));
+    assert_eq!(layout.pair_of_slot(5), Err(27));
 }
 
 #[test]

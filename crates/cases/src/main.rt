@@ -6,6 +6,7 @@ mod files;
 mod long_lists;
 mod questions;
 mod show;
+mod slots;
 
 use crate::show::print_answer;
 use crate::show::print_buffers;
@@ -214,4 +215,5 @@ fn main() {
     questions::all();
     families();
     long_lists::all();
+    slots::all();
 }

@@ -1,6 +1,6 @@
-// Questions that tell misreadings apart. Where nothing else is said the layout is that of mesh 4.
+// Questions about pairs and columns that tell misreadings apart. Where nothing else is said the layout is that of mesh 4.
 use crate::show::print_numbers;
-use crate::show::print_pair;
+use crate::show::print_slot_of_pair;
 use crate::show::print_title;
 use meshes::print_number;
 use plan::Plan;
@@ -8,7 +8,7 @@ use plan::Plan;
 // The question about a pair of positions.
 fn ask_pair(title: u8, n: usize, columnStarts: &[u32], rows: &[u16], a: usize, b: usize) {
     print_title(title);
-    print_pair(layout::pair(n, columnStarts, rows, a, b));
+    print_slot_of_pair(layout::slot_of_pair(n, columnStarts, rows, a, b));
 }
 
 // The question about a column: its companion's number, and the rows.

@@ -1,9 +1,11 @@
 // What a case wrote, as lines of numbers.
 use libc::STDOUT_FILENO;
+use plan::Pair;
 use plan::PairAnswer;
 use plan::Plan;
 use plan::PlanAnswer;
 use plan::RefusalFamily;
+use plan::SlotAnswer;
 use plan::WriteAnswer;
 
 fn end_line() {
@@ -138,11 +140,26 @@ pub(crate) fn print_family(number: u32) {
 }
 
 // The slot, "diagonal", "no slot", or the refusal's number.
-pub(crate) fn print_pair(answer: PairAnswer) {
+pub(crate) fn print_slot_of_pair(answer: PairAnswer) {
     match answer {
         PairAnswer::Slot(slot) => print_slot(slot),
         PairAnswer::Diagonal => print_last(b"diagonal"),
         PairAnswer::NoSlot => print_last(b"no slot"),
         PairAnswer::Refused(number) => print_refusal(number),
+    }
+}
+
+fn print_pair(pair: Pair) {
+    io::write_all(STDOUT_FILENO, b"pair");
+    print_spaced(pair.row as u64);
+    print_spaced(pair.column as u64);
+    end_line();
+}
+
+// The row and the column, or the refusal's number.
+pub(crate) fn print_pair_of_slot(answer: SlotAnswer) {
+    match answer {
+        SlotAnswer::Found(pair) => print_pair(pair),
+        SlotAnswer::Refused(number) => print_refusal(number),
     }
 }

@@ -14,9 +14,11 @@ pub(crate) const PAIR: usize = 2;
 
 pub(crate) const COLUMN: usize = 3;
 
-const ROUND_TRIP: usize = 4;
+pub(crate) const SLOT: usize = 4;
 
-const PLAN: usize = 5;
+const ROUND_TRIP: usize = 5;
+
+const PLAN: usize = 6;
 
 // The subjects, by the number of their first: the meshes that `main` gives by their edges and the plans with every slot, in turn; meshes that a seed
 // draws; lists to be written, and layouts, that a seed draws.
@@ -28,10 +30,10 @@ pub(crate) const DRAWN_DRAFTS: usize = 2000;
 
 pub(crate) const DRAWN_LAYOUTS: usize = 6000;
 
-// Answers by operation and refusal, 23 to an operation; 0 is an answer that is no refusal. `subject` is what is tried, and `turn` how many
+// Answers by operation and refusal, 28 to an operation; 0 is an answer that is no refusal. `subject` is what is tried, and `turn` how many
 // comparisons of it were made: they tell where a difference is.
 pub(crate) struct Counts {
-    met: [usize; 92],
+    met: [usize; 140],
     too_large: usize,
     meshes_refused: usize,
     round_trips: usize,
@@ -42,7 +44,7 @@ pub(crate) struct Counts {
 
 pub(crate) fn none() -> Counts {
     Counts {
-        met: [0; 92],
+        met: [0; 140],
         too_large: 0,
         meshes_refused: 0,
         round_trips: 0,
@@ -91,9 +93,9 @@ pub(crate) fn counted(mut c: Counts, operation: usize, refusal: u32, same: bool)
         return c;
     }
     let number = refusal as usize;
-    if operation < 4 {
-        if number < 23 {
-            let at = operation * 23 + number;
+    if operation < 5 {
+        if number < 28 {
+            let at = operation * 28 + number;
             c.met[at] = more(c.met[at]);
         }
     }
@@ -109,6 +111,8 @@ fn print_name(operation: usize) {
         io::write_all(STDOUT_FILENO, b"pair ");
     } else if operation == COLUMN {
         io::write_all(STDOUT_FILENO, b"column ");
+    } else if operation == SLOT {
+        io::write_all(STDOUT_FILENO, b"slot ");
     } else if operation == ROUND_TRIP {
         io::write_all(STDOUT_FILENO, b"round trip ");
     } else {
@@ -117,9 +121,9 @@ fn print_name(operation: usize) {
 }
 
 fn met(c: Counts, operation: usize, refusal: usize) -> usize {
-    if operation < 4 {
-        if refusal < 23 {
-            let at = operation * 23 + refusal;
+    if operation < 5 {
+        if refusal < 28 {
+            let at = operation * 28 + refusal;
             return c.met[at];
         }
     }
@@ -137,14 +141,14 @@ fn print_met(c: Counts, operation: usize, refusal: usize) {
 }
 
 fn print_operation(c: Counts, operation: usize) {
-    for refusal in 0..23usize {
+    for refusal in 0..28usize {
         print_met(c, operation, refusal);
     }
 }
 
 // A line for each answer that was met.
 pub(crate) fn print(c: Counts) {
-    for operation in 0..4usize {
+    for operation in 0..5usize {
         print_operation(c, operation);
     }
     io::write_all(STDOUT_FILENO, b"too large to compare ");

@@ -13,6 +13,8 @@ use crate::draft::entry;
 use crate::draft::with_entry;
 use crate::draft::with_length;
 use crate::drawn::drawn_draft;
+use crate::slots::ask_slots;
+use crate::slots::leads_home;
 use meshes::first16;
 use meshes::first32;
 use meshes::holds16;
@@ -34,10 +36,16 @@ fn same_pair(answer: PairAnswer, p: NaivePair) -> bool {
     }
 }
 
+// The question about a pair. Where it has a slot, the way back is asked too.
 fn ask_pair(c: Counts, n: usize, starts: &[u32], rows: &[u16], a: usize, b: usize) -> Counts {
-    let p = naive::pair(n, starts, rows, a, b);
-    let answer = layout::pair(n, starts, rows, a, b);
-    counted(c, PAIR, p.refusal, same_pair(answer, p))
+    let p = naive::slot_of_pair(n, starts, rows, a, b);
+    let answer = layout::slot_of_pair(n, starts, rows, a, b);
+    counted(
+        c,
+        PAIR,
+        p.refusal,
+        same_pair(answer, p) && leads_home(n, starts, rows, a, b, answer),
+    )
 }
 
 fn part<'a>(rows: &'a [u16], first: usize, end: usize) -> &'a [u16] {
@@ -93,12 +101,17 @@ fn ask_all(c: Counts, n: usize, starts: &[u32], rows: &[u16], end: usize) -> Cou
     d
 }
 
-// Every question over a draft's layout, about the positions of n nodes and two beyond.
+// Every question over a layout, about its slots and the positions below `end`.
+fn ask(c: Counts, n: usize, starts: &[u32], rows: &[u16], end: usize) -> Counts {
+    ask_slots(ask_all(c, n, starts, rows, end), n, starts, rows)
+}
+
+// Every question over a draft's layout, about its slots, the positions of n nodes and two beyond.
 fn ask_draft(c: Counts, d: Draft, n: usize) -> Counts {
     let starts = d.column_starts;
     let rows = d.rows;
     let l = d.lengths;
-    ask_all(
+    ask(
         c,
         d.n,
         first32(&starts, l[3]),

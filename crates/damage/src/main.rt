@@ -11,6 +11,7 @@ mod file;
 mod files;
 mod held;
 mod layouts;
+mod slots;
 
 use crate::counts::Counts;
 use crate::counts::DRAWN_MESHES;

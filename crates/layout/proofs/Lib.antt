@@ -9,6 +9,5 @@ pub mod Grown
 pub mod Climbs
 pub mod Rows
 pub mod ColumnScan
-pub mod Asked
 pub mod Answered
 pub mod Ended

@@ -1,4 +1,5 @@
-// Checks that several entry points make: 8, of the lent results, 17's rule of a column's rows, and 22, of a layout.
+// Checks that several entry points make: 8, of the lent results, 17's rule of a column's rows, and 22, of a layout, alone and behind 1.
+use mesh::bad_node_count;
 use mesh::bad_starts;
 use mesh::index;
 use mesh::list;
@@ -7,10 +8,11 @@ ghost use mathlib.Core.Path.{_≡_};
 ghost use mathlib.Core.Bool.{false};
 ghost use Prim.Native.Nat.{_≤_};
 ghost use lib.ListN.{length, getD};
+ghost use Rattle.plan.specs.Refusals.{firstFault};
 ghost use Rattle.plan.specs.Mesh.{badStarts};
 ghost use Rattle.plan.specs.Planning.{buffersTooShort, lengths};
 ghost use Rattle.plan.specs.File.{badColumn, badColumns};
-ghost use Rattle.plan.specs.Questions.{badLayout};
+ghost use Rattle.plan.specs.Questions.{badLayout, layoutChecks};
 
 // Check 8: a lent result other than the rows is too short. O(1).
 pub fn buffers_too_short(
@@ -80,4 +82,17 @@ pub fn bad_layout(n: usize, columnStarts: &[u32], rows: &[u16]) -> bool
         return true;
     }
     bad_columns(n, columnStarts, rows)
+}
+
+// The first refusal of checks 1 and 22, 0 for none. O(n + slots).
+pub(crate) fn layout_refusal(n: usize, columnStarts: &[u32], rows: &[u16]) -> u32
+    ensures { λ r. ⌜ r ≡ firstFault (layoutChecks n (now (columnStarts .entry)) (now (rows .entry))) ⌝ }
+{
+    if bad_node_count(n) {
+        return 1;
+    }
+    if bad_layout(n, columnStarts, rows) {
+        return 22;
+    }
+    0
 }

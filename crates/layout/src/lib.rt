@@ -5,6 +5,7 @@ mod columns;
 mod counts;
 mod positions;
 mod questions;
+mod slots;
 
 pub use checks::bad_column;
 pub use checks::bad_layout;
@@ -18,4 +19,5 @@ pub use positions::invert;
 pub use questions::column_refusal;
 pub use questions::column_rows;
 pub use questions::column_span;
-pub use questions::pair;
+pub use questions::slot_of_pair;
+pub use slots::pair_of_slot;

@@ -1,7 +1,6 @@
 // "Two questions over a layout (n, column starts, rows)": the slot of a pair of positions, and a column's rows.
 // Each looks at the whole layout first.
-use crate::checks::bad_layout;
-use mesh::bad_node_count;
+use crate::checks::layout_refusal;
 use mesh::index;
 use mesh::list;
 use mesh::lower_bound;
@@ -11,23 +10,9 @@ use plan::Span;
 ghost use mathlib.Core.Path.{_≡_};
 ghost use mathlib.Core.Bool.{true};
 ghost use Rattle.plan.specs.Lists.{ascending, listAt};
-ghost use Rattle.plan.specs.Refusals.{firstFault};
 ghost use Rattle.plan.specs.Answers.{accepted, pairReply};
-ghost use Rattle.plan.specs.Questions.{layoutChecks, slotOf, pairQuestion, columnRefusal, columnSpan, columnRows};
+ghost use Rattle.plan.specs.Questions.{slotOf, pairQuestion, columnRefusal, columnSpan, columnRows};
 ghost use Rattle.mesh.specs.Lists.{ListWithin};
-
-// The first refusal of checks 1 and 22, 0 for none. O(n + slots).
-fn layout_refusal(n: usize, columnStarts: &[u32], rows: &[u16]) -> u32
-    ensures { λ r. ⌜ r ≡ firstFault (layoutChecks n (now (columnStarts .entry)) (now (rows .entry))) ⌝ }
-{
-    if bad_node_count(n) {
-        return 1;
-    }
-    if bad_layout(n, columnStarts, rows) {
-        return 22;
-    }
-    0
-}
 
 // The slot of row i of column j, if it has one. O(log rows of the column).
 fn slot(columnStarts: &[u32], rows: &[u16], i: usize, j: usize) -> PairAnswer
@@ -46,7 +31,7 @@ fn slot(columnStarts: &[u32], rows: &[u16], i: usize, j: usize) -> PairAnswer
 }
 
 // The first question: the slot of a pair of positions, in either order. Checks 1, 22, 21. O(n + slots).
-pub fn pair(n: usize, columnStarts: &[u32], rows: &[u16], a: usize, b: usize) -> PairAnswer
+pub fn slot_of_pair(n: usize, columnStarts: &[u32], rows: &[u16], a: usize, b: usize) -> PairAnswer
     ensures { λ r. ⌜ pairReply r ≡ pairQuestion n (now (columnStarts .entry)) (now (rows .entry)) a b ⌝ }
 {
     let fault = layout_refusal(n, columnStarts, rows);

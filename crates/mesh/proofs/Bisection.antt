@@ -8,9 +8,9 @@ use native.Mathlib.Omega.{arith}
 use lib.Dec.{eqb, ltb}
 use lib.ListN.{length, getD}
 use borrow.Author.Tests.{eq-eqb, ne-eqb, lt-ltb, le-ltb}
-use Rattle.plan.specs.Lists.{isIn, indexOf, below, ascending}
+use Rattle.plan.specs.Lists.{isIn, below, ascending}
 use Rattle.theory.proofs.Bools.{eq-or-ne, lt-or-le}
-use Rattle.theory.proofs.Lists.{none-exists, getD-indexOf, indexOf-le}
+use Rattle.theory.proofs.Lists.{none-exists}
 use Rattle.theory.proofs.Ranges.{isIn-below}
 use Rattle.theory.proofs.Ascending.{ascending-tail, ascending-lt, ascending-getD}
 use Rattle.theory.specs.Counting.{count}
@@ -132,12 +132,3 @@ module _ (l : List ℕ) (x k : ℕ) (h : ascending l ≡ true) (b : LowerBound l
     | inl e ↦ eq-eqb (getD l k 0) x e ∙ sym (found-in (eqb x) l k lt (eq-eqb x (getD l k 0) (sym e)))
     | inr e ↦ ne-eqb (getD l k 0) x e ∙ sym (place-none (λ s. e))
   ]
-
--- where x is at its place, that place is its first
-pub place-first : (l : List ℕ) (x k : ℕ) → LowerBound l x k → k < length l → getD l k 0 ≡ x → indexOf x l ≡ k
-place-first l x k b lt e =
-    let le : indexOf x l ≤ k = rw e at (indexOf-le l k 0 lt) in
-    elim (lt-or-le (indexOf x l) k) [
-      | inl s ↦ absurd (omega (arith, b .before (indexOf x l) s, getD-indexOf l x 0 (omega arith)))
-      | inr s ↦ omega arith
-    ]

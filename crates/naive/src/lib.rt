@@ -24,8 +24,10 @@ pub use file::read;
 pub use file::write;
 pub use questions::NaiveColumn;
 pub use questions::NaivePair;
+pub use questions::NaiveSlot;
 pub use questions::column;
-pub use questions::pair;
+pub use questions::pair_of_slot;
+pub use questions::slot_of_pair;
 pub use text::NaiveMesh;
 pub use text::read_text;
 

@@ -17,6 +17,7 @@ use Rattle.ndplan.specs.declared.replies.NdpPlan.{NdpPlan}
 use Rattle.ndplan.specs.declared.replies.NdpWritten.{NdpWritten}
 use Rattle.ndplan.specs.declared.replies.NdpSlot.{NdpSlot}
 use Rattle.ndplan.specs.declared.replies.NdpRows.{NdpRows}
+use Rattle.ndplan.specs.declared.replies.NdpPair.{NdpPair}
 use Rattle.ndplan.specs.declared.replies.NdpMesh.{NdpMesh}
 
 -- The number of the refusal, then the values in their order. A refusal has no values, so that every other field is 0, as is the slot of "diagonal"
@@ -35,6 +36,9 @@ ndpWritten r = record { refusal = r .number; length = getD (r .values) 0 0 }
 
 abbrev pub ndpSlot : Reply → NdpSlot
 ndpSlot r = record { refusal = r .number; kind = getD (r .values) 0 0; slot = getD (r .values) 1 0 }
+
+abbrev pub ndpPair : Reply → NdpPair
+ndpPair r = record { refusal = r .number; row = getD (r .values) 0 0; column = getD (r .values) 1 0 }
 
 abbrev pub ndpMesh : Reply → NdpMesh
 ndpMesh r = record { refusal = r .number; nodes = getD (r .values) 0 0; entries = getD (r .values) 1 0 }

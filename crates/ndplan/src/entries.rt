@@ -1,5 +1,6 @@
 // The entry points. Each does what the function of the same work does, under the same promise; what C is told is defined in specs/Replies.
 use crate::replies::NdpMesh;
+use crate::replies::NdpPair;
 use crate::replies::NdpPlan;
 use crate::replies::NdpRows;
 use crate::replies::NdpSlot;
@@ -8,9 +9,11 @@ use crate::replies::family_number;
 use crate::replies::mesh_reply;
 use crate::replies::pair_reply;
 use crate::replies::plan_reply;
+use crate::replies::slot_reply;
 use crate::replies::write_reply;
 use layout::column_refusal;
-use layout::pair;
+use layout::pair_of_slot;
+use layout::slot_of_pair;
 use plan::family;
 use planfile::read;
 use planfile::write;
@@ -22,9 +25,9 @@ ghost use Rattle.plan.specs.Mesh.{lent};
 ghost use Rattle.plan.specs.Planning.{contents, buffers, capacity, Filled, Planned};
 ghost use Rattle.plan.specs.Reading.{reading};
 ghost use Rattle.plan.specs.Writing.{Wrote};
-ghost use Rattle.plan.specs.Questions.{pairQuestion, columnRefusal, columnSpan};
+ghost use Rattle.plan.specs.Questions.{pairQuestion, columnRefusal, columnSpan, slotQuestion};
 ghost use Rattle.plan.specs.MatrixMarket.{meshBuffers, TextRead};
-ghost use Rattle.ndplan.specs.Replies.{planAnswerOf, writeAnswerOf, meshAnswerOf, ndpPlan, ndpWritten, ndpSlot, ndpRows, ndpMesh, familyNumber};
+ghost use Rattle.ndplan.specs.Replies.{planAnswerOf, writeAnswerOf, meshAnswerOf, ndpPlan, ndpWritten, ndpSlot, ndpRows, ndpPair, ndpMesh, familyNumber};
 
 // Planning, as planner::plan does it, at its cost.
 #[no_mangle]
@@ -95,7 +98,7 @@ pub extern "C" fn ndp_write(
     write_reply(write(n, p, s, order, sizes, parents, columnStarts, rows, file))
 }
 
-// The first question, as layout::pair answers it. O(n + slots).
+// The first question, as layout::slot_of_pair answers it. O(n + slots).
 #[no_mangle]
 pub extern "C" fn ndp_slot(
     n: usize,
@@ -106,7 +109,7 @@ pub extern "C" fn ndp_slot(
 ) -> NdpSlot
     ensures { λ r. ⌜ r ≡ ndpSlot (pairQuestion n (now (columnStarts .entry)) (now (rows .entry)) a b) ⌝ }
 {
-    pair_reply(pair(n, columnStarts, rows, a, b))
+    pair_reply(slot_of_pair(n, columnStarts, rows, a, b))
 }
 
 // The second question and its companion, over one look at the layout. O(n + slots).
@@ -128,6 +131,14 @@ pub extern "C" fn ndp_rows(n: usize, columnStarts: &[u32], rows: &[u16], j: usiz
         start,
         count: columnStarts[j + 1] - start,
     }
+}
+
+// The question about a slot, as layout::pair_of_slot answers it. O(n + slots).
+#[no_mangle]
+pub extern "C" fn ndp_pair(n: usize, columnStarts: &[u32], rows: &[u16], slot: usize) -> NdpPair
+    ensures { λ r. ⌜ r ≡ ndpPair (slotQuestion n (now (columnStarts .entry)) (now (rows .entry)) slot) ⌝ }
+{
+    slot_reply(pair_of_slot(n, columnStarts, rows, slot))
 }
 
 // Reading a Matrix Market text, as matrix_market::read does it, at its cost.

@@ -4,10 +4,11 @@ use plan::MeshAnswer;
 use plan::PairAnswer;
 use plan::PlanAnswer;
 use plan::RefusalFamily;
+use plan::SlotAnswer;
 use plan::WriteAnswer;
 ghost use mathlib.Core.Path.{_≡_};
-ghost use Rattle.plan.specs.Answers.{planReply, writeReply, pairReply, meshReply};
-ghost use Rattle.ndplan.specs.Replies.{ndpPlan, ndpWritten, ndpSlot, ndpMesh, familyNumber};
+ghost use Rattle.plan.specs.Answers.{planReply, writeReply, pairReply, slotReply, meshReply};
+ghost use Rattle.ndplan.specs.Replies.{ndpPlan, ndpWritten, ndpSlot, ndpPair, ndpMesh, familyNumber};
 
 // What planning and reading answer: the refusal's number, 0 for none, and the counts of the plan.
 #[repr(C)]
@@ -41,6 +42,14 @@ pub struct NdpRows {
     pub refusal: u32,
     pub start: u32,
     pub count: u32,
+}
+
+// What the question about a slot answers: the refusal's number, 0 for none, and the slot's row and column.
+#[repr(C)]
+pub struct NdpPair {
+    pub refusal: u32,
+    pub row: u32,
+    pub column: u32,
 }
 
 // What reading a text answers: the refusal's number, 0 for none, and the counts of the mesh.
@@ -113,6 +122,24 @@ pub(crate) fn pair_reply(answer: PairAnswer) -> NdpSlot
             refusal: k,
             kind: 0,
             slot: 0,
+        },
+    }
+}
+
+// The reply of the question about a slot. O(1).
+pub(crate) fn slot_reply(answer: SlotAnswer) -> NdpPair
+    ensures { λ r. ⌜ r ≡ ndpPair (slotReply answer) ⌝ }
+{
+    match answer {
+        SlotAnswer::Found(p) => NdpPair {
+            refusal: 0,
+            row: p.row,
+            column: p.column,
+        },
+        SlotAnswer::Refused(k) => NdpPair {
+            refusal: k,
+            row: 0,
+            column: 0,
         },
     }
 }

@@ -30,6 +30,13 @@ pub struct NdpRows {
 }
 
 #[repr(C)]
+pub struct NdpPair {
+    pub refusal: u32,
+    pub row: u32,
+    pub column: u32,
+}
+
+#[repr(C)]
 pub struct NdpMesh {
     pub refusal: u32,
     pub nodes: u32,
@@ -110,6 +117,15 @@ extern "C" {
         rows_length: usize,
         j: usize,
     ) -> NdpRows;
+
+    pub fn plain_pair(
+        n: usize,
+        column_starts: *const u32,
+        column_starts_length: usize,
+        rows: *const u16,
+        rows_length: usize,
+        slot: usize,
+    ) -> NdpPair;
 
     pub fn plain_matrix_market(
         text: *const u8,

@@ -3,7 +3,7 @@
 
 mod ffi;
 
-use ffi::{NdpMesh, NdpPlan, NdpRows, NdpSlot, NdpWritten};
+use ffi::{NdpMesh, NdpPair, NdpPlan, NdpRows, NdpSlot, NdpWritten};
 use std::ffi::CStr;
 use std::sync::{Mutex, MutexGuard, PoisonError};
 
@@ -194,7 +194,7 @@ pub fn write(plan: &FileParts, room: usize) -> Result<Vec<u8>, u32> {
 }
 
 /// What a pair of positions has.
-pub fn pair(n: usize, starts: &[u32], rows: &[u16], a: usize, b: usize) -> Result<PairAnswer, u32> {
+pub fn slot_of_pair(n: usize, starts: &[u32], rows: &[u16], a: usize, b: usize) -> Result<PairAnswer, u32> {
     let _turn = turn();
     // SAFETY: each pointer and length is that of a slice, and no other call runs.
     let NdpSlot { refusal, kind, slot } =
@@ -210,10 +210,19 @@ pub fn pair(n: usize, starts: &[u32], rows: &[u16], a: usize, b: usize) -> Resul
 /// Where column j's rows stand: start and count.
 pub fn column(n: usize, starts: &[u32], rows: &[u16], j: usize) -> Result<(u32, u32), u32> {
     let _turn = turn();
-    // SAFETY: as in `pair`.
+    // SAFETY: as in `slot_of_pair`.
     let NdpRows { refusal, start, count } =
         unsafe { ffi::plain_rows(n, starts.as_ptr(), starts.len(), rows.as_ptr(), rows.len(), j) };
     accepted(refusal, (start, count))
+}
+
+/// The row and the column of a slot.
+pub fn pair_of_slot(n: usize, starts: &[u32], rows: &[u16], slot: usize) -> Result<(u32, u32), u32> {
+    let _turn = turn();
+    // SAFETY: as in `slot_of_pair`.
+    let NdpPair { refusal, row, column } =
+        unsafe { ffi::plain_pair(n, starts.as_ptr(), starts.len(), rows.as_ptr(), rows.len(), slot) };
+    accepted(refusal, (row, column))
 }
 
 /// Reads a Matrix Market text into so many starts and neighbours.

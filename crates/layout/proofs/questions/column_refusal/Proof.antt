@@ -5,7 +5,7 @@ use borrow.Author.Tests.{le-leb, lt-leb}
 use borrow.Author.Needs.{needs}
 use Rattle.plan.specs.Refusals.{firstFault}
 use Rattle.plan.specs.Questions.{layoutChecks, positionOutside, columnRefusal}
-use Rattle.layout.proofs.Asked.{layout-fault, position-fault, no-question-fault}
+use Rattle.theory.proofs.Asked.{layout-fault, position-fault, no-question-fault}
 use Rattle.layout.proofs.questions.column_refusal.Statement.{statement}
 use Rattle.layout.proofs.questions.column_refusal.Tie as tie
 

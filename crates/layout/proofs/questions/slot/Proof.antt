@@ -11,10 +11,11 @@ use borrow.Author.Needs.{needs}
 use Rattle.plan.specs.Lists.{isIn, listAt, ascending}
 use Rattle.plan.specs.Answers.{accepted, noSlotCase}
 use Rattle.plan.specs.Questions.{slotOf}
+use Rattle.theory.proofs.Ascending.{ascending-indexOf}
+use Rattle.theory.proofs.SlotsAndPairs.{slot-none, slot-found}
 use Rattle.mesh.specs.Lists.{LowerBound}
-use Rattle.mesh.proofs.Bisection.{less-bound, place-none, place-in, place-first}
+use Rattle.mesh.proofs.Bisection.{less-bound, place-none, place-in}
 use Rattle.mesh.proofs.Lists.{list-long}
-use Rattle.layout.proofs.Answered.{slot-none, slot-found}
 use Rattle.layout.proofs.questions.slot.Statement.{statement}
 use Rattle.layout.proofs.questions.slot.Tie as tie
 
@@ -70,7 +71,7 @@ returns-3 c =
     let found : isIn (s .args .i) (column s) ≡ true = sym (place-in (column s) (s .args .i) (l .lower-bound .result) (s .pre .1) (placed l) (inside e)) ∙ eq-eqb _ _ there in
     ap accepted
     (sym (slot-found (s .args .columnStarts .now) (s .args .rows .now) (s .args .i) (s .args .j) (l .lower-bound .result) found
-    (place-first (column s) (s .args .i) (l .lower-bound .result) (placed l) (inside e) there)))
+    (rw there at (ascending-indexOf (column s) (s .pre .1) (l .lower-bound .result) (inside e)))))
 
 pub slot-spec : {M : Type 1} → statement M
 slot-spec =

@@ -1,12 +1,12 @@
--- `layout::questions::layout_refusal` meets its contract: its tests are the two checks, in their order.
+-- `layout::checks::layout_refusal` meets its contract: its tests are the two checks, in their order.
 use mathlib.Core.Path.{_≡_, sym, _∙_}
 use mathlib.Core.Bool.{false}
 use borrow.Author.Needs.{needs}
 use Rattle.plan.specs.Refusals.{firstFault}
 use Rattle.plan.specs.Mesh.{badNodeCount}
 use Rattle.plan.specs.Questions.{layoutChecks}
-use Rattle.layout.proofs.questions.layout_refusal.Statement.{statement}
-use Rattle.layout.proofs.questions.layout_refusal.Tie as tie
+use Rattle.layout.proofs.checks.layout_refusal.Statement.{statement}
+use Rattle.layout.proofs.checks.layout_refusal.Tie as tie
 
 -- check 1 found no fault
 counted : (c : tie.Else1) → badNodeCount (c .before .before .before .before .args .n) ≡ false

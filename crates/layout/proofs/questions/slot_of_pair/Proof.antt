@@ -1,4 +1,4 @@
--- `layout::questions::pair` meets its contract: its tests are the question's checks, and the slot is that of the later position in the
+-- `layout::questions::slot_of_pair` meets its contract: its tests are the question's checks, and the slot is that of the later position in the
 -- earlier's column.
 use mathlib.Core.Path.{_≡_, sym, _∙_}
 use native.Mathlib.Omega.{arith}
@@ -8,10 +8,11 @@ use borrow.Author.Needs.{needs}
 use Rattle.plan.specs.Refusals.{firstFault}
 use Rattle.plan.specs.Questions.{layoutChecks, positionOutside}
 use Rattle.theory.proofs.Bools.{or-left, or-right}
-use Rattle.layout.proofs.Asked.{GoodLayout, good-layout}
-use Rattle.layout.proofs.Answered.{good-within, good-ascends, pair-layout, pair-outside, pair-same, pair-slot}
-use Rattle.layout.proofs.questions.pair.Statement.{statement}
-use Rattle.layout.proofs.questions.pair.Tie as tie
+use Rattle.theory.proofs.Asked.{GoodLayout, good-layout}
+use Rattle.theory.proofs.SlotsAndPairs.{pair-layout, pair-outside, pair-same, pair-slot}
+use Rattle.layout.proofs.Answered.{good-within, good-ascends}
+use Rattle.layout.proofs.questions.slot_of_pair.Statement.{statement}
+use Rattle.layout.proofs.questions.slot_of_pair.Tie as tie
 
 -- the function's start, seen from the test of the layout's fault
 abbrev start : tie.Else1 → tie.Start
@@ -74,6 +75,6 @@ returns-6 c =
     c .slot2 .ensures
     ∙ sym (pair-slot (s .n) (s .columnStarts .now) (s .rows .now) (s .a) (s .b) (no-layout-fault e) (omega arith) (omega arith) (s .a) (s .b) (c .before .before .if4 .left) (omega arith) (omega arith))
 
-pub pair-spec : {M : Type 1} → statement M
-pair-spec =
+pub slot-of-pair-spec : {M : Type 1} → statement M
+slot-of-pair-spec =
     tie.close (tie.spec (λ c κs. search needs) returns returns-2 returns-3 returns-4 slot-requires returns-5 slot-requires-2 returns-6)
