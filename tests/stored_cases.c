@@ -287,7 +287,7 @@ static void telling_questions(void) {
 /* Numbers at both ends of each family, and just outside. */
 static void families(void) {
     static const char *const names[] = {"none", "mesh", "file", "program", "question"};
-    static const uint32_t numbers[] = {0, 1, 9, 10, 19, 20, 21, 22, 23, 26};
+    static const uint32_t numbers[] = {0, 1, 9, 10, 19, 20, 21, 22, 23, 27};
     printf("case 91\n");
     for (size_t k = 0; k < sizeof numbers / sizeof *numbers; k++) printf("%u %s\n", numbers[k], names[plain_family(numbers[k])]);
 }

@@ -203,7 +203,7 @@ fn families() {
     print_family(21);
     print_family(22);
     print_family(23);
-    print_family(26);
+    print_family(27);
 }
 
 fn main() {
