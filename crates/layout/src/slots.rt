@@ -12,7 +12,7 @@ ghost use Rattle.plan.specs.Mesh.{badStarts};
 ghost use Rattle.plan.specs.Questions.{columnOf, slotQuestion};
 
 // The column that holds slot s: the last that starts at s or before, since a column without rows starts where the next one does.
-// By bisection: column `low` starts at s or before, and column `high` behind s, or `high` is n, where the slots end behind s. O(log n).
+// By bisection: start `low` is not above s, and start `high` is; start n is the number of slots. O(log n).
 fn column_of(n: usize, columnStarts: &[u32], s: usize) -> usize
     requires { ⌜ (badStarts n (now columnStarts) ≡ false) × (s < getD (now columnStarts) n 0) ⌝ }
     ensures { λ r. ⌜ r ≡ columnOf n (now (columnStarts .entry)) s ⌝ }
@@ -27,7 +27,7 @@ fn column_of(n: usize, columnStarts: &[u32], s: usize) -> usize
             high = middle;
         }
     }
-    // column low + 1 starts behind s, or the slots end there
+    // start low + 1 is above s: column low holds it
     low
 }
 

@@ -71,7 +71,7 @@ module _ (n : ℕ) (columnStarts rows : List ℕ) (a b : ℕ) where
       unfolding pairFound
       pair-slot i j ne later earlier = pair-inside ∙ ap accepted (cond-false (eqb a b) _ _ (ne-eqb a b ne) ∙ rw (later, earlier))
 
-  -- an answer that is none of a refusal: no check found a fault
+  -- an answer that is no refusal: no check found a fault
   pair-clear : (values : List ℕ) → pairQuestion n columnStarts rows a b ≡ accepted values → firstFault (questionChecks n columnStarts rows (a ∷ b ∷ [])) ≡ 0
   unfolding pairQuestion pairFound
   pair-clear values h = go (firstFault (questionChecks n columnStarts rows (a ∷ b ∷ []))) (ap (λ (r : Reply). r .number) h)
@@ -148,7 +148,7 @@ module _ (n : ℕ) (columnStarts rows : List ℕ) (s : ℕ) where
   unfolding slotFound
   slot-inside e = by-slot-fault 0 e
 
-  -- an answer that is none of a refusal: no check found a fault
+  -- an answer that is no refusal: no check found a fault
   slot-clear : (values : List ℕ) → slotQuestion n columnStarts rows s ≡ accepted values → firstFault (slotChecks n columnStarts rows s) ≡ 0
   unfolding slotQuestion slotFound
   slot-clear values h = go (firstFault (slotChecks n columnStarts rows s)) (ap (λ (r : Reply). r .number) h)
@@ -181,44 +181,50 @@ module _ (n : ℕ) (columnStarts rows : List ℕ) (g : GoodLayout n columnStarts
 
 -- ---- each leads home
 
--- a slot of a layout without a fault: what its pair is, and that this pair has the slot
+-- a slot of a layout without a fault: its row is later than its column, and the slot of the two is that slot
 module _ (n : ℕ) (columnStarts rows : List ℕ) (s : ℕ) (clear : firstFault (layoutChecks n columnStarts rows) ≡ 0) (lt : s < getD columnStarts n 0) where
   good : GoodLayout n columnStarts rows
   good = good-layout n columnStarts rows clear
 
-  held : Holds n columnStarts s (columnOf n columnStarts s)
+  -- its row and its column, the rows of this, and the slot's place among them
+  abbrev i : ℕ
+  i = getD rows s 0
+
+  abbrev j : ℕ
+  j = columnOf n columnStarts s
+
+  abbrev column : List ℕ
+  column = listAt columnStarts rows j
+
+  abbrev place : ℕ
+  place = s - getD columnStarts j 0
+
+  held : Holds n columnStarts s j
   held = column-found n columnStarts s (good-starts n columnStarts (good .starts)) lt
 
-  -- its place in its column
-  abbrev place : ℕ
-  place = s - getD columnStarts (columnOf n columnStarts s) 0
+  behind-start : getD columnStarts j 0 + place ≡ s
+  behind-start = omega (arith, held .1)
 
-  inside : place < length (listAt columnStarts rows (columnOf n columnStarts s))
-  inside = omega (arith, held .1, held .2, column-long n columnStarts rows good (columnOf n columnStarts s) (held .0))
+  inside : place < length column
+  inside = omega (arith, held .1, held .2, column-long n columnStarts rows good j (held .0))
 
-  -- its row stands there
-  row-there : getD (listAt columnStarts rows (columnOf n columnStarts s)) place 0 ≡ getD rows s 0
-  row-there =
-      let e : getD columnStarts (columnOf n columnStarts s) 0 + place ≡ s = omega (arith, held .1) in
-      row-at n columnStarts rows good (columnOf n columnStarts s) (held .0) place inside ∙ ap (λ (k : ℕ). getD rows k 0) e
+  -- the row stands there
+  row-there : getD column place 0 ≡ i
+  row-there = row-at n columnStarts rows good j (held .0) place inside ∙ ap (λ (k : ℕ). getD rows k 0) behind-start
 
-  row-in : isIn (getD rows s 0) (listAt columnStarts rows (columnOf n columnStarts s)) ≡ true
-  row-in = rw row-there at (isIn-getD (listAt columnStarts rows (columnOf n columnStarts s)) place 0 inside)
+  row-in : isIn i column ≡ true
+  row-in = rw row-there at (isIn-getD column place 0 inside)
 
   -- so it is later than the column, and a position
-  pub row-later : (columnOf n columnStarts s < getD rows s 0) × (getD rows s 0 < n)
-  row-later = column-kept n columnStarts rows good (columnOf n columnStarts s) (held .0) .1 (getD rows s 0) row-in
+  row-later : (j < i) × (i < n)
+  row-later = column-kept n columnStarts rows good j (held .0) .1 i row-in
 
   -- and the slot of the two is the slot
-  pub slot-home : pairQuestion n columnStarts rows (getD rows s 0) (columnOf n columnStarts s) ≡ accepted (slotCase ∷ s ∷ [])
+  slot-home : pairQuestion n columnStarts rows i j ≡ accepted (slotCase ∷ s ∷ [])
   slot-home =
-      let i : ℕ = getD rows s 0 in
-      let j : ℕ = columnOf n columnStarts s in
-      let at : indexOf i (listAt columnStarts rows j) ≡ place =
-      rw row-there at (ascending-indexOf (listAt columnStarts rows j) (column-kept n columnStarts rows good j (held .0) .0) place inside) in
-      let e : getD columnStarts j 0 + place ≡ s = omega (arith, held .1) in
+      let first : indexOf i column ≡ place = rw row-there at (ascending-indexOf column (column-kept n columnStarts rows good j (held .0) .0) place inside) in
       pair-slot n columnStarts rows i j clear (row-later .1) (held .0) i j (λ same. omega (arith, row-later .0)) (omega (arith, row-later .0)) (omega (arith, row-later .0))
-      ∙ ap accepted (slot-found columnStarts rows i j place row-in at ∙ ap (λ (k : ℕ). slotCase ∷ k ∷ []) e)
+      ∙ ap accepted (slot-found columnStarts rows i j place row-in first ∙ ap (λ (k : ℕ). slotCase ∷ k ∷ []) behind-start)
 
 -- what an accepted answer of two values says of the pair that is found
 module _ (n : ℕ) (columnStarts rows : List ℕ) (s row column : ℕ) (h : slotQuestion n columnStarts rows s ≡ accepted (row ∷ column ∷ [])) where
@@ -251,7 +257,7 @@ slot-told columnStarts rows i j s h = elim (tested (isIn i (listAt columnStarts 
 
 -- a row of a column: its slot leads back to the two
 module _ (n : ℕ) (columnStarts rows : List ℕ) (i j s : ℕ) (clear : firstFault (layoutChecks n columnStarts rows) ≡ 0) (lt : j < n) (h : slotOf columnStarts rows i j ≡ slotCase ∷ s ∷ []) where
-  pub pair-home : slotQuestion n columnStarts rows s ≡ accepted (i ∷ j ∷ [])
+  pair-home : slotQuestion n columnStarts rows s ≡ accepted (i ∷ j ∷ [])
   pair-home =
       let g : GoodLayout n columnStarts rows = good-layout n columnStarts rows clear in
       let starts : Starts n columnStarts = good-starts n columnStarts (g .starts) in

@@ -1,5 +1,4 @@
--- `layout::slots::column_of` meets its contract: the loop keeps a column that starts at the slot or before it and one that starts behind it,
--- until the second is the next.
+-- `layout::slots::column_of` meets its contract: the loop keeps a start that is not above the slot and a later one that is, until it is the next.
 use mathlib.Core.Path.{_≡_, sym}
 use mathlib.Core.Logic.{inl, inr}
 use mathlib.Core.List.{List}
@@ -14,7 +13,7 @@ use Rattle.theory.proofs.SlotsAndPairs.{column-is}
 use Rattle.layout.proofs.slots.column_of.Statement.{statement}
 use Rattle.layout.proofs.slots.column_of.Tie as tie
 
--- column `low` starts at the slot or before it, and column `high` behind it
+-- start `low` is not above the slot, and start `high` is
 pub record Bracket (n : ℕ) (columnStarts : List ℕ) (s low high : ℕ) : Type 0 where
   pub ordered : low < high
   pub within : high ≤ n
