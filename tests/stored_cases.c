@@ -90,9 +90,9 @@ static void worked_meshes(void) {
     plan_bare(13, 4097);
 }
 
-/* Which neighbours a degree counts. If it counted nodes already chosen, a region of 31 would stay uncut, though no clique; in 32 only a region two
- * cuts deep would be cut in another way; in 33 two nodes would not be equal, and the greater would be taken. If it counted neighbours in the last
- * level only, 34 would be cut in another way. */
+/* Which neighbours a degree counts, and that a widest level is looked at. If a degree counted nodes already chosen, a region of 31 would stay uncut,
+ * though no clique; if it counted neighbours in the last level only, 34 would be cut in another way. If the root's and a candidate's widest levels
+ * were not compared, a region that a cut has left in 32, and the first region of 33, would be cut in another way. */
 static void telling_degrees(void) {
     plan_edges(31, 7, "01 05 12 13 16 23 26 34 45 46", 24);
     plan_edges(32, 9, "01 02 06 14 15 17 18 23 35 37 45 48 78", 24);
@@ -100,7 +100,30 @@ static void telling_degrees(void) {
     plan_edges(34, 6, "01 02 13 14 23 25 34", 16);
 }
 
-/* The root search and the cut, then the order of the checks. */
+/* Which candidate replaces the root. If the best one did, and not the first that improves, 35 and 38 would be cut in another way; if the last level
+ * were taken for the widest, 35 and 37; if the widest were not looked at, 35. In 36 the first candidate is as far as the root and its widest level
+ * as wide: the root stays, until the second, which is farther, replaces it. */
+static void telling_widths(void) {
+    plan_edges(35, 6, "02 03 05 13 34 35 45", 16);
+    plan_edges(36, 5, "01 02 13 23 24", 12);
+    plan_edges(37, 5, "01 03 04 12", 8);
+    plan_edges(38, 7, "01 02 06 13 15 23 24", 16);
+}
+
+/* Which neighbours a degree counts, in deeper regions. If it counted nodes already chosen, in 39 only a region two cuts deep would be left uncut,
+ * though no clique; in 40 two nodes would not be equal, and the greater would be taken. */
+static void telling_deep_degrees(void) {
+    plan_edges(39, 8, "01 02 06 07 14 24 25 26 27 34 46 47 56 57", 24);
+    plan_edges(40, 7, "02 03 04 13 14 15 16 35 45 46", 24);
+}
+
+/* The order of the candidates. If they came by their own numbers, or if the last level's components were joined through the region, 48 would be cut
+ * in another way. */
+static void telling_candidates(void) {
+    plan_edges(48, 6, "01 02 03 04 05 14 15 23", 16);
+}
+
+/* The root search and the cut, then the order of the checks, and of the candidates. */
 static void telling_meshes(void) {
     plan_edges(21, 4, "01 02 03 12", 6);
     plan_edges(22, 4, "01 02 13", 6);
@@ -113,6 +136,8 @@ static void telling_meshes(void) {
     plan_edges(29, 7, "01 02 03 12 13 24 25 34 35 46 56", 24);
     plan_edges(30, 7, "01 12 23 34 45 56", 12);
     telling_degrees();
+    telling_widths();
+    telling_deep_degrees();
     plan_lists(41, 0, EMPTY32, EMPTY16, 2, 1);
     plan_lists(42, 3, LIST32(0, 0, 0), EMPTY16, 4, 1);
     plan_lists(43, 2, LIST32(0, 2, 2), LIST16(1, 0), 3, 1);
@@ -120,6 +145,7 @@ static void telling_meshes(void) {
     plan_lists(45, 2, LIST32(0, 1, 2), LIST16(0, 2), 3, 1);
     plan_lists(46, 2, LIST32(0, 1, 2), LIST16(1, 0), 1, 0);
     plan_lists(47, 2, LIST32(0, 1, 2), LIST16(1, 0), 2, 0);
+    telling_candidates();
 }
 
 /* ---- files */

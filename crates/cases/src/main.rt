@@ -155,9 +155,9 @@ fn telling() {
     plan_edges(30, 7, &[0, 1, 1, 2, 2, 3, 3, 4, 4, 5, 5, 6], 12);
 }
 
-// Meshes that tell which neighbours a degree counts. If it counted nodes already chosen, a region of 31 would stay uncut, though no clique; in 32
-// only a region two cuts deep would be cut in another way; in 33 two nodes would not be equal, and the greater would be taken. If it counted
-// neighbours in the last level only, 34 would be cut in another way.
+// Meshes that tell which neighbours a degree counts, and that a widest level is looked at. If a degree counted nodes already chosen, a region of 31
+// would stay uncut, though no clique; if it counted neighbours in the last level only, 34 would be cut in another way. If the root's and a
+// candidate's widest levels were not compared, a region that a cut has left in 32, and the first region of 33, would be cut in another way.
 fn telling_degrees() {
     plan_edges(
         31,
@@ -180,6 +180,33 @@ fn telling_degrees() {
     plan_edges(34, 6, &[0, 1, 0, 2, 1, 3, 1, 4, 2, 3, 2, 5, 3, 4], 16);
 }
 
+// Meshes that tell which candidate replaces the root. If the best one did, and not the first that improves, 35 and 38 would be cut in another way;
+// if the last level were taken for the widest, 35 and 37; if the widest were not looked at, 35. In 36 the first candidate is as far as the root
+// and its widest level as wide: the root stays, until the second, which is farther, replaces it.
+fn telling_widths() {
+    plan_edges(35, 6, &[0, 2, 0, 3, 0, 5, 1, 3, 3, 4, 3, 5, 4, 5], 16);
+    plan_edges(36, 5, &[0, 1, 0, 2, 1, 3, 2, 3, 2, 4], 12);
+    plan_edges(37, 5, &[0, 1, 0, 3, 0, 4, 1, 2], 8);
+    plan_edges(38, 7, &[0, 1, 0, 2, 0, 6, 1, 3, 1, 5, 2, 3, 2, 4], 16);
+}
+
+// Meshes whose deeper regions tell which neighbours a degree counts. If it counted nodes already chosen, in 39 only a region two cuts deep would be
+// left uncut, though no clique; in 40 two nodes would not be equal, and the greater would be taken.
+fn telling_deep_degrees() {
+    plan_edges(
+        39,
+        8,
+        b"\x00\x01\x00\x02\x00\x06\x00\x07\x01\x04\x02\x04\x02\x05\x02\x06\x02\x07\x03\x04\x04\x06\x04\x07\x05\x06\x05\x07",
+        24,
+    );
+    plan_edges(
+        40,
+        7,
+        b"\x00\x02\x00\x03\x00\x04\x01\x03\x01\x04\x01\x05\x01\x06\x03\x05\x04\x05\x04\x06",
+        24,
+    );
+}
+
 // Lists with two faults, or with buffers that are too short, that tell the order of the checks.
 fn refused() {
     plan_lists(41, 0, &[], &[], 2, 1);
@@ -189,6 +216,12 @@ fn refused() {
     plan_lists(45, 2, &[0, 1, 2], &[0, 2], 3, 1);
     plan_lists(46, 2, &[0, 1, 2], &[1, 0], 1, 0);
     plan_lists(47, 2, &[0, 1, 2], &[1, 0], 2, 0);
+}
+
+// A mesh that tells the order of the candidates. If they came by their own numbers, or if the last level's components were joined through the region,
+// 48 would be cut in another way.
+fn telling_candidates() {
+    plan_edges(48, 6, &[0, 1, 0, 2, 0, 3, 0, 4, 0, 5, 1, 4, 1, 5, 2, 3], 16);
 }
 
 // The families of refusals: numbers at both ends of each range, and just outside.
@@ -210,7 +243,10 @@ fn main() {
     worked();
     telling();
     telling_degrees();
+    telling_widths();
+    telling_deep_degrees();
     refused();
+    telling_candidates();
     files::all();
     questions::all();
     families();

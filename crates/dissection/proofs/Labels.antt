@@ -30,7 +30,7 @@ use Rattle.dissection.proofs.Grouped.{hasNumber, grouped-length, group-
 
 -- ---- one component
 
-module _ {n : ℕ} {edge : Graph} {root : ℕ} {old mid queue : List ℕ} {last reached : ℕ} (w : Walked n edge (freshOf n old) root old mid queue last reached) where
+module _ {n : ℕ} {edge : Graph} {root : ℕ} {old mid queue : List ℕ} {last widest reached : ℕ} (w : Walked n edge (freshOf n old) root old mid queue last widest reached) where
   -- the nodes that a walk reaches are nodes
   pub walked-inside : (v : ℕ) → isIn v (take reached queue) ≡ true → v < n
   walked-inside v m = of-fresh n old v (of-component edge (freshOf n old) root v (sym (w .members v) ∙ m) .0) .0

@@ -1,7 +1,7 @@
 -- The root search: the candidates of a root, and the turns of the search.
-use mathlib.Core.Path.{_≡_, sym, ap, ap₂, _∙_}
+use mathlib.Core.Path.{_≡_, refl, sym, ap, _∙_}
 use mathlib.Core.Logic.{_≢_, inl, inr}
-use mathlib.Core.Bool.{Bool, true, false, cond}
+use mathlib.Core.Bool.{Bool, true, false, cond, _&&_, _||_}
 use mathlib.Core.List.{List, [], map, flatten, getLastD}
 use Prim.Native.Nat.{ℕ, zero, suc, _+_, _-_, _≤_, _<_}
 use native.Mathlib.Omega.{arith}
@@ -20,12 +20,13 @@ use Rattle.theory.proofs.Flatten.{isIn-flatten-take, isIn-flatten-last}
 use Rattle.theory.proofs.Ascending.{ascending-keep}
 use Rattle.theory.proofs.Components.{components-some}
 use Rattle.theory.proofs.LevelNumbers.{level-first, level-kept, levels-some}
-use Rattle.theory.proofs.RootSearch.{next-cases, turn-ends, turn-goes, search-same, root-same}
+use Rattle.theory.proofs.RootInside.{next-inside}
+use Rattle.theory.proofs.RootSearch.{improves-back, next-cases, turn-ends, turn-goes, improvers, improvers-le, goes-fewer, search-same, root-same}
 use Rattle.dissection.specs.Numbers.{fresh, outside, freshOf, Within, Only, NumberedBy, Renumbered, grouped, Labelled}
 use Rattle.dissection.specs.Changes.{onlyLevel}
 use Rattle.dissection.specs.Standing.{Regional, Standing}
 use Rattle.dissection.specs.Degrees.{Leads}
-use Rattle.dissection.specs.Rooted.{Rooted, Better}
+use Rattle.dissection.specs.Rooted.{Rooted, Measured, Better}
 use Rattle.dissection.proofs.Fresh.{fresh-same}
 use Rattle.dissection.proofs.Renumbering.{renumbered-in, renumbered-out, renumbered-only}
 use Rattle.dissection.proofs.Labels.{labelled-only}
@@ -190,17 +191,17 @@ standing-transferred m nodes {root} from old new inside s only e = record {
 
 module _ (m : Mesh) (nodes : List ℕ) where
   -- a root that has just been walked from
-  pub better-walked : {before root x last : ℕ} {numbers : List ℕ} → x ≡ root → Rooted m nodes root last → Standing m nodes root numbers → Better m nodes before x last numbers
-  better-walked e rooted standing = rw e (record { rooted = rooted; only = standing .only; standing = λ lt. standing })
+  pub better-walked : {before root x last widest : ℕ} {numbers : List ℕ} → x ≡ root → Measured m nodes root last widest → Standing m nodes root numbers → Better m nodes before x last widest numbers
+  better-walked e measured standing = rw e (record { measured = measured; only = standing .only; standing = λ other. standing })
 
   -- a root that stays
-  pub better-same : {root last : ℕ} {numbers : List ℕ} → Rooted m nodes root last → Only (m .nodes) nodes numbers → Better m nodes last root last numbers
-  better-same rooted only = record { rooted = rooted; only = only; standing = λ lt. absurd (omega arith) }
+  pub better-same : {root last widest : ℕ} {numbers : List ℕ} → Measured m nodes root last widest → Only (m .nodes) nodes numbers → Better m nodes root root last widest numbers
+  better-same measured only = record { measured = measured; only = only; standing = λ other. absurd (other refl) }
 
-  -- whether a candidate improves is told by the numbers of the last levels
-  pub improves-is : {root x a b : ℕ} → Rooted m nodes root a → Rooted m nodes x b → improves m nodes root x ≡ ltb a b
+  -- whether a candidate improves is told by the last and the widest levels
+  pub improves-is : {root x a b v w : ℕ} → Measured m nodes root a v → Measured m nodes x b w → improves m nodes root x ≡ (ltb a b || (eqb b a && ltb w v))
   unfolding improves
-  improves-is h k = sym (ap₂ ltb (h .far) (k .far))
+  improves-is h k = rw (h .rooted .far, k .rooted .far, h .wide, k .wide)
 
   -- what the search finds from a root, in more turns than are needed
   abbrev pub foundFrom : ℕ → ℕ
@@ -210,17 +211,29 @@ module _ (m : Mesh) (nodes : List ℕ) where
   pub found-first : foundFrom (getD nodes 0 0) ≡ rootOf m nodes
   found-first = ap foundFrom (sym (headD-getD nodes 0)) ∙ root-same m nodes (suc (length nodes)) (omega arith)
 
-  -- a turn that goes to a farther root finds the same
-  pub found-next : {root next a b : ℕ} → next ≡ nextRoot m nodes root → Rooted m nodes root a → Rooted m nodes next b → a < b → foundFrom next ≡ foundFrom root
-  found-next {root} {next} e h k lt =
-      let other : eqb (nextRoot m nodes root) root ≡ false = ne-eqb (nextRoot m nodes root) root (λ s. omega (arith, h .far, k .far, ap (eccentricity (adjacent m) nodes) (e ∙ s))) in
-      ap foundFrom e
-      ∙ search-same m nodes (suc (length nodes)) (length nodes) (nextRoot m nodes root) (omega arith) (omega arith)
-      ∙ sym (turn-goes m nodes (length nodes) root other)
+  -- a turn goes on where the next root is another one
+  goes-on : {root next : ℕ} → next ≡ nextRoot m nodes root → next ≢ root → eqb (nextRoot m nodes root) root ≡ false
+  goes-on {root} e other = ne-eqb (nextRoot m nodes root) root (λ s. other (e ∙ s))
 
-  -- a turn that does not go to a farther root ends the search at the root that it began from
-  pub found-last : {root next a b : ℕ} → next ≡ nextRoot m nodes root → Rooted m nodes root a → Rooted m nodes next b → b ≤ a → root ≡ foundFrom root
-  found-last {root} {next} e h k le = elim (next-cases m nodes root) [
-    | inl s ↦ sym (turn-ends m nodes (length nodes) root (eq-eqb _ _ s))
-    | inr lt ↦ absurd (omega (arith, h .far, k .far, ap (eccentricity (adjacent m) nodes) e, lt))
+  -- then it finds the same
+  pub found-next : {root next : ℕ} → next ≡ nextRoot m nodes root → isIn root nodes ≡ true → next ≢ root → foundFrom next ≡ foundFrom root
+  found-next {root} {next} e inside other =
+      let few : improvers m nodes (nextRoot m nodes root) ≤ length nodes = improvers-le m nodes (nextRoot m nodes root) in
+      ap foundFrom e
+      ∙ search-same m nodes (suc (length nodes)) (length nodes) (nextRoot m nodes root) (next-inside m nodes root inside) (omega arith) few
+      ∙ sym (turn-goes m nodes (length nodes) root (goes-on e other))
+
+  -- and fewer nodes improve on it
+  pub found-fewer : {root next : ℕ} → next ≡ nextRoot m nodes root → isIn root nodes ≡ true → next ≢ root → improvers m nodes next < improvers m nodes root
+  found-fewer {root} e inside other = rw e (goes-fewer m nodes root inside (goes-on e other))
+
+  -- and the root that it replaced does not improve on it
+  pub found-back : {root next : ℕ} → next ≡ nextRoot m nodes root → next ≢ root → improves m nodes next root ≡ false
+  found-back {root} {next} e other = elim (next-cases m nodes root) [
+    | inl s ↦ absurd (other (e ∙ s))
+    | inr t ↦ improves-back m nodes root next (ap (improves m nodes root) e ∙ t)
   ]
+
+  -- a turn that stays ends the search
+  pub found-last : {root next : ℕ} → next ≡ nextRoot m nodes root → next ≡ root → root ≡ foundFrom root
+  found-last {root} e same = sym (turn-ends m nodes (length nodes) root (eq-eqb _ _ (sym e ∙ same)))

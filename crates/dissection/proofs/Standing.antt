@@ -19,7 +19,7 @@ use Rattle.theory.proofs.LevelSets.{levels-cover}
 use Rattle.theory.proofs.RootSearch.{eccentricity-le}
 use Rattle.dissection.specs.Numbers.{fresh, outside, freshOf, Within, Renumbered, Walked}
 use Rattle.dissection.specs.Standing.{Regional, Standing}
-use Rattle.dissection.specs.Rooted.{Rooted}
+use Rattle.dissection.specs.Rooted.{Measured}
 use Rattle.dissection.proofs.Fresh.{within-few, fresh-same}
 use Rattle.dissection.proofs.Renumbering.{renumbered-in, renumbered-out}
 
@@ -37,16 +37,16 @@ module _ (m : Mesh) (nodes : List ℕ) where
   pub level-inside : (r v : ℕ) → isIn r nodes ≡ true → isIn v (flatten (levels (adjacent m) nodes r)) ≡ true → isIn v nodes ≡ true
   level-inside r v h t = of-component (adjacent m) nodes r v (sym (levels-cover (adjacent m) nodes r h v) ∙ t) .0
 
-  module _ {numbers filled queue new after : List ℕ} {r last reached : ℕ} (h : Regional m nodes numbers queue) (inside : isIn r nodes ≡ true)
-      (walked : Walked (m .nodes) (adjacent m) (freshOf (m .nodes) filled) r filled new after last reached) (f : Renumbered (λ _. fresh) nodes numbers filled) where
+  module _ {numbers filled queue new after : List ℕ} {r last widest reached : ℕ} (h : Regional m nodes numbers queue) (inside : isIn r nodes ≡ true)
+      (walked : Walked (m .nodes) (adjacent m) (freshOf (m .nodes) filled) r filled new after last widest reached) (f : Renumbered (λ _. fresh) nodes numbers filled) where
     -- so a walk in what is fresh is one in the region
-    over : Walked (m .nodes) (adjacent m) nodes r filled new after last reached
+    over : Walked (m .nodes) (adjacent m) nodes r filled new after last widest reached
     over = rw (filled-fresh m nodes numbers filled queue h f) at walked
 
-    -- it tells the number of the last level
-    pub walk-rooted : Rooted m nodes r last
+    -- it tells the number of the last level and the node count of the widest
+    pub walk-measured : Measured m nodes r last widest
     unfolding eccentricity
-    walk-rooted = record { inside = inside; far = omega (arith, over .count) }
+    walk-measured = record { rooted = record { inside = inside; far = omega (arith, over .count) }; wide = over .wide }
 
     -- and the levels stand in the numbers
     pub walk-standing : Standing m nodes r new

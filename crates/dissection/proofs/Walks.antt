@@ -3,7 +3,7 @@ use mathlib.Core.Path.{_≡_, refl, sym, ap, subst, _∙_}
 use mathlib.Core.Logic.{inl, inr}
 use mathlib.Core.Bool.{Bool, true, false, not, cond, _&&_, _||_, and-false, and-true, or-false, or-comm, false≢true}
 use mathlib.Core.List.{List, [], _∷_, headD, flatten, reverse}
-use Prim.Native.Nat.{ℕ, zero, suc, _+_, _-_, _≤_, _<_}
+use Prim.Native.Nat.{ℕ, zero, suc, _+_, _-_, _≤_, _<_, max}
 use native.Mathlib.Omega.{arith}
 use native.Mathlib.Numerals.{add-one}
 use borrow.Author.Tests.{eqb-true}
@@ -11,14 +11,15 @@ use lib.Dec.{eqb}
 use lib.ListN.{length, getD, take, set, length-reverse, List·getD-eq-default}
 use lib.Seq.{length-take-le, take-all, take-add, getD-take, set-getD, set-set}
 use Rattle.plan.specs.Lists.{exists, keep, isIn, segment, below}
-use Rattle.plan.specs.Levels.{Graph, nextLevel, addLevel, levelsBack, levels, component}
+use Rattle.plan.specs.Levels.{Graph, nextLevel, addLevel, levelsBack, levels, widest, width as widthOf, component}
 use Rattle.theory.proofs.Bools.{tested, clash, refuted, lt-or-le}
-use Rattle.theory.proofs.Lists.{isIn-getD, isIn-append, isIn-none, isIn-keep, exists-isIn, exists-same, keep-keep, getD-reverse}
-use Rattle.theory.proofs.Segments.{segment-none, segment-front, segment-some}
+use Rattle.theory.proofs.Lists.{isIn-getD, isIn-append, isIn-none, isIn-keep, exists-isIn, exists-same, keep-keep, kept-own, getD-reverse}
+use Rattle.theory.proofs.Segments.{segment-none, segment-front}
 use Rattle.theory.proofs.Ranges.{below-isIn}
 use Rattle.theory.proofs.Flatten.{flatten-nil, isIn-flatten-cons, isIn-flatten-take, isIn-flatten-reverse}
 use Rattle.theory.proofs.Counting.{unit, count-sum}
 use Rattle.theory.proofs.Levels.{Levelled, first, after, of-next, levelled, levels-stay, reached-inside}
+use Rattle.theory.proofs.LevelNumbers.{widest-reverse}
 use Rattle.theory.proofs.LevelSets.{levels-cover}
 use Rattle.dissection.specs.Numbers.{fresh, freshOf, Walked}
 use Rattle.dissection.specs.Spread.{Room, newly, Spread}
@@ -70,9 +71,10 @@ placed-own edge region root (after {l = l} {ls = ls} le e some) (suc i) v x h =
 -- ---- between two levels
 
 -- The levels of a walk so far, the last one first, stand in the numbers and in the queue, which is hi long; the last one from place lo on.
-pub record Stand (n : ℕ) (old : List ℕ) (ls : List (List ℕ)) (last lo hi : ℕ) (numbers queue : List ℕ) : Type 0 where
+pub record Stand (n : ℕ) (old : List ℕ) (ls : List (List ℕ)) (last width lo hi : ℕ) (numbers queue : List ℕ) : Type 0 where
   pub numbered : (v : ℕ) → getD numbers v 0 ≡ placed v ls (getD old v 0)
   pub count : length ls ≡ last + 1
+  pub wide : width ≡ widest ls
   pub frontier : (v : ℕ) → isIn v (segment queue lo hi) ≡ isIn v (headD ls [])
   pub reached : (v : ℕ) → isIn v (take hi queue) ≡ isIn v (flatten ls)
   pub left : Room n numbers queue hi
@@ -81,16 +83,16 @@ pub record Stand (n : ℕ) (old : List ℕ) (ls : List (List ℕ)) (last lo hi :
   pub some : lo < hi
 
 -- the levels so far are those of a walk from a root after `last` steps
-abbrev pub Walking : ℕ → Graph → ℕ → List ℕ → ℕ → ℕ → ℕ → List ℕ → List ℕ → Type 0
-Walking n edge root old last lo hi numbers queue = Stand n old (levelsBack last edge (freshOf n old) root) last lo hi numbers queue
+abbrev pub Walking : ℕ → Graph → ℕ → List ℕ → ℕ → ℕ → ℕ → ℕ → List ℕ → List ℕ → Type 0
+Walking n edge root old last width lo hi numbers queue = Stand n old (levelsBack last edge (freshOf n old) root) last width lo hi numbers queue
 
 -- the same for another way to say which numbers were before
-pub walking-as : {n last lo hi : ℕ} {numbers queue : List ℕ} (edge : Graph) (root : ℕ) {old old′ : List ℕ} → old ≡ old′
-    → Walking n edge root old last lo hi numbers queue → Walking n edge root old′ last lo hi numbers queue
-walking-as {n} {last} {lo} {hi} {numbers} {queue} edge root e w = subst (λ (old : List ℕ). Walking n edge root old last lo hi numbers queue) e w
+pub walking-as : {n last width lo hi : ℕ} {numbers queue : List ℕ} (edge : Graph) (root : ℕ) {old old′ : List ℕ} → old ≡ old′
+    → Walking n edge root old last width lo hi numbers queue → Walking n edge root old′ last width lo hi numbers queue
+walking-as {n} {last} {width} {lo} {hi} {numbers} {queue} edge root e w = subst (λ (old : List ℕ). Walking n edge root old last width lo hi numbers queue) e w
 
 -- the queue is no longer than there are nodes, and there are fewer steps than that
-pub stand-few : {n : ℕ} {old : List ℕ} {ls : List (List ℕ)} {last lo hi : ℕ} {numbers queue : List ℕ} → Stand n old ls last lo hi numbers queue → (hi ≤ n) × (last < hi)
+pub stand-few : {n : ℕ} {old : List ℕ} {ls : List (List ℕ)} {last width lo hi : ℕ} {numbers queue : List ℕ} → Stand n old ls last width lo hi numbers queue → (hi ≤ n) × (last < hi)
 stand-few s = omega (arith, s .left .room, s .deep, s .some)
 
 -- the numbers before the root's was set
@@ -98,8 +100,8 @@ pub restored : (old : List ℕ) (root : ℕ) → getD old root 0 ≡ fresh → s
 restored old root e = set-set old root 0 fresh ∙ ap (set old root) (sym e) ∙ set-getD old root 0
 
 -- a walk starts with the root alone
-pub walk-start : (n : ℕ) (edge : Graph) (old : List ℕ) (root : ℕ) (q : List ℕ) → root < n → getD old root 0 ≡ fresh → n ≤ length old → n < length q → Walking n edge root old 0 0 1 (set old root 0) (set q 0 root)
-unfolding levelsBack headD
+pub walk-start : (n : ℕ) (edge : Graph) (old : List ℕ) (root : ℕ) (q : List ℕ) → root < n → getD old root 0 ≡ fresh → n ≤ length old → n < length q → Walking n edge root old 0 1 0 1 (set old root 0) (set q 0 root)
+unfolding levelsBack headD widest
 walk-start n edge old root q lt e long long′ =
     let room : Room n old q 0 = record { numbersLong = long; queueLong = long′; room = omega (arith, fresh-few n old) } in
     let p : Spread n 0 0 old q (λ u. eqb u root) (set old root 0) (set q 0 root) (0 + 1) = spread-one room lt (omega arith) e in
@@ -110,6 +112,7 @@ walk-start n edge old root q lt e long long′ =
     record {
       numbered = λ v. p .numbers v ∙ rw (is v);
       count = refl;
+      wide = refl;
       frontier = λ v. p .queued v ∙ is v;
       reached = λ v. p .queued v ∙ is v ∙ sym (isIn-flatten-cons v (root ∷ []) [] ∙ rw (ap (isIn v) (flatten-nil {A = ℕ})) (or-false (eqb v root || false)));
       left = p .left;
@@ -135,7 +138,7 @@ module _ (n : ℕ) (edge : Graph) (inside : (u v : ℕ) → edge u v ≡ true �
   -- ---- one step
 
   -- the levels so far, and what a step does
-  module _ (ls : List (List ℕ)) (last lo hi : ℕ) (ns q : List ℕ) (s : Stand n old ls last lo hi ns q) where
+  module _ (ls : List (List ℕ)) (last width lo hi : ℕ) (ns q : List ℕ) (s : Stand n old ls last width lo hi ns q) where
     -- a node is fresh where it was fresh and is in no level
     fresh-left : (v : ℕ) → eqb (getD ns v 0) fresh ≡ (eqb (getD old v 0) fresh && not (isIn v (flatten ls)))
     fresh-left v = ap (λ (x : ℕ). eqb x fresh) (s .numbered v) ∙ placed-fresh v (getD old v 0) ls (omega (arith, s .count, stand-few s))
@@ -159,6 +162,24 @@ module _ (n : ℕ) (edge : Graph) (inside : (u v : ℕ) → edge u v ≡ true �
       queued-next : (v : ℕ) → isIn v (segment q′ hi tail) ≡ isIn v (nextLevel edge region ls)
       queued-next v = p .queued v ∙ newly-next v
 
+      -- each node of it once
+      next-many : tail ≡ hi + length (nextLevel edge region ls)
+      unfolding nextLevel
+      next-many =
+          let next : List ℕ = nextLevel edge region ls in
+          let sum : length (freshOf n ns) ≡ length (freshOf n ns′) + length (keep (λ v. isIn v next) (below n)) =
+          count-sum (λ v. eqb (getD ns v 0) fresh) (λ v. eqb (getD ns′ v 0) fresh) (λ v. isIn v next) (below n) each in
+          omega (arith, sum, p .many, ap length (kept-own (below n) next (record { test = _; same = keep-keep _ _ (below n) })))
+        where
+          go : (b t : Bool) (x : ℕ) → eqb x fresh ≡ b → unit b ≡ unit (eqb (cond (b && t) (last + 1) x) fresh) + unit (b && t)
+          go true true x e = rw (not-fresh (last + 1) (omega (arith, stand-few s)))
+          go true false x e = rw e
+          go false t x e = rw e
+
+          each : (v : ℕ) → unit (eqb (getD ns v 0) fresh) ≡ unit (eqb (getD ns′ v 0) fresh) + unit (isIn v (nextLevel edge region ls))
+          each v = rw (p .numbers v, ← newly-next v)
+              (go (eqb (getD ns v 0) fresh) (touched edge q lo hi v) (getD ns v 0) refl)
+
       -- what the queue holds now
       queue-split : (v : ℕ) → isIn v (take tail q′) ≡ (isIn v (flatten ls) || isIn v (nextLevel edge region ls))
       queue-split v =
@@ -169,18 +190,17 @@ module _ (n : ℕ) (edge : Graph) (inside : (u v : ℕ) → edge u v ≡ true �
           ∙ rw (p .kept, s .reached v, queued-next v)
 
       -- a step that has put nodes into the queue has made one more level of them
-      grown : (new : List ℕ) → ((v : ℕ) → isIn v (nextLevel edge region ls) ≡ isIn v new) → hi < tail → Stand n old (addLevel new ls) (last + 1) hi tail ns′ q′
-      unfolding addLevel headD
-      grown [] f h =
-          let some : 0 < length (segment q′ hi tail) = segment-some q′ hi tail h (omega (arith, p .left .room, p .left .queueLong)) in
-          let x : ℕ = getD (segment q′ hi tail) 0 0 in
-          clash (isIn x (segment q′ hi tail)) (isIn-getD (segment q′ hi tail) 0 0 some) (queued-next x ∙ f x)
-      grown (x ∷ xs) f h =
+      grown : (new : List ℕ) → nextLevel edge region ls ≡ new → hi < tail → Stand n old (addLevel new ls) (last + 1) (max width (tail - hi)) hi tail ns′ q′
+      unfolding addLevel headD widest
+      grown [] e h = absurd (omega (arith, next-many, ap length e))
+      grown (x ∷ xs) e h =
+          let in-it : (v : ℕ) → isIn v (nextLevel edge region ls) ≡ isIn v (x ∷ xs) = λ v. ap (isIn v) e in
           record {
-            numbered = λ v. p .numbers v ∙ rw (newly-next v ∙ f v, s .numbered v, s .count);
+            numbered = λ v. p .numbers v ∙ rw (newly-next v ∙ in-it v, s .numbered v, s .count);
             count = omega (arith, s .count);
-            frontier = λ v. queued-next v ∙ f v;
-            reached = λ v. queue-split v ∙ rw (f v, isIn-flatten-cons v (x ∷ xs) ls) (or-comm (isIn v (flatten ls)) (isIn v (x ∷ xs)));
+            wide = omega (arith, s .wide, next-many, ap length e);
+            frontier = λ v. queued-next v ∙ in-it v;
+            reached = λ v. queue-split v ∙ rw (in-it v, isIn-flatten-cons v (x ∷ xs) ls) (or-comm (isIn v (flatten ls)) (isIn v (x ∷ xs)));
             left = p .left;
             many = omega (arith, p .many, s .many);
             deep = omega (arith, s .deep, s .some);
@@ -188,7 +208,7 @@ module _ (n : ℕ) (edge : Graph) (inside : (u v : ℕ) → edge u v ≡ true �
           }
 
       -- a step that has put none there has changed nothing, and no level is to come
-      stand-stop : tail ≤ hi → (nextLevel edge region ls ≡ []) × Stand n old ls last lo hi ns′ q′
+      stand-stop : tail ≤ hi → (nextLevel edge region ls ≡ []) × Stand n old ls last width lo hi ns′ q′
       stand-stop h =
           let e : tail ≡ hi = omega (arith, p .low) in
           let none : (v : ℕ) → isIn v (nextLevel edge region ls) ≡ false = λ v. sym (queued-next v) ∙ ap (isIn v) (ap (segment q′ hi) e ∙ segment-none q′ hi) in (
@@ -196,6 +216,7 @@ module _ (n : ℕ) (edge : Graph) (inside : (u v : ℕ) → edge u v ≡ true �
             record {
               numbered = λ v. p .numbers v ∙ rw (newly-next v ∙ none v) (s .numbered v);
               count = s .count;
+              wide = s .wide;
               frontier = λ v. ap (isIn v) (segment-front q′ q lo hi hi (omega (arith, s .some)) (omega arith) (p .kept)) ∙ s .frontier v;
               reached = λ v. ap (isIn v) (p .kept) ∙ s .reached v;
               left = rw e at (p .left);
@@ -206,17 +227,17 @@ module _ (n : ℕ) (edge : Graph) (inside : (u v : ℕ) → edge u v ≡ true �
           )
 
   -- one more level
-  pub walk-step : (last lo hi : ℕ) (ns q ns′ q′ : List ℕ) (tail : ℕ) → Walking n edge root old last lo hi ns q → Spread n (last + 1) hi ns q (touched edge q lo hi) ns′ q′ tail → hi < tail
-      → Walking n edge root old (last + 1) hi tail ns′ q′
+  pub walk-step : (last width lo hi : ℕ) (ns q ns′ q′ : List ℕ) (tail : ℕ) → Walking n edge root old last width lo hi ns q
+      → Spread n (last + 1) hi ns q (touched edge q lo hi) ns′ q′ tail → hi < tail → Walking n edge root old (last + 1) (max width (tail - hi)) hi tail ns′ q′
   unfolding levelsBack
-  walk-step last lo hi ns q ns′ q′ tail s p h =
-      subst (λ (ls : List (List ℕ)). Stand n old ls (last + 1) hi tail ns′ q′) (ap back (sym (add-one last)))
-      (grown (back last) last lo hi ns q s ns′ q′ tail p (nextLevel edge region (back last)) (λ v. refl) h)
+  walk-step last width lo hi ns q ns′ q′ tail s p h =
+      subst (λ (ls : List (List ℕ)). Stand n old ls (last + 1) (max width (tail - hi)) hi tail ns′ q′) (ap back (sym (add-one last)))
+      (grown (back last) last width lo hi ns q s ns′ q′ tail p (nextLevel edge region (back last)) refl h)
 
   -- ---- the end
 
   -- the walk stands before a step
-  module _ (lt : root < n) (e : getD old root 0 ≡ fresh) (last lo hi : ℕ) (ns q : List ℕ) (s : Walking n edge root old last lo hi ns q) where
+  module _ (lt : root < n) (e : getD old root 0 ≡ fresh) (last width lo hi : ℕ) (ns q : List ℕ) (s : Walking n edge root old last width lo hi ns q) where
     -- each place of the queue holds a node
     pub walk-node : (k : ℕ) → k < hi → getD q k 0 < n
     walk-node k h =
@@ -266,7 +287,7 @@ module _ (n : ℕ) (edge : Graph) (inside : (u v : ℕ) → edge u v ≡ true �
           let was : ℕ → Bool = λ v. eqb (getD old v 0) fresh in
           let sum : length region ≡ length (freshOf n ns) + length (keep (λ v. was v && in-it v) (below n)) =
           count-sum was (λ v. eqb (getD ns v 0) fresh) (λ v. was v && in-it v) (below n)
-          (λ v. rw (fresh-left (back last) last lo hi ns q s v, in-levels v) (each (was v) (isIn v (flatten (back last))))) in
+          (λ v. rw (fresh-left (back last) last width lo hi ns q s v, in-levels v) (each (was v) (isIn v (flatten (back last))))) in
           omega (arith, sum, s .many, ap length (keep-keep in-it was (below n)))
         where
           each : (a b : Bool) → unit a ≡ unit (a && not b) + unit (a && b)
@@ -275,20 +296,22 @@ module _ (n : ℕ) (edge : Graph) (inside : (u v : ℕ) → edge u v ≡ true �
           each false b = refl
 
       -- what the walk leaves
-      walked : Walked n edge region root old ns q last hi
+      walked : Walked n edge region root old ns q last width hi
+      unfolding widthOf
       walked =
           record {
             numbered = record { own = own; others = λ v h. s .numbered v ∙ placed-others v (getD old v 0) (back last) (sym (in-levels v) ∙ h) };
             count = levels-many ∙ s .count;
             deep = omega (arith, stand-few s);
+            wide = s .wide ∙ sym (ap widest levels-are ∙ widest-reverse (back last));
             members = λ v. s .reached v ∙ sym (in-levels v) ∙ levels-cover edge region root (in-fresh n old root lt e) v;
             many = reached-many;
             few = stand-few s .0;
           }
 
   -- a step that has put no node into the queue ends the walk
-  pub walk-end : root < n → getD old root 0 ≡ fresh → (last lo hi : ℕ) (ns q ns′ q′ : List ℕ) (tail : ℕ) → Walking n edge root old last lo hi ns q
-      → Spread n (last + 1) hi ns q (touched edge q lo hi) ns′ q′ tail → tail ≤ hi → Walked n edge region root old ns′ q′ last hi
-  walk-end lt e last lo hi ns q ns′ q′ tail s p h =
-      let r = stand-stop (back last) last lo hi ns q s ns′ q′ tail p h in
-      walked lt e last lo hi ns′ q′ (r .1) (r .0)
+  pub walk-end : root < n → getD old root 0 ≡ fresh → (last width lo hi : ℕ) (ns q ns′ q′ : List ℕ) (tail : ℕ) → Walking n edge root old last width lo hi ns q
+      → Spread n (last + 1) hi ns q (touched edge q lo hi) ns′ q′ tail → tail ≤ hi → Walked n edge region root old ns′ q′ last width hi
+  walk-end lt e last width lo hi ns q ns′ q′ tail s p h =
+      let r = stand-stop (back last) last width lo hi ns q s ns′ q′ tail p h in
+      walked lt e last width lo hi ns′ q′ (r .1) (r .0)

@@ -6,7 +6,7 @@ use Prim.Native.Nat.{ℕ, _+_, _≤_, _<_}
 use lib.Dec.{eqb}
 use lib.ListN.{length, take, getD, set}
 use Rattle.plan.specs.Lists.{keep, below, isIn, ascending}
-use Rattle.plan.specs.Levels.{Graph, levels, component, components}
+use Rattle.plan.specs.Levels.{Graph, levels, width, component, components}
 use Rattle.theory.specs.Places.{beginOf}
 
 -- the number of a node that is in the set at hand and was not reached yet
@@ -52,11 +52,13 @@ abbrev pub Begins : ℕ → List (List ℕ) → List ℕ → Type 0
 Begins at lists begins = (c : ℕ) → c ≤ length lists → getD begins c 0 ≡ beginOf at lists c
 
 -- What a walk from a root in a set leaves: the numbers of the levels, and in the queue the nodes reached.
-pub record Walked (n : ℕ) (edge : Graph) (set : List ℕ) (root : ℕ) (old new queue : List ℕ) (last reached : ℕ) : Type 0 where
+pub record Walked (n : ℕ) (edge : Graph) (set : List ℕ) (root : ℕ) (old new queue : List ℕ) (last widest reached : ℕ) : Type 0 where
   pub numbered : Numbered (levels edge set root) old new
   -- the number of the last level
   pub count : length (levels edge set root) ≡ last + 1
   pub deep : last < n
+  -- the node count of the widest one
+  pub wide : widest ≡ width edge set root
   -- the nodes reached are the root's component, and they stand in the queue, each once
   pub members : (v : ℕ) → isIn v (take reached queue) ≡ isIn v (component edge set root)
   pub many : reached ≡ length (component edge set root)

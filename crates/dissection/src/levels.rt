@@ -6,7 +6,7 @@ use mesh::wide;
 ghost use mathlib.Core.Path.{_≡_};
 ghost use mathlib.Core.Logic.{_⊎_};
 ghost use mathlib.Core.Bool.{true, cond};
-ghost use Prim.Native.Nat.{ℕ, _+_, _≤_, _<_};
+ghost use Prim.Native.Nat.{ℕ, _+_, _≤_, _<_, max};
 ghost use lib.Dec.{eqb};
 ghost use lib.ListN.{length, getD};
 ghost use Rattle.plan.specs.Lists.{exists, isIn, segment};
@@ -21,7 +21,9 @@ const REGULAR: usize = 6;
 const SHORT: usize = 15;
 
 // The greater of two numbers. O(1).
-fn greater(a: usize, b: usize) -> usize {
+fn greater(a: usize, b: usize) -> usize
+    ensures { λ r. ⌜ r ≡ max a b ⌝ }
+{
     if a < b {
         return b;
     }
@@ -176,9 +178,10 @@ fn advance(
     tail
 }
 
-// What a walk tells: the number of the last level (document 01: ℓ), and how many nodes were reached.
+// What a walk tells: the number of the last level (document 01: ℓ), the node count of the widest level, and how many nodes were reached.
 pub(crate) struct Reach {
     pub(crate) last: u16,
+    pub(crate) width: usize,
     pub(crate) reached: usize,
 }
 
@@ -193,12 +196,13 @@ pub(crate) fn walk(
     irregular: bool,
 ) -> Reach
     requires { ⌜ Checked (lent n (now starts) (now neighbours)) × (root < n) × (getD (now numbers) root 0 ≡ fresh) × (n ≤ length (now numbers)) × (n < length (now queue)) ⌝ }
-    ensures { λ r. ⌜ Walked n (adjacent (lent n (now (starts .entry)) (now (neighbours .entry)))) (freshOf n (now (numbers .entry))) root (now (numbers .entry)) (now (numbers .exit)) (now (queue .exit)) (r .last) (r .reached) ⌝ }
+    ensures { λ r. ⌜ Walked n (adjacent (lent n (now (starts .entry)) (now (neighbours .entry)))) (freshOf n (now (numbers .entry))) root (now (numbers .entry)) (now (numbers .exit)) (now (queue .exit)) (r .last) (r .width) (r .reached) ⌝ }
 {
     let first = wide(root);
     numbers[first] = 0;
     queue[0] = root;
     let mut last: u16 = 0;
+    let mut width: usize = 1;
     let mut lo: usize = 0;
     let mut hi: usize = 1;
     loop {
@@ -216,11 +220,16 @@ pub(crate) fn walk(
         if tail <= hi {
             break;
         }
+        width = greater(width, tail - hi);
         lo = hi;
         hi = tail;
         last += 1;
     }
-    Reach { last, reached: hi }
+    Reach {
+        last,
+        width,
+        reached: hi,
+    }
 }
 
 // The component of node v, where v is fresh: its nodes get the number `count`, and the place behind them is noted. The number of components

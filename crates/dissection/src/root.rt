@@ -1,4 +1,4 @@
-// The pseudo-peripheral root of a region (document 01: its starting root): a search that goes on while a candidate's levels are more.
+// The pseudo-peripheral root of a region (document 01: its starting root): a search that goes on while a candidate is farther, or as far and slimmer.
 use crate::degrees::least;
 use crate::levels::label;
 use crate::levels::walk;
@@ -9,21 +9,30 @@ use crate::numbers::fill;
 use crate::numbers::renumber;
 use crate::numbers::transfer;
 ghost use mathlib.Core.Path.{_≡_};
-ghost use mathlib.Core.Bool.{true};
+ghost use mathlib.Core.Bool.{true, false, _&&_, _||_};
 ghost use mathlib.Core.List.{[], headD};
 ghost use Prim.Native.Nat.{ℕ, _≤_, _<_};
+ghost use lib.Dec.{eqb, ltb};
 ghost use lib.ListN.{length, take};
 ghost use Rattle.plan.specs.Lists.{isIn, keep};
 ghost use Rattle.plan.specs.Mesh.{lent};
 ghost use Rattle.plan.specs.Choice.{candidates as candidatesOf, improves, nextRoot, rootOf};
 ghost use Rattle.dissection.specs.Numbers.{Only};
 ghost use Rattle.dissection.specs.Standing.{Regional, Standing};
-ghost use Rattle.dissection.specs.Rooted.{Rooted, Better};
+ghost use Rattle.dissection.specs.Rooted.{Rooted, Measured, Better};
 
-// A root with the number of its last level (document 01: ℓ).
+// A root with the number of its last level (document 01: ℓ) and the node count of its widest level.
 pub(crate) struct Root {
     pub(crate) node: u16,
     pub(crate) last: u16,
+    pub(crate) width: usize,
+}
+
+// Whether the next root replaces the root: its last level has a greater number, or an equal one and its widest level fewer nodes. O(1).
+fn replaces(next: Root, root: Root) -> bool
+    ensures { λ r. ⌜ r ≡ (ltb (root .last) (next .last) || (eqb (next .last) (root .last) && ltb (next .width) (root .width))) ⌝ }
+{
+    next.last > root.last || (next.last == root.last && next.width < root.width)
 }
 
 // The candidates of a root whose levels stand in `levels`: of each component of its last level a node of least degree in the region. Their number is
@@ -72,7 +81,7 @@ fn candidates(
     count
 }
 
-// The levels from node r, which then stand in the numbers. Returned is the root r with the number of its last level.
+// The levels from node r, which then stand in the numbers. Returned is the root r with the number of its last level and the node count of its widest.
 // O(length + entries of the region).
 fn levels_from(
     n: usize,
@@ -85,44 +94,54 @@ fn levels_from(
     irregular: bool,
 ) -> Root
     requires { ⌜ Regional (lent n (now starts) (now neighbours)) (now nodes) (now numbers) (now queue) × (isIn r (now nodes) ≡ true) ⌝ }
-    ensures { λ x. ⌜ (x .node ≡ r) × Rooted (lent n (now (starts .entry)) (now (neighbours .entry))) (now (nodes .entry)) r (x .last) × Standing (lent n (now (starts .entry)) (now (neighbours .entry))) (now (nodes .entry)) r (now (numbers .exit)) ⌝ }
+    ensures { λ x. ⌜ (x .node ≡ r) × Measured (lent n (now (starts .entry)) (now (neighbours .entry))) (now (nodes .entry)) r (x .last) (x .width) × Standing (lent n (now (starts .entry)) (now (neighbours .entry))) (now (nodes .entry)) r (now (numbers .exit)) ⌝ }
 {
     fill(nodes, FRESH, numbers);
     let w = walk(n, starts, neighbours, r, numbers, queue, irregular);
     let last = w.last;
-    Root { node: r, last }
+    let width = w.width;
+    Root {
+        node: r,
+        last,
+        width,
+    }
 }
 
-// The first of the candidates whose last level has a greater number than the root's, whose levels then stand in the numbers; the root where there
-// is none. O(candidates · entries of the region).
+// The first of the candidates that replaces the root, whose levels then stand in the numbers; the root where there is none. The former root, which
+// the root has replaced, does not replace it, so it is not walked from. O(candidates · entries of the region).
 fn first_better(
     n: usize,
     starts: &[u32],
     neighbours: &[u16],
     nodes: &[u16],
     root: Root,
+    former: u16,
     count: usize,
     found: &[u16],
     numbers: &mut [u16],
     queue: &mut [u16],
     irregular: bool,
 ) -> Root
-    requires { ⌜ Regional (lent n (now starts) (now neighbours)) (now nodes) (now numbers) (now queue) × Rooted (lent n (now starts) (now neighbours)) (now nodes) (root .node) (root .last) ⌝ }
+    requires { ⌜ Regional (lent n (now starts) (now neighbours)) (now nodes) (now numbers) (now queue) × Measured (lent n (now starts) (now neighbours)) (now nodes) (root .node) (root .last) (root .width) × (improves (lent n (now starts) (now neighbours)) (now nodes) (root .node) former ≡ false) ⌝ }
     requires { ⌜ (count ≤ length (now found)) × ((x : ℕ) → isIn x (take count (now found)) ≡ true → isIn x (now nodes) ≡ true) ⌝ }
-    ensures { λ r. ⌜ (r .node ≡ headD (keep (improves (lent n (now (starts .entry)) (now (neighbours .entry))) (now (nodes .entry)) (root .node)) (take count (now (found .entry)))) (root .node)) × Better (lent n (now (starts .entry)) (now (neighbours .entry))) (now (nodes .entry)) (root .last) (r .node) (r .last) (now (numbers .exit)) ⌝ }
+    ensures { λ r. ⌜ (r .node ≡ headD (keep (improves (lent n (now (starts .entry)) (now (neighbours .entry))) (now (nodes .entry)) (root .node)) (take count (now (found .entry)))) (root .node)) × Better (lent n (now (starts .entry)) (now (neighbours .entry))) (now (nodes .entry)) (root .node) (r .node) (r .last) (r .width) (now (numbers .exit)) ⌝ }
 {
     for c in 0..count {
+        let candidate = found[c];
+        if candidate == former {
+            continue;
+        }
         let next = levels_from(
             n,
             starts,
             neighbours,
             nodes,
-            found[c],
+            candidate,
             numbers,
             queue,
             irregular,
         );
-        if next.last > root.last {
+        if replaces(next, root) {
             return next;
         }
     }
@@ -137,6 +156,7 @@ fn improve(
     neighbours: &[u16],
     nodes: &[u16],
     root: Root,
+    former: u16,
     levels: &[u16],
     trial: &mut [u16],
     queue: &mut [u16],
@@ -144,8 +164,8 @@ fn improve(
     irregular: bool,
 ) -> Root
     requires { ⌜ Regional (lent n (now starts) (now neighbours)) (now nodes) (now trial) (now queue) × (n ≤ length (now levels)) × (n < length (now found)) ⌝ }
-    requires { ⌜ Rooted (lent n (now starts) (now neighbours)) (now nodes) (root .node) (root .last) × Standing (lent n (now starts) (now neighbours)) (now nodes) (root .node) (now levels) ⌝ }
-    ensures { λ r. ⌜ (r .node ≡ nextRoot (lent n (now (starts .entry)) (now (neighbours .entry))) (now (nodes .entry)) (root .node)) × Better (lent n (now (starts .entry)) (now (neighbours .entry))) (now (nodes .entry)) (root .last) (r .node) (r .last) (now (trial .exit)) ⌝ }
+    requires { ⌜ Measured (lent n (now starts) (now neighbours)) (now nodes) (root .node) (root .last) (root .width) × Standing (lent n (now starts) (now neighbours)) (now nodes) (root .node) (now levels) × (improves (lent n (now starts) (now neighbours)) (now nodes) (root .node) former ≡ false) ⌝ }
+    ensures { λ r. ⌜ (r .node ≡ nextRoot (lent n (now (starts .entry)) (now (neighbours .entry))) (now (nodes .entry)) (root .node)) × Better (lent n (now (starts .entry)) (now (neighbours .entry))) (now (nodes .entry)) (root .node) (r .node) (r .last) (r .width) (now (trial .exit)) ⌝ }
 {
     let count = candidates(
         n,
@@ -165,6 +185,7 @@ fn improve(
         neighbours,
         nodes,
         root,
+        former,
         count,
         found,
         trial,
@@ -173,9 +194,9 @@ fn improve(
     )
 }
 
-// The number of the last level from the region's pseudo-peripheral root, whose levels then stand in the numbers. Each turn of the search has
-// more levels than the one before. Candidates are walked from in `trial`, so that the root's own levels stay; in it every node is outside, before
-// and after. O(candidates tried · entries of the region).
+// The number of the last level from the region's pseudo-peripheral root, whose levels then stand in the numbers. No root comes twice, since each
+// improves on all before it. Candidates are walked from in `trial`, so that the root's own levels stay and are not walked again; in it every node is
+// outside, before and after. O(candidates tried · entries of the region).
 pub(crate) fn search(
     n: usize,
     starts: &[u32],
@@ -200,6 +221,7 @@ pub(crate) fn search(
         queue,
         irregular,
     );
+    let mut former = root.node;
     loop {
         let next = improve(
             n,
@@ -207,16 +229,18 @@ pub(crate) fn search(
             neighbours,
             nodes,
             root,
+            former,
             numbers,
             trial,
             queue,
             found,
             irregular,
         );
-        if next.last <= root.last {
+        if next.node == root.node {
             break;
         }
         transfer(nodes, trial, numbers);
+        former = root.node;
         root = next;
     }
     fill(nodes, OUTSIDE, trial);

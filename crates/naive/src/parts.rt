@@ -68,17 +68,36 @@ fn least_degree(m: &[u64; 64], region: u64, s: u64) -> usize {
     best
 }
 
-// The first candidate of the last level with more levels than the root, or 64 where there is none.
-fn farther(m: &[u64; 64], region: u64, ends: u64, last: usize) -> usize {
-    let mut rest = ends;
+// "The node count of its widest level".
+fn widest(l: Levels) -> u32 {
+    let mut most = 0u32;
+    for i in 0..64usize {
+        let count = size(l.sets[i]);
+        if most < count {
+            most = count;
+        }
+    }
+    most
+}
+
+// "A candidate replaces the root if its ℓ is greater, or if ℓ is equal and its widest level is smaller". Each is given by its levels.
+fn replaces(candidate: Levels, root: Levels) -> bool {
+    if candidate.last == root.last {
+        return widest(candidate) < widest(root);
+    }
+    root.last < candidate.last
+}
+
+// The first candidate in the last of the root's levels that replaces the root, or 64 where none does.
+fn replacement(m: &[u64; 64], region: u64, l: Levels) -> usize {
+    let mut rest = level(l, l.last);
     for turn in 0..64usize {
         if rest == 0 {
             return 64;
         }
         let c = component(m, rest, smallest(rest));
         let v = least_degree(m, region, c);
-        let l = levels_from(m, region, v);
-        if last < l.last {
+        if replaces(levels_from(m, region, v), l) {
             return v;
         }
         rest = without(rest, c);
@@ -86,13 +105,12 @@ fn farther(m: &[u64; 64], region: u64, ends: u64, last: usize) -> usize {
     64
 }
 
-// The pseudo-peripheral root of a region (document 01: starting root).
+// The pseudo-peripheral root of a region (document 01: starting root). What `replaces` compares gets better with every replacement, so no node
+// is the root twice, and as many turns as there are nodes are enough.
 fn root(m: &[u64; 64], region: u64) -> usize {
     let mut r = smallest(region);
     for turn in 0..64usize {
-        let l = levels_from(m, region, r);
-        let last = l.last;
-        let v = farther(m, region, level(l, last), last);
+        let v = replacement(m, region, levels_from(m, region, r));
         if v == 64 {
             return r;
         }

@@ -1,12 +1,12 @@
 -- Document 01, "From mesh to parts": George and Liu's choice of a region's part.
-use mathlib.Core.Bool.{Bool, cond}
+use mathlib.Core.Bool.{Bool, cond, _&&_, _||_}
 use mathlib.Core.List.{List, [], _∷_, map, headD, getLastD}
-use Prim.Native.Nat.{ℕ, zero, suc, _+_, _*_, _/_}
+use Prim.Native.Nat.{ℕ, zero, suc, _+_, _/_}
 use lib.Dec.{leb, ltb, eqb}
 use lib.ListN.{length, getD}
 use Rattle.plan.specs.Lists.{exists, keep, isIn}
 use Rattle.plan.specs.Mesh.{Mesh, neighboursOf, adjacent}
-use Rattle.plan.specs.Levels.{Graph, levels, eccentricity, components}
+use Rattle.plan.specs.Levels.{Graph, levels, eccentricity, width, components}
 
 -- Document 02, E2: "From now on degree counts only neighbours in the same region."
 unfoldable pub degreeIn : Mesh → List ℕ → ℕ → ℕ
@@ -30,11 +30,15 @@ unfoldable pub candidates : Mesh → List ℕ → ℕ → List ℕ
 candidates m region r =
     map (leastDegree (degreeIn m region)) (components (adjacent m) (getLastD (levels (adjacent m) region r) []))
 
--- whether candidate x replaces the root r: "If its ℓ is greater than r's"
+-- Whether candidate x replaces the root r. Document 02, E5: "A candidate replaces the root if its ℓ is greater, or if ℓ is equal and its widest level
+-- is smaller."
 unfoldable pub improves : Mesh → List ℕ → ℕ → ℕ → Bool
-improves m region r x = ltb (eccentricity (adjacent m) region r) (eccentricity (adjacent m) region x)
+improves m region r x =
+    let far : ℕ → ℕ = eccentricity (adjacent m) region in
+    let wide : ℕ → ℕ = width (adjacent m) region in
+    ltb (far r) (far x) || (eqb (far x) (far r) && ltb (wide x) (wide r))
 
--- The first candidate that improves "becomes r"; "When none is greater, r stays."
+-- The first candidate that improves "becomes r"; where none does, "r stays."
 unfoldable pub nextRoot : Mesh → List ℕ → ℕ → ℕ
 nextRoot m region r = headD (keep (improves m region r) (candidates m region r)) r
 
@@ -46,10 +50,10 @@ rootFrom (suc most) m region r =
     let found : ℕ = rootFrom most m region next in
     cond (eqb next r) r found
 
--- Pseudo-peripheral root: document 01's starting root, searched from "the region's smallest node". ℓ grows each time and there are no more levels
--- than nodes, so as many turns as nodes are enough; the square leaves room for a rule under which ℓ need not grow.
+-- Pseudo-peripheral root: document 01's starting root, searched from "the region's smallest node". Each root improves on all before it, so none comes
+-- twice, and as many turns as nodes are enough.
 unfoldable pub rootOf : Mesh → List ℕ → ℕ
-rootOf m region = rootFrom (length region * length region) m region (headD region 0)
+rootOf m region = rootFrom (length region) m region (headD region 0)
 
 -- "If ℓ is 0 or 1 the whole region is one part, uncut."
 unfoldable pub staysWhole : List ℕ → ℕ → Bool

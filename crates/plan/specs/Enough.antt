@@ -8,7 +8,7 @@ use Rattle.plan.specs.Lists.{occurrences, eachOnce}
 use Rattle.plan.specs.Refusals.{firstFault}
 use Rattle.plan.specs.Mesh.{noParent, Mesh, adjacent, meshChecks}
 use Rattle.plan.specs.Levels.{Graph, nextLevel, levelsBack, components}
-use Rattle.plan.specs.Choice.{nextRoot, rootOf, georgeLiu}
+use Rattle.plan.specs.Choice.{nextRoot, rootFrom, rootOf, georgeLiu}
 use Rattle.plan.specs.Dissection.{Forest, parts, parents}
 use Rattle.plan.specs.Steps.{State, begin, steps, byNumber}
 use Rattle.plan.specs.Parts.{parentOf, ancestors}
@@ -27,6 +27,12 @@ ComponentsWhole = (edge : Graph) (nodes : List ℕ) (v : ℕ) → occurrences v 
 -- one more search leaves the root
 abbrev pub RootStays : Type 0
 RootStays = (m : Mesh) (region : List ℕ) → nextRoot m region (rootOf m region) ≡ rootOf m region
+
+-- no root comes twice: where the root after more turns is the one after fewer, the search had ended there
+abbrev pub RootsDiffer : Type 0
+RootsDiffer =
+    (m : Mesh) (region : List ℕ) (r i j : ℕ) → i < j → rootFrom i m region r ≡ rootFrom j m region r
+    → nextRoot m region (rootFrom i m region r) ≡ rootFrom i m region r
 
 -- the parts hold each node once
 abbrev pub OrderWhole : Type 0

@@ -4,7 +4,7 @@ use Prim.Native.Nat.{ℕ}
 use Rattle.plan.specs.Lists.{listAt, eachOnce}
 use Rattle.plan.specs.Refusals.{firstFault, familyOf}
 use Rattle.plan.specs.Mesh.{neighboursOf, adjacent, badNodeCount, badStarts, badMeshStarts, tooManyEntries, neighbourOutside, listsItself, notAscending, listTooLong, oneSided, meshChecks}
-use Rattle.plan.specs.Levels.{nextLevel, addLevel, levelsBack, levels, eccentricity, component, componentsUpTo, components}
+use Rattle.plan.specs.Levels.{nextLevel, addLevel, levelsBack, levels, eccentricity, widest, width, component, componentsUpTo, components}
 use Rattle.plan.specs.Choice.{degreeIn, lesser, leastFrom, leastDegree, candidates, improves, nextRoot, rootFrom, rootOf, staysWhole, cutLevel, separator, numbering, standard, choosePart, georgeLiu}
 use Rattle.plan.specs.Dissection.{dissect, dissection, parts, parentsFrom, parents, order, sizes, positions}
 use Rattle.plan.specs.Steps.{pendingBelow, begin, stepWith, step, steps, byNumber}
@@ -22,5 +22,5 @@ use Rattle.plan.specs.Listing.{neighboursAt, entryCount, inputMesh, badI
 use Rattle.plan.specs.MatrixMarket.{linesOf, wordsOf, wordLines, banner, isBanner, isNumber, holdsNumbers, content, sizeLine, pairLines, pairsOf, badText, badMatrix, repeatedPair, areNeighbours, listsOf, meshOf, textMesh, meshCapacity, meshBuffersTooShort, madeChecks, textChecks, handMesh, readingText, fillMesh}
 
 unfoldable pub everything : ℕ
-unfolding headD getLastD flatten listAt eachOnce firstFault familyOf neighboursOf adjacent badNodeCount badStarts badMeshStarts tooManyEntries neighbourOutside listsItself notAscending listTooLong oneSided meshChecks nextLevel addLevel levelsBack levels eccentricity component componentsUpTo components degreeIn lesser leastFrom leastDegree candidates improves nextRoot rootFrom rootOf staysWhole cutLevel separator numbering standard choosePart georgeLiu dissect dissection parts parentsFrom parents order sizes positions pendingBelow begin stepWith step steps byNumber tabulate initial remaining eliminate joinsAfter column columns startsOf multiplications partOf parentOf ancestorsUpTo ancestors atOrAbove nodesWhere nodesOfPart uncutParts regionOfPart boundary boundarySize partBound bound isPath allEarlier hasSlot nextToAll clique uncutCliques rowCounts planBy planOf capacity buffersTooShort rowsTooShort planChecks handOut planning fill Demand3Of CliquesOf encode16 encode32 encode16s decode16 decode32 decode16s lengthAt fileLength encodeParts encodeContents encode parseAt parse badHeader badOrder mayBeParent badParts badColumn badColumns badRows outsideAncestors notNested covered notCovered contentsChecks tooFewBytes badMagic badVersion badLength headerChecks readChecks reading badSupply used suppliedChecks outputTooShort writeChecks writeOut writing handed badLayout layoutChecks positionOutside positionChecks questionChecks slotOf pairFound pairQuestion columnRefusal spanFound columnSpan columnRows slotOutside slotChecks holdsSlot columnOf slotFound slotQuestion neighboursAt entryCount inputMesh badInput listingChecks decimalUpTo decimal spaced headLine positionLine refusalLine print listing linesOf wordsOf wordLines banner isBanner isNumber holdsNumbers content sizeLine pairLines pairsOf badText badMatrix repeatedPair areNeighbours listsOf meshOf textMesh meshCapacity meshBuffersTooShort madeChecks textChecks handMesh readingText fillMesh
+unfolding headD getLastD flatten listAt eachOnce firstFault familyOf neighboursOf adjacent badNodeCount badStarts badMeshStarts tooManyEntries neighbourOutside listsItself notAscending listTooLong oneSided meshChecks nextLevel addLevel levelsBack levels eccentricity widest width component componentsUpTo components degreeIn lesser leastFrom leastDegree candidates improves nextRoot rootFrom rootOf staysWhole cutLevel separator numbering standard choosePart georgeLiu dissect dissection parts parentsFrom parents order sizes positions pendingBelow begin stepWith step steps byNumber tabulate initial remaining eliminate joinsAfter column columns startsOf multiplications partOf parentOf ancestorsUpTo ancestors atOrAbove nodesWhere nodesOfPart uncutParts regionOfPart boundary boundarySize partBound bound isPath allEarlier hasSlot nextToAll clique uncutCliques rowCounts planBy planOf capacity buffersTooShort rowsTooShort planChecks handOut planning fill Demand3Of CliquesOf encode16 encode32 encode16s decode16 decode32 decode16s lengthAt fileLength encodeParts encodeContents encode parseAt parse badHeader badOrder mayBeParent badParts badColumn badColumns badRows outsideAncestors notNested covered notCovered contentsChecks tooFewBytes badMagic badVersion badLength headerChecks readChecks reading badSupply used suppliedChecks outputTooShort writeChecks writeOut writing handed badLayout layoutChecks positionOutside positionChecks questionChecks slotOf pairFound pairQuestion columnRefusal spanFound columnSpan columnRows slotOutside slotChecks holdsSlot columnOf slotFound slotQuestion neighboursAt entryCount inputMesh badInput listingChecks decimalUpTo decimal spaced headLine positionLine refusalLine print listing linesOf wordsOf wordLines banner isBanner isNumber holdsNumbers content sizeLine pairLines pairsOf badText badMatrix repeatedPair areNeighbours listsOf meshOf textMesh meshCapacity meshBuffersTooShort madeChecks textChecks handMesh readingText fillMesh
 everything = 0

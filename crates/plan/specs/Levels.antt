@@ -1,7 +1,7 @@
 -- Document 01, "From mesh to parts": levels from a root and connected components, over any graph.
 use mathlib.Core.Bool.{Bool, not, _&&_}
 use mathlib.Core.List.{List, [], _∷_, reverse, headD, flatten}
-use Prim.Native.Nat.{ℕ, zero, suc, _-_}
+use Prim.Native.Nat.{ℕ, zero, suc, _-_, max}
 use lib.ListN.{length}
 use Rattle.plan.specs.Lists.{exists, keep, isIn, without}
 
@@ -33,6 +33,15 @@ levels edge region root = reverse (levelsBack (length region) edge region root)
 -- Eccentricity of the root: document 01's ℓ, "the number of the last level".
 unfoldable pub eccentricity : Graph → List ℕ → ℕ → ℕ
 eccentricity edge region root = length (levels edge region root) - 1
+
+-- the node count of the widest of several levels
+unfoldable pub widest : List (List ℕ) → ℕ
+widest [] = 0
+widest (level ∷ others) = max (length level) (widest others)
+
+-- Width from the root. Document 02, E5: "The walk over levels shall also report the node count of its widest level."
+unfoldable pub width : Graph → List ℕ → ℕ → ℕ
+width edge region root = widest (levels edge region root)
 
 -- the connected component of v in a set
 unfoldable pub component : Graph → List ℕ → ℕ → List ℕ

@@ -1,18 +1,30 @@
 -- Levels by number: level 0 is the root, and each next one is every node of the region next to the last level and in no earlier one.
 use mathlib.Core.Path.{_≡_, refl, sym, ap, ap₂, _∙_}
 use mathlib.Core.Bool.{Bool, true, false, not, _&&_}
-use mathlib.Core.List.{List, [], _∷_, headD, flatten}
-use Prim.Native.Nat.{ℕ, zero, suc, _-_, _<_}
+use mathlib.Core.List.{reverseAux, reverse, List, [], _∷_, headD, flatten}
+use Prim.Native.Nat.{ℕ, zero, suc, _-_, _<_, max}
 use native.Mathlib.Omega.{arith}
 use lib.ListN.{length, getD, take, drop, length-reverse}
 use lib.Seq.{drop-cons}
 use borrow.Author.Tests.{not-true}
 use Rattle.plan.specs.Lists.{exists, keep, isIn}
-use Rattle.plan.specs.Levels.{Graph, nextLevel, levelsBack, levels}
+use Rattle.plan.specs.Levels.{Graph, nextLevel, levelsBack, levels, widest}
 use Rattle.theory.proofs.Bools.{and-left, and-right}
 use Rattle.theory.proofs.Lists.{of-keep, keep-ext, Kept, take-reverse, getD-reverse}
 use Rattle.theory.proofs.Flatten.{isIn-flatten-reverse}
 use Rattle.theory.proofs.Levels.{Levelled, first, after, levelled}
+
+-- ---- the widest of them
+
+widest-reverseAux : (ls acc : List (List ℕ)) → widest (reverseAux ls acc) ≡ max (widest ls) (widest acc)
+unfolding widest
+widest-reverseAux [] acc = omega arith
+widest-reverseAux (l ∷ ls) acc = omega (arith, widest-reverseAux ls (l ∷ acc))
+
+-- it does not matter which way round they stand
+pub widest-reverse : (ls : List (List ℕ)) → widest (reverse ls) ≡ widest ls
+unfolding widest
+widest-reverse ls = omega (arith, widest-reverseAux ls [])
 
 module _ (edge : Graph) (region : List ℕ) (root : ℕ) where
   -- ---- the last one first: number i of them is level ℓ - i

@@ -3,7 +3,7 @@ use mathlib.Core.Path.{_≡_, sym, ap, _∙_}
 use mathlib.Core.Logic.{inl, inr}
 use mathlib.Core.Bool.{Bool, true, false, cond, false≢true}
 use mathlib.Core.List.{List, [], _∷_, map, headD, getLastD, flatten}
-use Prim.Native.Nat.{ℕ, zero, suc, _*_, _≤_, _<_}
+use Prim.Native.Nat.{ℕ, zero, suc, _≤_, _<_}
 use native.Mathlib.Omega.{arith}
 use lib.Dec.{eqb, ltb}
 use lib.ListN.{length}
@@ -94,7 +94,7 @@ module _ (m : Mesh) (region : List ℕ) where
       of-component (adjacent m) region r x (sym (levels-cover (adjacent m) region r h x) ∙ isIn-flatten-last ls x level) .0
 
   -- so is the next root
-  next-inside : (r : ℕ) → isIn r region ≡ true → isIn (nextRoot m region r) region ≡ true
+  pub next-inside : (r : ℕ) → isIn r region ≡ true → isIn (nextRoot m region r) region ≡ true
   unfolding nextRoot headD
   next-inside r h =
       go (keep (improves m region r) (candidates m region r)) (λ x t. candidate-inside r h x (of-keep (improves m region r) (candidates m region r) x t .0))
@@ -116,4 +116,4 @@ module _ (m : Mesh) (region : List ℕ) where
   -- the root that the search ends at is a node of the region
   pub root-inside : 0 < length region → isIn (rootOf m region) region ≡ true
   unfolding rootOf
-  root-inside h = found-inside (length region * length region) (headD region 0) (headD-isIn 0 region _ (isIn-getD region 0 0 h))
+  root-inside h = found-inside (length region) (headD region 0) (headD-isIn 0 region _ (isIn-getD region 0 0 h))

@@ -4,7 +4,7 @@ use mathlib.Core.Bool.{Bool, _||_}
 use mathlib.Core.List.{List, [], _∷_, _++_}
 use Prim.Native.Nat.{ℕ, zero, suc, _+_, _-_, _≤_, _<_}
 use native.Mathlib.Omega.{arith}
-use lib.ListN.{length, getD, take, drop, length-take, length-drop}
+use lib.ListN.{length, getD, take, drop, length-drop}
 use lib.Seq.{take-nil, take-take, take-add, drop-drop, getD-drop}
 use Rattle.plan.specs.Lists.{exists, segment}
 use Rattle.theory.proofs.Lists.{exists-more}
@@ -13,10 +13,6 @@ module _ {A : Type 0} where
   -- an empty segment
   pub segment-none : (l : List A) (a : ℕ) → segment l a a ≡ []
   segment-none l a = let z : a - a ≡ 0 = omega arith in rw z
-
-  -- a segment that is not empty has an element
-  pub segment-some : (l : List A) (a b : ℕ) → a < b → b ≤ length l → 0 < length (segment l a b)
-  segment-some l a b lt le = simp (length-take, length-drop) (omega arith)
 
   -- a segment in two
   pub segment-append : (l : List A) (a b c : ℕ) → a ≤ b → b ≤ c → segment l a c ≡ segment l a b ++ segment l b c

@@ -82,10 +82,6 @@ module _ (f : ℕ → ℕ) where
 
 -- ---- the triangle
 
-pub square : (k : ℕ) → k ≤ k * k
-square zero = omega arith
-square (suc k) = omega arith
-
 one-less : (m : ℕ) → suc m - 1 ≡ m
 one-less m = omega arith
 

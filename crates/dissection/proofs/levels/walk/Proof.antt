@@ -14,11 +14,11 @@ use Rattle.dissection.proofs.levels.walk.Tie as tie
 
 -- The numbers before the loop differ from those before the walk at the root alone, which was fresh.
 abbrev Inv-loop : tie.InvT-loop
-Inv-loop n starts neighbours root numbers₀ queue₀ irregular first last₀ lo₀ hi₀ numbers queue last lo hi =
-    (length numbers ≡ length numbers₀) × (length queue ≡ length queue₀) × Walking n (adjacent (lent n starts neighbours)) root (set numbers₀ root fresh) last lo hi numbers queue
+Inv-loop n starts neighbours root numbers₀ queue₀ irregular first last₀ width₀ lo₀ hi₀ numbers queue last width lo hi =
+    (length numbers ≡ length numbers₀) × (length queue ≡ length queue₀) × Walking n (adjacent (lent n starts neighbours)) root (set numbers₀ root fresh) last width lo hi numbers queue
 
 abbrev μ-loop : tie.MeasureT-loop
-μ-loop n starts neighbours root numbers₀ queue₀ irregular first last₀ lo₀ hi₀ numbers queue last lo hi = n - lo
+μ-loop n starts neighbours root numbers₀ queue₀ irregular first last₀ width₀ lo₀ hi₀ numbers queue last width lo hi = n - lo
 
 -- the start, seen from the loop
 abbrev start : tie.At-loop Inv-loop μ-loop → tie.Start Inv-loop μ-loop
@@ -27,6 +27,10 @@ start t = t .before .before .before .before .before .before
 -- the turn of the loop in which a level was advanced
 abbrev turn : tie.After-advance Inv-loop μ-loop → tie.At-loop Inv-loop μ-loop
 turn a = a .before .before .before
+
+-- the level that was advanced where one has come
+abbrev advanced : tie.Else1 Inv-loop μ-loop → tie.After-advance Inv-loop μ-loop
+advanced e = e .before .before .before .before .before
 
 -- the edges
 abbrev edge : tie.Start Inv-loop μ-loop → Graph
@@ -47,7 +51,7 @@ old c =
 -- what holds between two levels
 walking : (c : tie.At-loop Inv-loop μ-loop) →
     let l = c .loop in let s = start c in
-    Walking (s .args .n) (edge s) (s .args .root) (s .args .numbers .now) (l .last) (l .lo) (l .hi) (l .numbers) (l .queue)
+    Walking (s .args .n) (edge s) (s .args .root) (s .args .numbers .now) (l .last) (l .width) (l .lo) (l .hi) (l .numbers) (l .queue)
 walking c =
     let s = start c in
     walking-as (edge s) (s .args .root) (old (c .before)) (c .loop .inv .2)
@@ -82,17 +86,17 @@ advance-requires c κs =
       omega (arith, f),
       omega (arith, w .some),
       w .left,
-      walk-node (s .args .n) (edge s) (inside s) (omega (arith, f)) (s .args .numbers .now) (s .args .root) (s .pre .1) (s .pre .2) (l .last) (l .lo) (l .hi) (l .numbers) (l .queue) w,
+      walk-node (s .args .n) (edge s) (inside s) (omega (arith, f)) (s .args .numbers .now) (s .args .root) (s .pre .1) (s .pre .2) (l .last) (l .width) (l .lo) (l .hi) (l .numbers) (l .queue) w,
     )
 
 loop-less : tie.Need-loop-less Inv-loop μ-loop
 loop-less c =
-    let t = turn (c .before .before .before .before .before) in
+    let t = turn (advanced (c .before)) in
     omega (arith, few t, walking t .some)
 
 loop-again : tie.Need-loop-again Inv-loop μ-loop
 loop-again c =
-    let v = c .before .before .before .before .before in
+    let v = advanced (c .before) in
     let t = turn v in
     let l = t .loop in
     let s = start t in
@@ -100,8 +104,8 @@ loop-again c =
     let r = v .advance in (
       r .ensures .numbersLength ∙ l .inv .0,
       r .ensures .queueLength ∙ l .inv .1,
-      walking-as (edge s) (a .root) (sym (old (t .before)))
-          (walk-step (a .n) (edge s) (inside s) (omega (arith, few t)) (a .numbers .now) (a .root) (l .last) (l .lo) (l .hi) (l .numbers) (l .queue) _ _ (r .result) (walking t) (r .ensures) (c .if1 .left)),
+      rw (c .greater .ensures) (walking-as (edge s) (a .root) (sym (old (t .before)))
+          (walk-step (a .n) (edge s) (inside s) (omega (arith, few t)) (a .numbers .now) (a .root) (l .last) (l .width) (l .lo) (l .hi) (l .numbers) (l .queue) _ _ (r .result) (walking t) (r .ensures) (c .before .if1 .left))),
     )
 
 same-length : tie.Need-same-length Inv-loop μ-loop
@@ -123,7 +127,7 @@ returns c =
     let l = t .loop in
     let s = start t in
     let r = v .advance in
-    walk-end (s .args .n) (edge s) (inside s) (omega (arith, few t)) (s .args .numbers .now) (s .args .root) (s .pre .1) (s .pre .2) (l .last) (l .lo) (l .hi) (l .numbers) (l .queue) _ _ (r .result)
+    walk-end (s .args .n) (edge s) (inside s) (omega (arith, few t)) (s .args .numbers .now) (s .args .root) (s .pre .1) (s .pre .2) (l .last) (l .width) (l .lo) (l .hi) (l .numbers) (l .queue) _ _ (r .result)
     (walking t) (r .ensures) (c .if1 .taken)
 
 pub walk-spec : {M : Type 1} → statement M
@@ -139,7 +143,9 @@ walk-spec =
     loop-holds
     (λ c. omega (arith, few c))
     advance-requires
-    (λ c. omega (arith, few (turn (c .before .before .before .before .before))))
+    (λ c. search needs)
+    (λ c κs. search needs)
+    (λ c. omega (arith, few (turn (advanced (c .before)))))
     loop-less
     loop-again
     same-length

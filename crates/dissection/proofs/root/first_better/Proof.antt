@@ -7,7 +7,6 @@ use native.Mathlib.Omega.{arith}
 use lib.ListN.{length, getD, take, drop}
 use lib.Seq.{length-take-le, getD-take}
 use borrow.Author.Needs.{needs}
-use borrow.Author.Tests.{lt-ltb, le-ltb}
 use Rattle.plan.specs.Lists.{keep}
 use Rattle.plan.specs.Mesh.{Mesh, lent}
 use Rattle.plan.specs.Choice.{improves}
@@ -19,12 +18,12 @@ use Rattle.dissection.proofs.root.first_better.Statement.{statement}
 use Rattle.dissection.proofs.root.first_better.Tie as tie
 
 abbrev Inv-loop : tie.InvT-loop
-Inv-loop n starts neighbours nodes root count found numbers₀ queue₀ irregular c₀ numbers queue c =
+Inv-loop n starts neighbours nodes root former count found numbers₀ queue₀ irregular c₀ numbers queue c =
     (c ≤ count) × (length numbers ≡ length numbers₀) × (length queue ≡ length queue₀) × Regional (lent n starts neighbours) nodes numbers queue
     × (keep (improves (lent n starts neighbours) nodes (root .node)) (take count found) ≡ keep (improves (lent n starts neighbours) nodes (root .node)) (drop c (take count found)))
 
 abbrev μ-loop : tie.MeasureT-loop
-μ-loop n starts neighbours nodes root count found numbers₀ queue₀ irregular c₀ numbers queue c = count - c
+μ-loop n starts neighbours nodes root former count found numbers₀ queue₀ irregular c₀ numbers queue c = count - c
 
 -- the mesh
 abbrev mesh : tie.Start Inv-loop μ-loop → Mesh
@@ -52,16 +51,29 @@ candidate t lt = let s = entry t in getD-take (s .args .count) (s .args .found .
 
 levels-from-requires : tie.Need-levels-from-requires Inv-loop μ-loop
 levels-from-requires c κs =
-    let t = c .before .before .before .before in
+    let t = c .before .before .before .before .before in
     let s = entry t in
     let k = t .loop .c in
     let lt : k < s .args .count = search needs in
     (t .loop .inv .3, s .pre .1 .1 (getD (s .args .found .now) k 0) (rw (candidate t lt) at (isIn-getD (listed t) k 0 (omega (arith, many t)))))
 
+-- the former root is passed over
+loop-again : tie.Need-loop-again Inv-loop μ-loop
+loop-again c =
+    let t = c .before .before .before in
+    let s = entry t in
+    let lt : t .loop .c < s .args .count = search needs in (
+      search needs,
+      t .loop .inv .1,
+      t .loop .inv .2,
+      t .loop .inv .3,
+      scan-miss (passes t) (listed t) (t .loop .c) (omega (arith, many t)) (t .loop .inv .4) (ap (passes t) (candidate t lt ∙ c .if1 .taken) ∙ s .pre .0 .2),
+    )
+
 returns : tie.Need-returns Inv-loop μ-loop
 returns c =
-    let f = c .before .before .before .before .before .before .before in
-    let t = f .before .before .before .before .before in
+    let f = c .before .before .before .before .before .before in
+    let t = f .before .before .before .before .before .before in
     let s = entry t in
     let e = f .levels-from .ensures in
     let nodes = s .args .nodes .now in
@@ -69,26 +81,26 @@ returns c =
       e .0
           ∙ sym (candidate t lt)
           ∙ sym (scan-hit (passes t) (listed t) (t .loop .c) (s .args .root .node) (omega (arith, many t)) (t .loop .inv .4)
-          (ap (passes t) (candidate t lt) ∙ improves-is (mesh s) nodes (s .pre .0 .1) (e .1) ∙ lt-ltb (s .args .root .last) (f .levels-from .result .last) (omega (arith, c .if1 .taken)))),
+          (ap (passes t) (candidate t lt) ∙ improves-is (mesh s) nodes (s .pre .0 .1) (e .1) ∙ sym (c .before .replaces .ensures) ∙ c .if2 .taken)),
       better-walked (mesh s) nodes (e .0) (e .1) (e .2),
     )
 
-loop-again : tie.Need-loop-again Inv-loop μ-loop
-loop-again c =
-    let f = c .before .before .before .before .before .before .before in
-    let t = f .before .before .before .before .before in
+loop-again-2 : tie.Need-loop-again-2 Inv-loop μ-loop
+loop-again-2 c =
+    let f = c .before .before .before .before .before .before in
+    let t = f .before .before .before .before .before .before in
     let s = entry t in
     let e = f .levels-from .ensures in
     let nodes = s .args .nodes .now in
     let lt : t .loop .c < s .args .count = search needs in
-    let new : length (f .levels-from .last .1 .1 .1 .1 .1 .0) ≡ length (t .loop .numbers) = c .before .before .before .before .before .before .numbers .given in
-    let after : length (f .levels-from .last .1 .1 .1 .1 .1 .1 .0) ≡ length (t .loop .queue) = c .before .before .before .before .queue .given in (
+    let new : length (f .levels-from .last .1 .1 .1 .1 .1 .0) ≡ length (t .loop .numbers) = c .before .before .before .before .before .numbers .given in
+    let after : length (f .levels-from .last .1 .1 .1 .1 .1 .1 .0) ≡ length (t .loop .queue) = c .before .before .before .queue .given in (
       search needs,
       new ∙ t .loop .inv .1,
       after ∙ t .loop .inv .2,
       regional-again (mesh s) nodes (t .loop .inv .3) (e .2 .only) new after,
       scan-miss (passes t) (listed t) (t .loop .c) (omega (arith, many t)) (t .loop .inv .4)
-          (ap (passes t) (candidate t lt) ∙ improves-is (mesh s) nodes (s .pre .0 .1) (e .1) ∙ le-ltb (s .args .root .last) (f .levels-from .result .last) (omega (arith, c .if1 .left))),
+          (ap (passes t) (candidate t lt) ∙ improves-is (mesh s) nodes (s .pre .0 .1) (e .1) ∙ sym (c .before .replaces .ensures) ∙ c .if2 .left),
     )
 
 returns-2 : tie.Need-returns-2 Inv-loop μ-loop
@@ -108,13 +120,17 @@ first-better-spec =
     (λ c. (search needs, refl, refl, c .before .before .before .before .before .before .pre .0 .0, refl))
     (λ c. search needs)
     (λ c. search needs)
+    (λ c. search needs)
+    (λ c. search needs)
+    loop-again
     levels-from-requires
+    (λ c κs. search needs)
     (λ c. search needs)
     (λ c. search needs)
     returns
     (λ c. search needs)
     (λ c. search needs)
-    loop-again
+    loop-again-2
     (λ c. search needs)
     (λ c. search needs)
     returns-2)

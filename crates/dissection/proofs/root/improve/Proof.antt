@@ -30,10 +30,10 @@ first-better-requires c κs =
     let e = a .candidates .ensures in
     let nodes = s .args .nodes .now in
     let r = s .args .root .node in (
-      (regional-again (mesh s) nodes (s .pre .0 .0) (e .2) (trial .trial .given) (queue .queue .given), s .pre .1 .0),
+      (regional-again (mesh s) nodes (s .pre .0 .0) (e .2) (trial .trial .given) (queue .queue .given), s .pre .1 .0, s .pre .1 .2),
       (
         omega (arith, e .1, s .pre .0 .2, found .found .given),
-        λ x t. candidate-inside (mesh s) nodes r (s .pre .1 .0 .inside) x (ap (isIn x) (sym (e .0)) ∙ t),
+        λ x t. candidate-inside (mesh s) nodes r (s .pre .1 .0 .rooted .inside) x (ap (isIn x) (sym (e .0)) ∙ t),
       ),
     )
 

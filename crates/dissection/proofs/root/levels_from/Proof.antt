@@ -7,7 +7,7 @@ use Rattle.plan.specs.Lists.{isIn}
 use Rattle.plan.specs.Mesh.{Mesh, lent}
 use Rattle.theory.proofs.Bools.{cond-true}
 use Rattle.dissection.specs.Numbers.{fresh}
-use Rattle.dissection.proofs.Standing.{walk-rooted, walk-standing}
+use Rattle.dissection.proofs.Standing.{walk-measured, walk-standing}
 use Rattle.dissection.proofs.root.levels_from.Statement.{statement}
 use Rattle.dissection.proofs.root.levels_from.Tie as tie
 
@@ -43,7 +43,7 @@ returns c =
     let s = entry f in
     let nodes = s .args .nodes .now in (
       refl,
-      walk-rooted (mesh s) nodes (s .pre .0) (s .pre .1) (w .walk .ensures) (f .fill .ensures),
+      walk-measured (mesh s) nodes (s .pre .0) (s .pre .1) (w .walk .ensures) (f .fill .ensures),
       walk-standing (mesh s) nodes (s .pre .0) (s .pre .1) (w .walk .ensures) (f .fill .ensures),
     )
 
