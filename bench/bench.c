@@ -325,8 +325,8 @@ static void measure_others(void) {
     make_random(&mesh, 4096, 8192); measure_mesh("random, 8192 edges", PLAN, PLAN);
     make_random(&mesh, 4096, 32768); measure_mesh("random, 32768 edges", PLAN, PLAN);
     make_random(&mesh, 2600, 32768); measure_mesh("random, 2600 nodes", PLAN, PLAN);
-    make_bush(&mesh, 0, 1450, 20); measure_mesh("bush, no tails", PLAN, PLAN);
-    make_bush(&mesh, 237, 1450, 20); measure_slow_mesh("bush, 237 tails");
+    make_bush(&mesh, 0); measure_mesh("bush, no tails", PLAN, PLAN);
+    make_bush(&mesh, 72); measure_slow_mesh("bush, 72 tails");
 }
 
 /* The largest legal plan: one part, and every pair of positions has a slot. No mesh within the limits has it, so it is made here. */

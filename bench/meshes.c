@@ -156,30 +156,51 @@ void make_cliques(Mesh *mesh, size_t nodes, size_t size) {
     finish(mesh);
 }
 
-/* Each leaf is joined to `degree` hubs by chance, each hub to as many leaves as there is room for. */
-static void join_leaves(size_t first_hub, size_t hubs, size_t first_leaf, size_t leaves, size_t degree) {
-    static uint16_t hub[NDP_MAX_ENTRIES];
-    for (size_t k = 0; k < leaves * degree; k++) hub[k] = first_hub + k % hubs;
-    shuffle(hub, leaves * degree);
-    for (size_t k = 0; k < leaves * degree; k++) join(hub[k], first_leaf + k / degree);
-}
+/* A bush: how many nodes a tail has, how many joints, side nodes, tops and branches there are, and how many hubs and leaves a branch has. */
+enum { TAIL = 6, JOINTS = 4, SIDES = 25, GROUPS = 8, GROUP = 11, HUBS = 13, LEAVES = 25 };
+enum { TOPS = GROUPS * (GROUPS - 1) / 2, BRANCHES = GROUPS * GROUP };
 
-/* From a tail's last node to a leaf it is as far as to the tail's first node: over a joint, a top, a branch and a hub. The nodes of the next tail are
- * next to the last node, so that they are never further than the leaves while this tail stands. */
-void make_bush(Mesh *mesh, size_t tails, size_t leaves, size_t degree) {
-    enum { TAIL = 6, TOPS = 4, MOST = NDP_MAX_NEIGHBOURS - 1, TAILS = NDP_MAX_NEIGHBOURS - TOPS };
-    size_t hubs = (leaves * degree + MOST - 1) / MOST, branches = (hubs + MOST - 1) / MOST, joints = (tails + TAILS - 1) / TAILS;
-    size_t first_joint = TAIL * tails, first_top = first_joint + joints, first_branch = first_top + TOPS, first_hub = first_branch + branches;
-    begin(mesh, first_hub + hubs + leaves);
+/* Paths of six nodes from node 0 on, whose last nodes hang on the joints in turn. The nodes of the next tail are next to the last node, so that they
+ * are never further than the leaves while this tail stands. */
+static void join_tails(size_t tails, size_t first_joint) {
     for (size_t t = 0; t < tails; t++) {
         size_t first = TAIL * t, last = first + TAIL - 1;
         for (size_t v = first; v < last; v++) join(v, v + 1);
         for (size_t v = last + 1; t + 1 < tails && v < last + TAIL; v++) join(last, v);
-        join(last, first_joint + t / TAILS);
+        join(last, first_joint + t % JOINTS);
     }
-    for (size_t v = first_joint; v < first_top; v++) for (size_t top = first_top; top < first_branch; top++) join(v, top);
-    for (size_t b = 0; b < branches; b++) join(first_top + b % TOPS, first_branch + b);
-    for (size_t h = 0; h < hubs; h++) join(first_branch + h / MOST, first_hub + h);
-    join_leaves(first_hub, hubs, first_hub + hubs, leaves, degree);
+}
+
+/* Each top is next to the branches of two groups, and every two groups have one, so that the way from a branch to another leads over one top. The
+ * joints are next to the four tops of groups 0 and 1, 2 and 3, 4 and 5, 6 and 7, so that every branch is equally far from them. */
+static void join_tops(size_t first_joint, size_t first_top, size_t first_branch) {
+    size_t top = first_top;
+    for (size_t a = 0; a < GROUPS; a++) for (size_t b = a + 1; b < GROUPS; b++, top++) {
+        for (size_t k = 0; k < GROUP; k++) { join(top, first_branch + a * GROUP + k); join(top, first_branch + b * GROUP + k); }
+        for (size_t j = 0; a % 2 == 0 && b == a + 1 && j < JOINTS; j++) join(top, first_joint + j);
+    }
+}
+
+/* A branch with its hubs, and its leaves, each next to all of these hubs. */
+static void join_leaves(size_t branch, size_t first_hub, size_t first_leaf) {
+    for (size_t h = first_hub; h < first_hub + HUBS; h++) {
+        join(branch, h);
+        for (size_t l = first_leaf; l < first_leaf + LEAVES; l++) join(h, l);
+    }
+}
+
+/* From a tail's last node to a leaf it is as far as to the tail's first node: over a joint, a top, a branch and a hub. The leaves are the widest
+ * level from the tail's first node. From a leaf, the leaves of all other branches make one level with the side nodes, which are as many as the leaves
+ * of its own branch, and with nodes of tails: it is wider. */
+void make_bush(Mesh *mesh, size_t tails) {
+    size_t joint = TAIL * tails, side = joint + JOINTS, top = side + 1 + SIDES, branch = top + TOPS, hub = branch + BRANCHES;
+    size_t leaf = hub + BRANCHES * HUBS;
+    begin(mesh, leaf + BRANCHES * LEAVES);
+    join_tails(tails, joint);
+    for (size_t v = joint; v < side; v++) for (size_t w = joint; w < v; w++) join(v, w);
+    join(joint, side);
+    for (size_t k = 1; k <= SIDES; k++) join(side, side + k);
+    join_tops(joint, top, branch);
+    for (size_t b = 0; b < BRANCHES; b++) join_leaves(branch + b, hub + b * HUBS, leaf + b * LEAVES);
     finish(mesh);
 }

@@ -32,8 +32,8 @@ void make_random(Mesh *mesh, size_t nodes, size_t edges);
 /* A chain of cliques of `size` nodes, each joined to the next by one edge; a size up to NDP_MAX_NEIGHBOURS. */
 void make_cliques(Mesh *mesh, size_t nodes, size_t size);
 
-/* A bush: `leaves` that are each joined to `degree` hubs by chance, and a tree over the hubs, from whose top `tails` hang, paths of six nodes. In a
- * region that holds the bush every leaf is a candidate for the root and none is better, and the cut takes the last node of one tail: there are as
- * many cuts as tails, and for each as many walks over all entries as leaves. */
-void make_bush(Mesh *mesh, size_t tails, size_t leaves, size_t degree);
+/* A bush: 2,200 leaves on 1,144 hubs, and branches, tops and joints over the hubs, from which up to 72 tails hang, paths of six nodes. In a region
+ * that holds the bush and a tail every leaf is a candidate for the root, equally far and wider, so none is better, and the cut takes the last node of
+ * one tail: there are as many cuts as tails, and for each as many walks over all entries as leaves. */
+void make_bush(Mesh *mesh, size_t tails);
 #endif
