@@ -1,5 +1,5 @@
-//! Inputs on which other readings of document 01 differ, with the answers of the reading taken (docs/DECISIONS.md). The
-//! numbers stand here by themselves, so that they do not depend on the plain planner's reading.
+//! Inputs on which other readings of documents 01 and 02 differ, with the answers of the reading taken (docs/DECISIONS.md).
+//! The numbers stand here by themselves, so that they do not depend on the plain planner's reading.
 
 use crate::calls::{ample_room, plan, plan_expecting, read_expecting, write_expecting, LentLayout};
 use crate::meshes::{from_edges, from_lists};
@@ -21,6 +21,7 @@ fn choice_of_the_root() {
     expect_order(&mesh(7, &["03", "04", "12", "14", "23", "36", "45"]), &[1, 5, 4, 3, 6, 0, 2]);
     expect_order(&mesh(5, &["01", "02", "03", "04", "14", "34"]), &[1, 2, 3, 0, 4]);
     expect_order(&mesh(5, &["01", "02", "03", "04", "13", "34"]), &[1, 2, 4, 0, 3]);
+    expect_order(&mesh(6, &["01", "02", "03", "04", "05", "14", "15", "23"]), &[2, 3, 4, 5, 0, 1]);
 }
 
 fn expect_parts(mesh: &MeshLists, order: &[u16], sizes: &[u16]) {
@@ -28,19 +29,51 @@ fn expect_parts(mesh: &MeshLists, order: &[u16], sizes: &[u16]) {
     assert_eq!((&planned.order[..], &planned.sizes[..]), (order, sizes));
 }
 
-/// Degree counts neighbours in the region. With nodes already chosen, 0 1 2 3 of the first mesh and 1 2 3 6 of the second
+/// Of two ends that are equally far, one with a narrower widest level replaces the root. Without a look at the widths these
+/// would have other parts, and all but the first two also by the node count of the last level.
+#[test]
+fn narrower_end_replaces_the_root() {
+    expect_parts(&mesh(5, &["04", "12", "14", "23", "24", "34"]), &[0, 1, 3, 2, 4], &[1, 1, 1, 2]);
+    expect_parts(&mesh(5, &["01", "02", "03", "04", "23", "24"]), &[1, 3, 4, 0, 2], &[1, 1, 1, 2]);
+    let edges = ["01", "02", "03", "12", "13", "24", "25", "34", "35", "46", "56"];
+    expect_parts(&mesh(7, &edges), &[0, 1, 4, 5, 6, 2, 3], &[2, 1, 1, 1, 2]);
+    let edges = ["01", "02", "06", "14", "15", "17", "18", "23", "35", "37", "45", "48", "78"];
+    expect_parts(&mesh(9, &edges), &[1, 4, 8, 2, 3, 5, 7, 6, 0], &[3, 2, 2, 1, 1]);
+    let edges = ["01", "02", "03", "04", "14", "15", "23", "24", "25", "56"];
+    expect_parts(&mesh(7, &edges), &[3, 4, 0, 5, 6, 1, 2], &[1, 1, 1, 2, 2]);
+}
+
+/// The first candidate that improves replaces the root: in the first mesh not the narrowest of all, by which 1, 4 5, 3, 2
+/// and 0 would be the parts; in the second not a later one that is farther, by which 0, 2 3, 5, 7, 6 and 1 4 would be.
+#[test]
+fn first_narrower_end_replaces_the_root() {
+    expect_parts(&mesh(6, &["02", "03", "05", "13", "34", "35", "45"]), &[0, 2, 1, 4, 3, 5], &[2, 1, 1, 2]);
+    let edges = ["04", "12", "15", "23", "24", "46", "56", "67"];
+    expect_parts(&mesh(8, &edges), &[0, 1, 3, 2, 6, 7, 4, 5], &[1, 1, 1, 1, 2, 2]);
+}
+
+/// An end that is equally far and equally wide does not replace the root: otherwise 0 and 3 of the first mesh would replace
+/// one another without end. The candidates of the second have narrower last levels, but no narrower widest one; by the last
+/// levels every node would be a part.
+#[test]
+fn equally_wide_end_leaves_the_root() {
+    expect_parts(&mesh(5, &["01", "02", "13", "23", "24"]), &[1, 2, 4, 0, 3], &[1, 2, 2]);
+    expect_parts(&mesh(5, &["04", "13", "23", "34"]), &[0, 4, 1, 2, 3], &[2, 1, 1, 1]);
+}
+
+/// Degree counts neighbours in the region. With nodes already chosen, 1 2 3 4 of the first mesh and 1 2 3 6 of the second
 /// would stay uncut, though not all next to one another; the third would be cut in another way two cuts deep; in the
 /// fourth another node would be least.
 #[test]
 fn degree_leaves_out_chosen_nodes() {
-    let edges = ["01", "02", "03", "12", "13", "24", "25", "34", "35", "46", "56"];
-    expect_parts(&mesh(7, &edges), &[2, 3, 0, 1, 6, 4, 5], &[1, 1, 2, 1, 2]);
+    let edges = ["01", "03", "04", "05", "12", "13", "14", "23", "24"];
+    expect_parts(&mesh(6, &edges), &[3, 4, 1, 2, 5, 0], &[1, 1, 2, 1, 1]);
     let edges = ["01", "05", "12", "13", "16", "23", "26", "34", "45", "46"];
     expect_parts(&mesh(7, &edges), &[3, 6, 1, 2, 5, 0, 4], &[1, 1, 2, 1, 2]);
-    let edges = ["01", "02", "06", "14", "15", "17", "18", "23", "35", "37", "45", "48", "78"];
-    expect_parts(&mesh(9, &edges), &[5, 7, 8, 1, 4, 2, 3, 6, 0], &[1, 2, 2, 1, 1, 1, 1]);
-    let edges = ["01", "02", "03", "04", "14", "15", "23", "24", "25", "56"];
-    expect_parts(&mesh(7, &edges), &[1, 2, 3, 0, 4, 6, 5], &[1, 2, 2, 1, 1]);
+    let edges = ["03", "04", "08", "12", "24", "25", "26", "28", "34", "35", "36", "37", "45", "47", "56"];
+    expect_parts(&mesh(9, &edges), &[4, 7, 6, 3, 5, 8, 0, 1, 2], &[2, 1, 2, 1, 1, 1, 1]);
+    let edges = ["01", "02", "03", "23", "24", "25", "26", "34", "45", "56"];
+    expect_parts(&mesh(7, &edges), &[1, 3, 5, 6, 2, 4, 0], &[1, 1, 2, 2, 1]);
 }
 
 /// All neighbours in the region, not only those in the last level, by which 1 4, 2 5 and 0 3 would be the parts.
