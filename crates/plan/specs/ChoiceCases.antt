@@ -48,6 +48,10 @@ kite = lent 6 (0 ∷ 2 ∷ 5 ∷ 8 ∷ 11 ∷ 13 ∷ 14 ∷ []) (1 ∷ 2 ∷ 0 �
 unfoldable pub slim : Mesh
 slim = lent 6 (0 ∷ 3 ∷ 4 ∷ 5 ∷ 9 ∷ 11 ∷ 14 ∷ []) (2 ∷ 3 ∷ 5 ∷ 3 ∷ 0 ∷ 0 ∷ 1 ∷ 4 ∷ 5 ∷ 3 ∷ 5 ∷ 0 ∷ 3 ∷ 4 ∷ [])
 
+-- edge 01
+unfoldable pub pair : Mesh
+pair = lent 2 (0 ∷ 1 ∷ 2 ∷ []) (1 ∷ 0 ∷ [])
+
 -- edges 04 12 15 23 24 46 56 67
 unfoldable pub early : Mesh
 early = lent 8 (0 ∷ 1 ∷ 3 ∷ 6 ∷ 7 ∷ 10 ∷ 12 ∷ 15 ∷ 16 ∷ []) (4 ∷ 2 ∷ 5 ∷ 1 ∷ 3 ∷ 4 ∷ 2 ∷ 0 ∷ 2 ∷ 6 ∷ 1 ∷ 6 ∷ 4 ∷ 5 ∷ 7 ∷ 6 ∷ [])
@@ -78,7 +82,7 @@ choices =
     -- Node 1 replaces node 0, from which ℓ is 2, and node 2 replaces node 1: ℓ is 3 from both, and the widest level has two nodes, not three. If
     -- node 1 stayed, or if the best of node 0's candidates, node 4, replaced it, the parts would be 1, 4 5, 3, 2 and 0.
     ∷ parted slim ((0 ∷ 2 ∷ []) ∷ (1 ∷ []) ∷ (4 ∷ []) ∷ (3 ∷ 5 ∷ []) ∷ []) (3 ∷ 3 ∷ 3 ∷ noParent ∷ []) (0 ∷ 1 ∷ 2 ∷ [])
-    ∷ wide slim (3 ∷ 3 ∷ 2 ∷ 4 ∷ 2 ∷ 3 ∷ []) ∷ replaces slim 0 1 ∷ replaces slim 1 2 ∷ stays slim 2 1
+    ∷ wide slim (3 ∷ 3 ∷ 2 ∷ 4 ∷ 2 ∷ 3 ∷ []) ∷ wide pair (1 ∷ 1 ∷ []) ∷ replaces slim 0 1 ∷ replaces slim 1 2 ∷ stays slim 2 1
     -- If a farther candidate came before a slimmer one, though its component is a later one, the parts would be 0, 2 3, 5, 7, 6 and 1 4.
     ∷ parted early ((0 ∷ []) ∷ (1 ∷ []) ∷ (3 ∷ []) ∷ (2 ∷ []) ∷ (6 ∷ 7 ∷ []) ∷ (4 ∷ 5 ∷ []) ∷ []) (5 ∷ 3 ∷ 3 ∷ 5 ∷ 5 ∷ noParent ∷ []) (0 ∷ 1 ∷ 2 ∷ 4 ∷ [])
     -- Node 3 does not replace node 0: ℓ and the widest level are equal. Node 4 does, its ℓ being greater.
@@ -96,5 +100,5 @@ choices =
 
 -- every row of the table holds
 pub chosen : every choiceHolds choices ≡ true
-unfolding everything keepsRule choiceHolds heavy kite slim early alike broom thrice inner choices
+unfolding everything keepsRule choiceHolds heavy kite slim pair early alike broom thrice inner choices
 chosen = refl
