@@ -12,6 +12,7 @@ pub mod Demand3
 pub mod Cliques
 pub mod Planning
 pub mod File
+pub mod RowFaults
 pub mod Reading
 pub mod Writing
 pub mod RoundTrips
@@ -26,4 +27,5 @@ pub mod MeshCases
 pub mod ChoiceCases
 pub mod Starred
 pub mod SlotCases
+pub mod RowFaultCases
 pub mod WorkedTexts

@@ -49,6 +49,7 @@ pub mod RootInside
 pub mod UncutParts
 pub mod Handed
 pub mod Planned
+pub mod RowFaults
 pub mod Readable
 pub mod RoundTrips
 pub mod Steps

@@ -4,6 +4,7 @@ use mathlib.Core.Logic.{inl, inr}
 use mathlib.Core.Bool.{Bool, true, false, not, _&&_, _||_}
 use mathlib.Core.List.{List, [], _∷_, headD}
 use Prim.Native.Nat.{ℕ, zero, suc, _+_, _-_, _≤_, _<_}
+use native.Mathlib.Nat.{zero-add}
 use native.Mathlib.Numerals.{add-one}
 use native.Mathlib.Omega.{arith}
 use lib.Dec.{ltb}
@@ -12,14 +13,25 @@ use lib.Seq.{drop-cons}
 use borrow.Author.Tests.{not-false}
 use Rattle.plan.specs.Lists.{exists, every, keep, upFrom, below, isIn, ascending, falls}
 use Rattle.theory.proofs.Bools.{clash, refuted, eq-or-ne, cond-true, cond-false}
-use Rattle.theory.proofs.Lists.{every-isIn, isIn-every, isIn-exists, exists-none, none-exists, exists-map, isIn-getD}
-use Rattle.theory.proofs.Ranges.{isIn-below, below-isIn, map-getD}
+use Rattle.theory.proofs.Lists.{every-isIn, isIn-every, isIn-exists, exists-none, none-exists, exists-append, exists-map, isIn-getD}
+use Rattle.theory.proofs.Ranges.{upFrom-snoc, isIn-below, below-isIn, map-getD}
 
 -- no place below i passes
 abbrev pub Clear : (ℕ → Bool) → ℕ → Type 0
 Clear p i = exists p (below i) ≡ false
 
 module _ (p : ℕ → Bool) where
+  -- one place more
+  pub exists-next : (i : ℕ) → exists p (below (i + 1)) ≡ (exists p (below i) || p i)
+  exists-next i =
+      ap (exists p) (ap below (add-one i) ∙ upFrom-snoc 0 i)
+      ∙ exists-append p (below i) ((0 + i) ∷ [])
+      ∙ ap (λ (b : Bool). exists p (below i) || b) (or-none (p (0 + i)) ∙ ap p (zero-add i))
+    where
+      or-none : (b : Bool) → (b || false) ≡ b
+      or-none true = refl
+      or-none false = refl
+
   -- one more place that does not pass
   pub clear-more : (i : ℕ) → Clear p i → p i ≡ false → Clear p (i + 1)
   clear-more i h t = none-exists p (below (i + 1)) each

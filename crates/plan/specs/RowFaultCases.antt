@@ -1,0 +1,101 @@
+-- Document 02, E6: parts and rows of small plans, what the walk carries after each column, and the answer, in one table, with the one statement that
+-- every row holds.
+use mathlib.Core.Bool.{Bool, true, cond, _&&_}
+use mathlib.Core.Path.{_≡_, refl}
+use mathlib.Core.List.{List, [], _∷_, _++_, map}
+use Prim.Native.Nat.{ℕ, _+_}
+use lib.Dec.{eqb}
+use lib.ListN.{length, getD}
+use Rattle.plan.specs.Lists.{every, below, runningSums, same}
+use Rattle.plan.specs.Refusals.{firstFault}
+use Rattle.plan.specs.Mesh.{noParent}
+use Rattle.plan.specs.Planning.{Contents, contents}
+use Rattle.plan.specs.File.{contentsChecks}
+use Rattle.plan.specs.RowFaults.{unorderedBelow, outsideBelow, walkAnswer}
+use Rattle.plan.specs.Everything.{everything}
+
+pub data WalkRow : Type 0 where
+  -- part sizes and parents, each column's row count, and the rows; the faults carried before the first column and after each; the answer
+  walked : (sizes parents counts rows : List ℕ) → (carried : List (List ℕ)) → (answer : ℕ) → WalkRow
+
+-- the plan whose order is 0, 1, ..
+abbrev pub planIn : List ℕ → List ℕ → List ℕ → List ℕ → Contents
+planIn sizes parents counts rows =
+    contents (length counts) (length sizes) (length rows) (below (length counts)) sizes parents (runningSums 0 counts) rows
+
+-- the faults carried after the columns below k, as numbers
+abbrev pub faultsAfter : Contents → ℕ → List ℕ
+faultsAfter c k = cond (unorderedBelow k c) (17 ∷ []) [] ++ cond (outsideBelow k c) (18 ∷ []) []
+
+unfoldable pub walkHolds : WalkRow → Bool
+walkHolds (walked sizes parents counts rows carried answer) =
+    let c : Contents = planIn sizes parents counts rows in
+    let n : ℕ = c .nodes in
+    eqb (length carried) (n + 1) && every (λ k. same (faultsAfter c k) (getD carried k [])) (below (n + 1))
+    && eqb (walkAnswer (unorderedBelow n c) (outsideBelow n c)) answer && eqb (firstFault (contentsChecks c)) answer
+
+-- no fault, one of either, and both
+abbrev pub no : List ℕ
+no = []
+
+abbrev pub s : List ℕ
+s = 17 ∷ []
+
+abbrev pub e : List ℕ
+e = 18 ∷ []
+
+abbrev pub se : List ℕ
+se = 17 ∷ 18 ∷ []
+
+-- parts of two trees by turns: 0 below 2, 1 below 3
+abbrev pub crossed : List ℕ
+crossed = 2 ∷ 3 ∷ noParent ∷ noParent ∷ []
+
+abbrev pub ones : List ℕ
+ones = 1 ∷ 1 ∷ 1 ∷ 1 ∷ []
+
+abbrev pub apart : List ℕ
+apart = noParent ∷ noParent ∷ noParent ∷ []
+
+unfoldable pub walks : List WalkRow
+walks =
+    -- the plan of mesh 4: no fault
+    walked (2 ∷ 2 ∷ 1 ∷ []) (2 ∷ 2 ∷ noParent ∷ []) (1 ∷ 1 ∷ 2 ∷ 1 ∷ 0 ∷ []) (1 ∷ 4 ∷ 3 ∷ 4 ∷ 4 ∷ []) (no ∷ no ∷ no ∷ no ∷ no ∷ no ∷ []) 0
+    -- a row of n or more breaks both rules: it lies in no part
+    ∷ walked (2 ∷ []) (noParent ∷ []) (1 ∷ 0 ∷ []) (7 ∷ []) (no ∷ se ∷ se ∷ []) 17
+    ∷ walked (2 ∷ []) (noParent ∷ []) (1 ∷ 0 ∷ []) (2 ∷ []) (no ∷ se ∷ se ∷ []) 17
+    -- a row in another part: mesh 12
+    ∷ walked (1 ∷ 1 ∷ []) (noParent ∷ noParent ∷ []) (1 ∷ 0 ∷ []) (1 ∷ []) (no ∷ e ∷ e ∷ []) 18
+    -- 18 in column 0, then 17 in column 1 or 2: 17 wins
+    ∷ walked (1 ∷ 1 ∷ 1 ∷ []) apart (1 ∷ 1 ∷ 0 ∷ []) (1 ∷ 1 ∷ []) (no ∷ e ∷ se ∷ se ∷ []) 17
+    ∷ walked (1 ∷ 1 ∷ 1 ∷ []) apart (1 ∷ 0 ∷ 1 ∷ []) (1 ∷ 2 ∷ []) (no ∷ e ∷ e ∷ se ∷ []) 17
+    -- 17 in column 0, then 18 in column 1, which is still told
+    ∷ walked (1 ∷ 1 ∷ 1 ∷ []) apart (1 ∷ 1 ∷ 0 ∷ []) (0 ∷ 2 ∷ []) (no ∷ s ∷ se ∷ se ∷ []) 17
+    -- 18 alone, in column 1, and in both columns
+    ∷ walked (1 ∷ 1 ∷ 1 ∷ []) apart (0 ∷ 1 ∷ 0 ∷ []) (2 ∷ []) (no ∷ no ∷ e ∷ e ∷ []) 18
+    ∷ walked (1 ∷ 1 ∷ 1 ∷ []) apart (1 ∷ 1 ∷ 0 ∷ []) (2 ∷ 2 ∷ []) (no ∷ e ∷ e ∷ e ∷ []) 18
+    -- rows that do not ascend, in the part and outside it; a row given twice
+    ∷ walked (3 ∷ []) (noParent ∷ []) (2 ∷ 0 ∷ 0 ∷ []) (2 ∷ 1 ∷ []) (no ∷ s ∷ s ∷ s ∷ []) 17
+    ∷ walked (2 ∷ 1 ∷ []) (noParent ∷ noParent ∷ []) (2 ∷ 0 ∷ 0 ∷ []) (2 ∷ 1 ∷ []) (no ∷ se ∷ se ∷ se ∷ []) 17
+    ∷ walked (2 ∷ 1 ∷ []) (noParent ∷ noParent ∷ []) (2 ∷ 0 ∷ 0 ∷ []) (1 ∷ 1 ∷ []) (no ∷ s ∷ s ∷ s ∷ []) 17
+    -- a row that is the column itself, in its own part; one before it, in a part below
+    ∷ walked (2 ∷ []) (noParent ∷ []) (0 ∷ 1 ∷ []) (1 ∷ []) (no ∷ no ∷ s ∷ []) 17
+    ∷ walked (1 ∷ 1 ∷ []) (1 ∷ noParent ∷ []) (0 ∷ 1 ∷ []) (0 ∷ []) (no ∷ no ∷ se ∷ []) 17
+    -- the row behind a good one is outside; the row before it is
+    ∷ walked (1 ∷ 1 ∷ 1 ∷ []) (1 ∷ noParent ∷ noParent ∷ []) (2 ∷ 0 ∷ 0 ∷ []) (1 ∷ 2 ∷ []) (no ∷ e ∷ e ∷ e ∷ []) 18
+    ∷ walked (1 ∷ 1 ∷ 1 ∷ []) (2 ∷ noParent ∷ noParent ∷ []) (2 ∷ 0 ∷ 0 ∷ []) (1 ∷ 2 ∷ []) (no ∷ e ∷ e ∷ e ∷ []) 18
+    -- a grandparent's rows, and those of a part beside the parent
+    ∷ walked ones (1 ∷ 3 ∷ 3 ∷ noParent ∷ []) (1 ∷ 0 ∷ 0 ∷ 0 ∷ []) (3 ∷ []) (no ∷ no ∷ no ∷ no ∷ no ∷ []) 0
+    ∷ walked ones (1 ∷ 3 ∷ 3 ∷ noParent ∷ []) (1 ∷ 0 ∷ 0 ∷ 0 ∷ []) (2 ∷ []) (no ∷ e ∷ e ∷ e ∷ e ∷ []) 18
+    -- parts of two trees by turns: rows in the parent, in a part of the other tree, and a row before its column
+    ∷ walked ones crossed (1 ∷ 1 ∷ 0 ∷ 0 ∷ []) (2 ∷ 3 ∷ []) (no ∷ no ∷ no ∷ no ∷ no ∷ []) 0
+    ∷ walked ones crossed (1 ∷ 1 ∷ 0 ∷ 0 ∷ []) (2 ∷ 2 ∷ []) (no ∷ no ∷ e ∷ e ∷ e ∷ []) 18
+    ∷ walked ones crossed (1 ∷ 1 ∷ 1 ∷ 0 ∷ []) (3 ∷ 3 ∷ 1 ∷ []) (no ∷ e ∷ e ∷ se ∷ se ∷ []) 17
+    -- the fault of 17 in the last column
+    ∷ walked ones crossed (1 ∷ 0 ∷ 0 ∷ 1 ∷ []) (1 ∷ 3 ∷ []) (no ∷ e ∷ e ∷ e ∷ se ∷ []) 17
+    ∷ []
+
+-- every row of the table holds
+pub told : every walkHolds walks ≡ true
+unfolding everything walkHolds walks
+told = refl
