@@ -1,8 +1,6 @@
-// Checks of a plan file's fields: the header's (10 to 14), the order's and the parts' (15 and 16), and the rules of 18 and 19 for one column, which
-// reader and writer share.
+// Checks of a plan file's fields before its rows, which reader and writer share: the header's (10 to 14), the order's and the parts' (15 and 16).
 mod header;
 mod order;
-mod rules;
 
 pub use header::Counts;
 pub use header::D;
@@ -15,5 +13,3 @@ pub use header::file_length;
 pub use header::header_refusal;
 pub use header::read_counts;
 pub use order::order_and_parts_refusal;
-pub use rules::contains_all;
-pub use rules::outside;

@@ -72,7 +72,7 @@ fn bad_columns(n: usize, columnStarts: &[u32], rows: &[u16]) -> bool
 }
 
 // Check 22: the starts are not those of n columns, the last is above the rows' length, or a column breaks 17's rule. O(n + slots).
-pub fn bad_layout(n: usize, columnStarts: &[u32], rows: &[u16]) -> bool
+fn bad_layout(n: usize, columnStarts: &[u32], rows: &[u16]) -> bool
     ensures { λ r. ⌜ r ≡ badLayout n (now (columnStarts .entry)) (now (rows .entry)) ⌝ }
 {
     if bad_starts(n, columnStarts) {

@@ -60,7 +60,7 @@ fn mark_neighbours(
 }
 
 // Each of some rows gets the mark j. O(length).
-fn mark_rows(rows: &[u16], j: u16, marks: &mut [u16])
+pub fn mark_rows(rows: &[u16], j: u16, marks: &mut [u16])
     requires { ⌜ ((i : ℕ) → isIn i (now rows) ≡ true → i < length (now marks)) ⌝ }
     ensures { λ _. ⌜ Marked j (λ i. isIn i (now (rows .entry))) (now (marks .entry)) (now (marks .exit)) ⌝ }
 {

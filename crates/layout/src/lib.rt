@@ -8,8 +8,8 @@ mod questions;
 mod slots;
 
 pub use checks::bad_column;
-pub use checks::bad_layout;
 pub use checks::buffers_too_short;
+pub use columns::mark_rows;
 pub use columns::write_columns;
 pub use counts::Totals;
 pub use counts::count_rows;

@@ -6,13 +6,14 @@ use Prim.Native.Nat.{ℕ, _+_, _-_, _*_, _/_, _≤_, _<_}
 use native.Mathlib.Omega.{arith}
 use lib.ListN.{length, getD, take, drop, length-drop}
 use lib.Seq.{take-all}
-use borrow.Author.Tests.{eq-eqb, ne-eqb, not-false}
+use borrow.Author.Tests.{ne-eqb, not-false}
 use Rattle.plan.specs.Lists.{eachOnce, written, runningSums}
 use Rattle.plan.specs.Refusals.{firstFault}
 use Rattle.plan.specs.Mesh.{maxNodes, badStarts}
 use Rattle.plan.specs.Dissection.{positions}
 use Rattle.plan.specs.Planning.{Contents}
-use Rattle.plan.specs.File.{decode16s, lengthAt, fileLength, parseAt, parse, badOrder, badColumns, badRows, notNested, notCovered, contentsChecks}
+use Rattle.plan.specs.File.{decode16s, lengthAt, fileLength, parseAt, parse, badOrder, badRows, notNested, notCovered, contentsChecks}
+use Rattle.plan.specs.RowFaults.{walkChecks}
 use Rattle.plan.specs.Reading.{headerChecks}
 use Rattle.theory.specs.Counting.{Order}
 use Rattle.theory.proofs.Refusals.{no-fault}
@@ -23,8 +24,9 @@ use Rattle.theory.proofs.Fitting.{Limits, header-limits, counts-few}
 use Rattle.theory.proofs.RoundTrips.{Header, header-says, read-whole}
 use Rattle.filechecks.specs.Fields.{orderAndParts, orderAndPartsChecks}
 use Rattle.filechecks.proofs.Fields.{order-checks}
-use Rattle.planfile.specs.Supplied.{partsAndRows, Exact, SoundParts, Started}
-use Rattle.planfile.specs.Filed.{rowsIn, rowCountsIn, Headed}
+use Rattle.rowchecks.specs.Rows.{partsAndRows, SoundParts, Started, rowsIn}
+use Rattle.planfile.specs.Supplied.{Exact}
+use Rattle.planfile.specs.Filed.{rowCountsIn, Headed}
 use Rattle.planfile.proofs.Passing.{exact-few, passed-parts}
 
 -- ---- the counts and the length
@@ -173,15 +175,10 @@ module _ (bytes : List ℕ) (n p s : ℕ) (h : Headed bytes n p s) where
       pub rows-started : Started n columnStarts (rowsIn (behind bytes n p))
       rows-started = record { few = headed-sizes .few; starts = starts-good; last = ends ∙ sym (ap length rows-behind ∙ rows-many) }
 
-      -- and 17 is the columns' rule
-      pub rows-columns : badRows file ≡ badColumns n columnStarts (rowsIn (behind bytes n p))
-      unfolding badRows
-      rows-columns = rw (← h .nodes, ← h .slots, ← own .3, starts-good, eq-eqb (getD columnStarts n 0) s ends, ← rows-behind)
-
-    -- 18 and 19 look at the parts and the layout
-    pub file-nested : notNested (partsAndRows n sizes parents columnStarts (rowsIn (behind bytes n p))) ≡ notNested file
-    unfolding notNested
-    file-nested = rw (own .1, own .2, own .3, rows-behind, h .nodes)
+    -- 17 and 18 look at the parts and the layout, 19 at the layout
+    pub file-walked : firstFault (walkChecks (partsAndRows n sizes parents columnStarts (rowsIn (behind bytes n p)))) ≡ firstFault (walkChecks file)
+    unfolding badRows notNested
+    file-walked = rw (own .1, own .2, own .3, rows-behind, h .nodes, read-whole bytes .rows)
 
     pub file-covered : notCovered (partsAndRows n [] [] columnStarts (rowsIn (behind bytes n p))) ≡ notCovered file
     unfolding notCovered

@@ -1,6 +1,4 @@
-pub mod Nesting
 pub mod Passing
-pub mod Loaded
 pub mod WrittenFile
 pub mod WriteAnswers
 pub mod Headed

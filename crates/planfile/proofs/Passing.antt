@@ -1,24 +1,28 @@
 -- Checks 15 to 19 of a plan: which is the first fault, what 17 to 19 look at, and what those passed, and 13, tell the ones behind them.
 use mathlib.Core.Path.{_≡_, refl, sym, _∙_}
+use mathlib.Core.Logic.{_≢_}
 use mathlib.Core.Bool.{true, false}
-use mathlib.Core.List.{[], _∷_}
+use mathlib.Core.List.{[], _∷_, _++_}
 use Prim.Native.Nat.{_≤_}
 use native.Mathlib.Omega.{arith}
-use lib.ListN.{length}
+use lib.ListN.{length, getD}
+use borrow.Author.Tests.{ne-eqb}
 use Rattle.plan.specs.Refusals.{Checks, firstFault}
-use Rattle.plan.specs.Mesh.{maxNodes}
+use Rattle.plan.specs.Mesh.{maxNodes, badStarts}
 use Rattle.plan.specs.Planning.{Contents}
 use Rattle.plan.specs.File.{Whole, badOrder, badParts, badRows, notNested, notCovered, contentsChecks}
+use Rattle.plan.specs.RowFaults.{walkChecks}
 use Rattle.theory.proofs.Refusals.{no-fault, first-some, first-none}
-use Rattle.theory.proofs.Fitting.{header-limits, counts-few, GoodRows, good-rows}
+use Rattle.theory.proofs.Fitting.{header-limits, counts-few}
 use Rattle.filechecks.specs.Fields.{orderAndPartsChecks}
-use Rattle.planfile.specs.Supplied.{partsAndRows, Exact, SoundParts, LaidOut}
+use Rattle.rowchecks.specs.Rows.{partsAndRows, SoundParts, Started}
+use Rattle.planfile.specs.Supplied.{Exact}
 
 -- ---- the first fault
 
 -- checks 17 to 19
 abbrev rowChecks : Contents → Checks
-rowChecks c = (17, badRows c) ∷ (18, notNested c) ∷ (19, notCovered c) ∷ []
+rowChecks c = walkChecks c ++ ((19, notCovered c) ∷ [])
 
 -- a fault of checks 15 and 16 is the plan's
 pub order-fault : (c : Contents) → (firstFault (orderAndPartsChecks c) ≡ 0 → ⊥) → firstFault (contentsChecks c) ≡ firstFault (orderAndPartsChecks c)
@@ -35,29 +39,39 @@ module _ (c : Contents) (ordered : firstFault (orderAndPartsChecks c) ≡ 0) whe
   unfolding firstFault
   fault-17 bad = row-fault ∙ rw bad
 
-  pub fault-18 : badRows c ≡ false → notNested c ≡ true → firstFault (contentsChecks c) ≡ 18
-  unfolding firstFault
-  fault-18 good bad = row-fault ∙ rw (good, bad)
+  -- of 17 and 18
+  pub walk-fault : (firstFault (walkChecks c) ≡ 0 → ⊥) → firstFault (contentsChecks c) ≡ firstFault (walkChecks c)
+  walk-fault some = row-fault ∙ first-some (walkChecks c) ((19, notCovered c) ∷ []) some
 
-  pub fault-19 : badRows c ≡ false → notNested c ≡ false → notCovered c ≡ true → firstFault (contentsChecks c) ≡ 19
-  unfolding firstFault
-  fault-19 good nested bad = row-fault ∙ rw (good, nested, bad)
+  -- and where they found none, of 19
+  module _ (walked : firstFault (walkChecks c) ≡ 0) where
+    last-fault : firstFault (contentsChecks c) ≡ firstFault ((19, notCovered c) ∷ [])
+    last-fault = row-fault ∙ first-none (walkChecks c) ((19, notCovered c) ∷ []) refl walked
 
-  pub all-passed : badRows c ≡ false → notNested c ≡ false → notCovered c ≡ false → firstFault (contentsChecks c) ≡ 0
-  unfolding firstFault
-  all-passed good nested covered = row-fault ∙ rw (good, nested, covered)
+    pub fault-19 : notCovered c ≡ true → firstFault (contentsChecks c) ≡ 19
+    unfolding firstFault
+    fault-19 bad = last-fault ∙ rw bad
+
+    pub all-passed : notCovered c ≡ false → firstFault (contentsChecks c) ≡ 0
+    unfolding firstFault
+    all-passed covered = last-fault ∙ rw covered
 
 -- ---- what a check looks at
 
--- 17 at the rows
-pub rows-check : (c : Contents) → Whole c → badRows (partsAndRows (c .nodes) [] [] (c .columnStarts) (c .rows)) ≡ badRows c
+-- 17 at the starts
+pub starts-bad : (c : Contents) → badStarts (c .nodes) (c .columnStarts) ≡ true → badRows c ≡ true
 unfolding badRows
-rows-check c w = rw (w .rows)
+starts-bad c bad = rw bad
 
--- 18 at the parts and the rows
-pub nested-check : (c : Contents) → notNested (partsAndRows (c .nodes) (c .sizes) (c .parents) (c .columnStarts) (c .rows)) ≡ notNested c
-unfolding notNested
-nested-check c = refl
+-- at the last start
+pub last-bad : (c : Contents) → badStarts (c .nodes) (c .columnStarts) ≡ false → getD (c .columnStarts) (c .nodes) 0 ≢ c .slots → badRows c ≡ true
+unfolding badRows
+last-bad c good ne = rw (good, ne-eqb _ _ ne)
+
+-- 17 and 18 at the parts and the rows
+pub walk-check : (c : Contents) → Whole c → firstFault (walkChecks (partsAndRows (c .nodes) (c .sizes) (c .parents) (c .columnStarts) (c .rows))) ≡ firstFault (walkChecks c)
+unfolding badRows notNested
+walk-check c w = rw (w .rows)
 
 -- 19 at the rows
 pub covered-check : (c : Contents) → notCovered (partsAndRows (c .nodes) [] [] (c .columnStarts) (c .rows)) ≡ notCovered c
@@ -81,8 +95,7 @@ module _ (c : Contents) (h : Exact c) where
       let parts : badParts c ≡ false = no-fault 16 (badParts c) [] (omega arith) (no-fault 15 (badOrder c) ((16, badParts c) ∷ []) (omega arith) ordered .1) .0 in
       record { few = header-limits c (h .header) .nodesFew; asMany = h .whole .parents ∙ sym (h .whole .sizes); good = rw (h .whole .sizes) parts }
 
-  -- 17: the rows are laid out
-  pub passed-laid : badRows c ≡ false → LaidOut (c .nodes) (c .columnStarts) (c .rows)
-  passed-laid good =
-      let r : GoodRows c = good-rows c good in
-      record { started = record { few = header-limits c (h .header) .nodesFew; starts = r .starts; last = r .last ∙ sym (h .whole .rows) }; good = r .columns }
+  -- 17 at the starts: the rows are those of n columns
+  pub passed-starts : badStarts (c .nodes) (c .columnStarts) ≡ false → getD (c .columnStarts) (c .nodes) 0 ≡ length (c .rows)
+      → Started (c .nodes) (c .columnStarts) (c .rows)
+  passed-starts starts last = record { few = header-limits c (h .header) .nodesFew; starts = starts; last = last }

@@ -1,9 +1,7 @@
--- What the functions' contracts cite of the bytes of a file: its first bytes, a file that passed checks 10 to 14, and the row counts and the rows in
--- one.
+-- What the functions' contracts cite of the bytes of a file: its first bytes, a file that passed checks 10 to 14, and the row counts in one.
 use mathlib.Core.Path.{_≡_}
 use mathlib.Core.List.{List, [], _∷_, flatten}
-use Prim.Native.Nat.{ℕ, _+_, _*_, _/_}
-use lib.ListN.{length}
+use Prim.Native.Nat.{ℕ, _+_, _*_}
 use Rattle.plan.specs.Refusals.{firstFault}
 use Rattle.plan.specs.File.{encode16, encode32, decode16s, magic, version, parse}
 use Rattle.plan.specs.Reading.{headerChecks}
@@ -24,7 +22,3 @@ abbrev pub rowCountsIn : List ℕ → List ℕ
 rowCountsIn bytes =
     let n : ℕ = parse bytes .nodes in
     decode16s bytes (17 + 2 * n + 4 * parse bytes .parts) 2 n
-
--- rows in bytes, two for each
-abbrev pub rowsIn : List ℕ → List ℕ
-rowsIn bytes = decode16s bytes 0 2 (length bytes / 2)

@@ -1,6 +1,4 @@
 // The plan file, version 1: reading it into lent buffers, and writing it from lent slices.
-mod encoded;
-mod numbers;
 mod reader;
 mod slices;
 mod writer;

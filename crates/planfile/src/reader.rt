@@ -1,7 +1,4 @@
 // Reading a plan file: checks 10 to 19, then 8 and 9, then the plan in the lent buffers. Until all checks are passed only working memory is written.
-use crate::encoded::bad_columns;
-use crate::encoded::not_covered;
-use crate::encoded::not_nested;
 use coding::read16s;
 use filechecks::HEADER;
 use filechecks::header_refusal;
@@ -15,6 +12,8 @@ use mesh::filled;
 use mesh::index;
 use plan::Plan;
 use plan::PlanAnswer;
+use rowchecks::not_covered_encoded;
+use rowchecks::walk_encoded;
 ghost use mathlib.Core.Path.{_≡_};
 ghost use Prim.Native.Nat.{_+_, _≤_};
 ghost use lib.ListN.{length, take};
@@ -26,8 +25,8 @@ ghost use Rattle.plan.specs.File.{parse, contentsChecks};
 ghost use Rattle.plan.specs.Reading.{headerChecks, reading};
 ghost use Rattle.planfile.specs.Filed.{Headed, rowCountsIn};
 
-// The first refusal of checks 15 to 19, 0 for none; order, sizes, parents and column starts are those of the file. O(4,096 + slots + the ancestors of
-// each column's part + the first rows' columns).
+// The first refusal of checks 15 to 19, 0 for none; order, sizes, parents and column starts are those of the file. O(4,096 + slots + the first
+// rows' columns).
 fn decoded_refusal(
     bytes: &[u8],
     n: usize,
@@ -51,13 +50,12 @@ fn decoded_refusal(
     }
     let at = HEADER + 4 * n + 4 * p;
     let rows = &bytes[at..];
-    if bad_columns(n, columnStarts, rows) {
-        return 17;
+    let faults = walk_encoded(n, sizes, parents, columnStarts, rows);
+    let refusal = faults.refusal();
+    if refusal != 0 {
+        return refusal;
     }
-    if not_nested(n, sizes, parents, columnStarts, rows) {
-        return 18;
-    }
-    if not_covered(n, columnStarts, rows) {
+    if not_covered_encoded(n, columnStarts, rows) {
         return 19;
     }
     0
@@ -96,8 +94,7 @@ fn zero_starts() -> [u32; Plan::NODES + 1]
     [0; Plan::NODES + 1]
 }
 
-// Checks 15 to 19 of a file: its fields but the rows are read into working memory. O(4,096 + slots + the ancestors of each column's part + the first
-// rows' columns).
+// Checks 15 to 19 of a file: its fields but the rows are read into working memory. O(4,096 + slots + the first rows' columns).
 fn contents_refusal(bytes: &[u8], n: usize, p: usize, s: usize, counts: &[u16]) -> u32
     requires { ⌜ Headed (now bytes) n p s × (n ≤ length (now counts)) × (take n (now counts) ≡ rowCountsIn (now bytes)) ⌝ }
     ensures { λ r. ⌜ r ≡ firstFault (contentsChecks (parse (now (bytes .entry)))) ⌝ }
@@ -165,8 +162,7 @@ fn read_checked(
     PlanAnswer::Accepted(Plan::new(n as u32, p as u32, s as u32, totals.multiplications))
 }
 
-// Reading where checks 10 to 14 found no fault: 15 to 19, then what is left. O(4,096 + slots + the ancestors of each column's part + the first rows'
-// columns).
+// Reading where checks 10 to 14 found no fault: 15 to 19, then what is left. O(4,096 + slots + the first rows' columns).
 fn read_headed(
     bytes: &[u8],
     order: &mut [u16],
@@ -206,8 +202,8 @@ fn read_headed(
     )
 }
 
-// Reading: checks 10 to 19, 8 and 9 in this order, then the plan in the lent buffers; the multiplications are counted anew. O(4,096 + slots + the
-// ancestors of each column's part + the first rows' columns).
+// Reading: checks 10 to 19, 8 and 9 in this order, then the plan in the lent buffers; the multiplications are counted anew. O(4,096 + slots + the first
+// rows' columns).
 pub fn read(
     bytes: &[u8],
     order: &mut [u16],

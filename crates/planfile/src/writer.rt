@@ -21,7 +21,8 @@ ghost use Rattle.plan.specs.Planning.{rowCounts, contents};
 ghost use Rattle.plan.specs.File.{fileLength, encode, encodeParts, encode16s, badHeader};
 ghost use Rattle.plan.specs.Writing.{badSupply, Wrote};
 ghost use Rattle.filechecks.specs.Fields.{countsOnly, orderAndParts};
-ghost use Rattle.planfile.specs.Supplied.{partsAndRows, Exact, NarrowColumns, WroteExact};
+ghost use Rattle.rowchecks.specs.Rows.{partsAndRows};
+ghost use Rattle.planfile.specs.Supplied.{Exact, NarrowColumns, WroteExact};
 ghost use Rattle.planfile.specs.Filed.{headerOf};
 
 // Check 13: the counts are out of their limits, or a slice is shorter than its count says. O(1).
@@ -118,8 +119,7 @@ fn write_plan(
     write16s(rows, &mut bytes[rowsAt..]);
 }
 
-// Writing from slices as long as their counts say: checks 15 to 19, then 8. O(4,096 + slots + the ancestors of each column's part + the first rows'
-// columns).
+// Writing from slices as long as their counts say: checks 15 to 19, then 8. O(4,096 + slots + the first rows' columns).
 fn write_exact(
     n: usize,
     order: &[u16],
@@ -145,7 +145,7 @@ fn write_exact(
 }
 
 // Writing: checks 13, 15 to 19 and 8 in this order, then the bytes, and the file's length is returned; slices may be longer than their counts say.
-// O(4,096 + slots + the ancestors of each column's part + the first rows' columns).
+// O(4,096 + slots + the first rows' columns).
 pub fn write(
     n: usize,
     p: usize,

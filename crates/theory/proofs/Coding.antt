@@ -8,8 +8,8 @@ use native.Mathlib.Nat.{zero-add, add-zero}
 use native.Mathlib.Numerals.{add-one}
 use native.Mathlib.Omega.{arith}
 use lib.Dec.{ltb}
-use lib.ListN.{length, getD, take, drop, length-drop, List·getD-eq-default}
-use lib.Seq.{length-take-le, drop-cons, drop-drop, drop-at, getD-take, getD-drop, ext-getD}
+use lib.ListN.{length, getD, take, drop, List·getD-eq-default}
+use lib.Seq.{drop-cons, drop-drop, drop-at, getD-drop}
 use borrow.Author.Tests.{ltb-true}
 use Rattle.plan.specs.Lists.{every, segment, below, isIn, written}
 use Rattle.plan.specs.File.{encode16, encode32, encode16s, decode16, decode32, decode16s}
@@ -50,19 +50,6 @@ module _ (bytes : List ℕ) (at apart : ℕ) where
   decode16s-push count =
       let f : ℕ → ℕ = λ k. decode16 bytes (at + apart * k) in
       ap (map f) (upFrom-snoc 0 count) ∙ map-append f (below count) ((0 + count) ∷ []) ∙ ap (λ (k : ℕ). map f (below count) ++ (f k ∷ [])) (zero-add count)
-
--- a segment of them stands at a place of its own
-pub decode16s-segment : (bytes : List ℕ) (at apart count a e : ℕ) → a ≤ e → e ≤ count
-    → segment (decode16s bytes at apart count) a e ≡ decode16s bytes (at + apart * a) apart (e - a)
-decode16s-segment bytes at apart count a e le le′ =
-    let all : List ℕ = decode16s bytes at apart count in
-    let own : List ℕ = decode16s bytes (at + apart * a) apart (e - a) in
-    let many : length (segment all a e) ≡ e - a = length-take-le (e - a) (drop a all) (omega (arith, length-drop a all, decode16s-length bytes at apart count)) in
-    ext-getD 0 (segment all a e) own (many ∙ sym (decode16s-length bytes (at + apart * a) apart (e - a)))
-    (λ i lt.
-    getD-take (e - a) (drop a all) i 0 (omega (arith, many)) ∙ getD-drop a all i 0
-    ∙ decode16s-getD bytes at apart count (a + i) (omega (arith, many)) ∙ ap (decode16 bytes) (omega arith)
-    ∙ sym (decode16s-getD bytes (at + apart * a) apart (e - a) i (omega (arith, many))))
 
 -- ---- numbers written as bytes, one after the other
 

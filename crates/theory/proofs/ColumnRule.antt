@@ -1,6 +1,5 @@
 -- Check 17's rule of a column's rows as facts, how many rows it lets a column have, and all columns of a layout.
 use mathlib.Core.Path.{_≡_, ap}
-use mathlib.Core.Logic.{inl, inr}
 use mathlib.Core.Bool.{true, false, not, _&&_}
 use mathlib.Core.List.{List}
 use Prim.Native.Nat.{ℕ, suc, _-_, _≤_, _<_}
@@ -10,7 +9,7 @@ use lib.ListN.{length}
 use borrow.Author.Tests.{not-false, ltb-true, lt-ltb}
 use Rattle.plan.specs.Lists.{every, below, isIn, listAt, ascending}
 use Rattle.plan.specs.File.{badColumn, badColumns}
-use Rattle.theory.proofs.Bools.{and-left, and-right, and-both, tested}
+use Rattle.theory.proofs.Bools.{and-left, and-right, and-both}
 use Rattle.theory.proofs.Lists.{every-isIn, isIn-every, exists-none}
 use Rattle.theory.proofs.Ranges.{below-isIn}
 use Rattle.theory.proofs.Ascending.{ascending-few}
@@ -40,13 +39,6 @@ kept-good n j r k =
 -- a column without a fault has at most as many rows as there are positions behind it
 pub column-few : (n j : ℕ) (r : List ℕ) → badColumn n j r ≡ false → length r ≤ n - 1 - j
 column-few n j r h = let k = good-column n j r h in omega (arith, ascending-few r (suc j) n (k .0) (k .1))
-
--- so one of n rows or more has a fault
-pub column-many : (n j : ℕ) (r : List ℕ) → j < n → n ≤ length r → badColumn n j r ≡ true
-column-many n j r lt many = elim (tested (badColumn n j r)) [
-  | inl t ↦ t
-  | inr good ↦ absurd (omega (arith, column-few n j r good))
-]
 
 -- columns without a fault: each keeps the rule
 pub good-columns : (n : ℕ) (starts rows : List ℕ) → badColumns n starts rows ≡ false → (j : ℕ) → j < n → badColumn n j (listAt starts rows j) ≡ false

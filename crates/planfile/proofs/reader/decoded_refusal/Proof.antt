@@ -1,17 +1,17 @@
 -- `planfile::reader::decoded_refusal` meets its contract: its tests are checks 15 to 19 of the file, in their order.
 use mathlib.Core.Path.{_≡_, sym, _∙_}
-use mathlib.Core.Bool.{false}
 use native.Mathlib.Omega.{arith}
 use lib.ListN.{getD}
 use borrow.Author.Needs.{needs}
 use Rattle.plan.specs.Refusals.{firstFault}
 use Rattle.plan.specs.Planning.{Contents}
-use Rattle.plan.specs.File.{parse, badRows, notNested, notCovered}
+use Rattle.plan.specs.File.{parse, notCovered}
+use Rattle.plan.specs.RowFaults.{walkChecks}
+use Rattle.theory.proofs.RowFaults.{carried-columns, answers-stay, answer-ordered}
 use Rattle.filechecks.specs.Fields.{orderAndPartsChecks}
-use Rattle.planfile.specs.Supplied.{LaidOut}
-use Rattle.planfile.specs.Filed.{rowsIn}
-use Rattle.planfile.proofs.Passing.{order-fault, fault-17, fault-18, fault-19, all-passed}
-use Rattle.planfile.proofs.Headed.{Sizes, headed-sizes, behind, order-few, file-ordered, file-parts, starts-long, rows-apart, rows-started, rows-columns, file-nested, file-covered}
+use Rattle.rowchecks.specs.Rows.{partsAndRows, rowsIn}
+use Rattle.planfile.proofs.Passing.{order-fault, fault-17, walk-fault, fault-19, all-passed}
+use Rattle.planfile.proofs.Headed.{Sizes, headed-sizes, behind, order-few, file-ordered, file-parts, starts-long, rows-apart, rows-started, file-walked, file-covered}
 use Rattle.planfile.proofs.reader.decoded_refusal.Statement.{statement}
 use Rattle.planfile.proofs.reader.decoded_refusal.Tie as tie
 
@@ -87,83 +87,77 @@ sub-rows c = omega (arith, known (begin (c .before .before .before)) .long)
 part-rows-start : tie.Need-part-rows-start
 part-rows-start c = sub-rows c
 
-bad-columns-requires : tie.Need-bad-columns-requires
-bad-columns-requires c κs =
-    let e = c .before in
-    let s = begin (e .before .before .before) in
-    rows-started _ _ _ _ (s .pre .0) _ _ _ _ (s .pre .1) (ends e)
+-- ---- the walk of 17 and 18
 
--- check 17 is the columns'
-rows : (b : tie.After-bad-columns) → let e = b .before .before in badRows (file (begin (e .before .before .before))) ≡ b .bad-columns .result
-rows b =
-    let e = b .before .before in
-    let s = begin (e .before .before .before) in
-    rows-columns _ _ _ _ (s .pre .0) _ _ _ _ (s .pre .1) (ends e) ∙ sym (b .bad-columns .ensures)
+-- where 15 and 16 found no fault, seen from where the last start is s
+abbrev first : tie.Else2 → tie.Else1
+first e = e .before .before .before
+
+-- the plan's parts and rows
+abbrev plan : tie.Start → Contents
+plan s =
+    let a = s .args in
+    partsAndRows (a .n) (a .sizes .now) (a .parents .now) (a .columnStarts .now) (rowsIn (behind (a .bytes .now) (a .n) (a .p)))
+
+walk-encoded-requires : tie.Need-walk-encoded-requires
+walk-encoded-requires c κs =
+    let e = c .before in
+    let o = first e in
+    let s = begin o in
+    (file-parts _ _ _ _ (s .pre .0) _ _ _ _ (s .pre .1) (ordered o), rows-started _ _ _ _ (s .pre .0) _ _ _ _ (s .pre .1) (ends e))
+
+-- its answer is that of the two checks
+walk : (r : tie.After-refusal) → firstFault (walkChecks (file (begin (first (r .before .before .before))))) ≡ r .refusal .result
+walk r =
+    let w = r .before in
+    let e = w .before .before in
+    let s = begin (first e) in
+    let own = rows-started _ _ _ _ (s .pre .0) _ _ _ _ (s .pre .1) (ends e) in
+    sym (r .refusal .ensures ∙ answers-stay (plan s) _ _ (own .starts) (own .last) (w .walk-encoded .ensures) ∙ file-walked _ _ _ _ (s .pre .0) _ _ _ _ (s .pre .1))
 
 returns-3 : tie.Need-returns-3
 returns-3 c =
-    let b = c .before in
-    let e = b .before .before .before .before .before in
-    sym (fault-17 (file (begin e)) (ordered e) (rows b ∙ c .if3 .taken))
+    let r = c .before in
+    let o = first (r .before .before .before) in
+    let a = walk r in
+    sym (walk-fault (file (begin o)) (ordered o) (λ z. c .if3 .taken (sym a ∙ z)) ∙ a)
 
--- ---- 18 and 19
+-- it found no fault
+walked : (g : tie.Else3) → firstFault (walkChecks (file (begin (first (g .before .before .before .before))))) ≡ 0
+walked g = walk (g .before) ∙ g .if3 .left
 
--- where 15 and 16 found no fault, seen from where 17 found none
-abbrev first : tie.Else3 → tie.Else1
-first c = c .before .before .before .before .before .before
+-- ---- 19
 
--- the layout has passed 17
-laid-out : (c : tie.Else3) → let a = begin (first c) .args in LaidOut (a .n) (a .columnStarts .now) (rowsIn (behind (a .bytes .now) (a .n) (a .p)))
-laid-out c =
-    let b = c .before in
-    let e = b .before .before in
-    let s = begin (e .before .before .before) in
-    record { started = rows-started _ _ _ _ (s .pre .0) _ _ _ _ (s .pre .1) (ends e); good = sym (b .bad-columns .ensures) ∙ c .if3 .left }
+not-covered-encoded-requires : tie.Need-not-covered-encoded-requires
+not-covered-encoded-requires c κs =
+    let r = c .before in
+    let w = r .before in
+    let e = w .before .before in
+    let s = begin (first e) in
+    record {
+      started = rows-started _ _ _ _ (s .pre .0) _ _ _ _ (s .pre .1) (ends e);
+      good = sym (carried-columns (plan s) _ _ (w .walk-encoded .ensures)) ∙ answer-ordered _ _ (sym (r .refusal .ensures) ∙ c .if3 .left);
+    }
 
-not-nested-requires : tie.Need-not-nested-requires
-not-nested-requires c κs =
-    let o = first c in
-    let s = begin o in
-    (file-parts _ _ _ _ (s .pre .0) _ _ _ _ (s .pre .1) (ordered o), laid-out c)
-
--- check 17 found no fault
-laid : (c : tie.Else3) → badRows (file (begin (first c))) ≡ false
-laid c = rows (c .before) ∙ c .if3 .left
-
--- check 18 is the code's
-nested : (r : tie.After-not-nested) → notNested (file (begin (first (r .before)))) ≡ r .not-nested .result
-nested r =
-    let s = begin (first (r .before)) in
-    sym (r .not-nested .ensures ∙ file-nested _ _ _ _ (s .pre .0) _ _ _ _ (s .pre .1))
+-- check 19 is the code's
+covered : (v : tie.After-not-covered-encoded) → notCovered (file (begin (first (v .before .before .before .before .before)))) ≡ v .not-covered-encoded .result
+covered v =
+    let s = begin (first (v .before .before .before .before .before)) in
+    sym (v .not-covered-encoded .ensures ∙ file-covered _ _ _ _ (s .pre .0) _ _ _ _ (s .pre .1))
 
 returns-4 : tie.Need-returns-4
 returns-4 c =
-    let e = c .before .before in
-    let o = first e in
-    sym (fault-18 (file (begin o)) (ordered o) (laid e) (nested (c .before) ∙ c .if4 .taken))
-
-not-covered-requires : tie.Need-not-covered-requires
-not-covered-requires c κs = laid-out (c .before .before)
-
--- check 19 is the code's
-covered : (r : tie.After-not-covered) → notCovered (file (begin (first (r .before .before .before)))) ≡ r .not-covered .result
-covered r =
-    let s = begin (first (r .before .before .before)) in
-    sym (r .not-covered .ensures ∙ file-covered _ _ _ _ (s .pre .0) _ _ _ _ (s .pre .1))
+    let v = c .before in
+    let g = v .before in
+    let o = first (g .before .before .before .before) in
+    sym (fault-19 (file (begin o)) (ordered o) (walked g) (covered v ∙ c .if4 .taken))
 
 returns-5 : tie.Need-returns-5
 returns-5 c =
-    let d = c .before .before in
-    let e = d .before .before in
-    let o = first e in
-    sym (fault-19 (file (begin o)) (ordered o) (laid e) (nested (d .before) ∙ d .if4 .left) (covered (c .before) ∙ c .if5 .taken))
-
-returns-6 : tie.Need-returns-6
-returns-6 c =
-    let d = c .before .before in
-    let e = d .before .before in
-    let o = first e in
-    sym (all-passed (file (begin o)) (ordered o) (laid e) (nested (d .before) ∙ d .if4 .left) (covered (c .before) ∙ c .if5 .left))
+    let v = c .before in
+    let g = v .before in
+    let o = first (g .before .before .before .before) in
+    sym (all-passed (file (begin o)) (ordered o) (walked g) (covered v ∙ c .if4 .left))
 
 pub decoded-refusal-spec : {M : Type 1} → statement M
 decoded-refusal-spec =
@@ -182,10 +176,9 @@ decoded-refusal-spec =
     sub-rows
     part-rows-start
     (λ c. search needs)
-    bad-columns-requires
+    walk-encoded-requires
+    (λ c κs. search needs)
     returns-3
-    not-nested-requires
+    not-covered-encoded-requires
     returns-4
-    not-covered-requires
-    returns-5
-    returns-6)
+    returns-5)
