@@ -3,6 +3,7 @@
 #define _POSIX_C_SOURCE 199309L
 #include "plain.h"
 #include "texts.h"
+#include <math.h>
 #include <stdio.h>
 #include <string.h>
 #include <time.h>
@@ -233,8 +234,9 @@ typedef struct {
     int same;
 } Line;
 
-/* First the families, each at all its sizes; then the largest plan; then the other meshes; then the texts, from `first_text` on. */
-enum { FAMILIES = 6, SIZES = 5, LARGEST = FAMILIES * SIZES, MOST_LINES = 64 };
+/* First the families, each at all its sizes; then the largest plan; then the other meshes; then the texts, from `first_text` on. The first FOOT_LIKE
+ * families have plans like a foot's. */
+enum { FAMILIES = 6, FOOT_LIKE = 4, SIZES = 5, LARGEST = FAMILIES * SIZES, MOST_LINES = 64 };
 static const char *const family_names[FAMILIES] = {"foot", "plate", "plate, holes", "grid", "path", "binary tree"};
 static Line lines[MOST_LINES];
 static int line_count, first_text;
@@ -474,23 +476,45 @@ static double ratio_of(const Line *line, int operation) {
     return line->best[operation][PLAIN] > 0 ? line->best[operation][PROVED] / line->best[operation][PLAIN] : 0;
 }
 
-/* How the ratios of an operation stand to the goal, over the lines that it was timed on. */
-static void print_goal(const char *name, int operation, double goal) {
-    int timed = 0, met = 0;
-    double least = 1e12, most = 0;
+/* The ratios of an operation over the lines that it was timed on: the range, and on how many lines they meet the goal. */
+typedef struct { double least, most; int timed, met; } Ratios;
+
+static Ratios ratios_of(int operation, double goal) {
+    Ratios r = {1e12, 0, 0, 0};
     for (int l = 0; l < line_count; l++) {
         double ratio = ratio_of(&lines[l], operation);
         if (ratio == 0) continue;
-        timed++;
-        if (ratio <= goal) met++;
-        if (ratio < least) least = ratio;
-        if (ratio > most) most = ratio;
+        r.timed++;
+        if (ratio <= goal) r.met++;
+        if (ratio < r.least) r.least = ratio;
+        if (ratio > r.most) r.most = ratio;
     }
-    printf("%s: ratio %.2f to %.2f, goal %.1f, met on %d of %d\n", name, least, most, goal, met, timed);
+    return r;
+}
+
+/* How the ratios of an operation stand to a goal for every line. */
+static void print_goal(const char *name, int operation, double goal) {
+    Ratios r = ratios_of(operation, goal);
+    printf("%s: ratio %.2f to %.2f, goal %.1f, met on %d of %d\n", name, r.least, r.most, goal, r.met, r.timed);
     for (int l = 0; l < line_count; l++) {
         double ratio = ratio_of(&lines[l], operation);
         if (ratio > goal) printf("  above it: %s%s, %.2f\n", lines[l].name, lines[l].text.shuffled ? ", shuffled" : "", ratio);
     }
+}
+
+/* The geometric mean of an operation's ratios over the families whose plans are like a foot's: foot, plate, plate with holes and grid. */
+static double mean_ratio(int operation) {
+    double sum = 0;
+    for (int l = 0; l < FOOT_LIKE * SIZES; l++) sum += log(ratio_of(&lines[l], operation));
+    return exp(sum / (FOOT_LIKE * SIZES));
+}
+
+/* How that mean stands to a goal, and the range of the ratios of all lines. */
+static void print_mean_goal(const char *name, int operation, double goal) {
+    Ratios r = ratios_of(operation, goal);
+    double mean = mean_ratio(operation);
+    printf("%s: geometric mean %.2f over foot, plate, plate with holes and grid, goal %.1f, %s; ratio %.2f to %.2f on %d lines\n", name, mean, goal,
+           mean <= goal ? "met" : "not met", r.least, r.most, r.timed);
 }
 
 /* Names the lines on which the programs differ. Gives their number. */
@@ -516,8 +540,8 @@ int main(void) {
     print_texts();
     print_growth();
     print_goal("Planning", PLAN, 1.5);
-    print_goal("Writing", WRITE, 2.0);
-    print_goal("Reading", READ, 2.0);
+    print_mean_goal("Writing", WRITE, 1.2);
+    print_mean_goal("Reading", READ, 1.2);
     print_goal("Reading texts", TEXT, 2.0);
     return print_differences() ? 1 : 0;
 }

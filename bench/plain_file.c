@@ -50,7 +50,7 @@ static int starts_fit(size_t n, const uint32_t *column_starts) {
     return 1;
 }
 
-/* 17 and 22: each column's rows ascend strictly, above the column and below n. They ascend, so the last is the greatest. */
+/* 22: each column's rows ascend strictly, above the column and below n. They ascend, so the last is the greatest. */
 static int rows_fit(size_t n, const uint32_t *column_starts, const uint16_t *rows) {
     for (size_t j = 0; j < n; j++) {
         size_t before = j;
@@ -63,36 +63,104 @@ static int rows_fit(size_t n, const uint32_t *column_starts, const uint16_t *row
     return 1;
 }
 
-/* 18: each row lies in its column's part or in one of that part's ancestors. Rows ascend, and so do their parts, so each climb goes on from the
- * part of the row before. NONE is a greater number than any part, so the climb ends there too. */
-static int rows_in_ancestors(const Plan *plan) {
-    static uint16_t part[NODES];
+/* A part with all parts below it, in a numbering of the parts in which these follow one another: the numbers from `first` on, `count` of them. The
+ * part's own number is `first`. */
+typedef struct { uint16_t first, count; } Branch;
+
+/* How many parts each branch has. A parent is a later part, so all that stand below a part are counted in its branch before that is counted in its
+ * parent's. */
+static void count_branches(const Plan *plan, Branch *branches) {
+    for (size_t q = 0; q < plan->p; q++) branches[q].count = 1;
+    for (size_t q = 0; q < plan->p; q++) if (plan->parents[q] != NONE) branches[plan->parents[q]].count += branches[q].count;
+}
+
+/* Gives each branch its numbers, from the last part to the first, so that a parent has them before its children: each child takes the next numbers
+ * that are left of its parent's, and a part without parent the next numbers of all. */
+static void number_branches(const Plan *plan, Branch *branches) {
+    static uint16_t left[NODES];
+    uint16_t left_of_all = 0;
+    for (size_t q = plan->p; q-- > 0;) {
+        uint16_t *from = plan->parents[q] == NONE ? &left_of_all : &left[plan->parents[q]];
+        branches[q].first = *from;
+        *from += branches[q].count;
+        left[q] = branches[q].first + 1;
+    }
+}
+
+/* For each position the branch of the part that it lies in. */
+static const Branch *branches_by_position(const Plan *plan) {
+    static Branch branches[NODES], by_position[NODES];
     size_t i = 0;
-    for (size_t q = 0; q < plan->p; q++) for (size_t end = i + plan->sizes[q]; i < end; i++) part[i] = q;
-    for (size_t j = 0; j < plan->n; j++) {
-        uint16_t q = part[j];
+    count_branches(plan, branches);
+    number_branches(plan, branches);
+    for (size_t q = 0; q < plan->p; q++) for (size_t end = i + plan->sizes[q]; i < end; i++) by_position[i] = branches[q];
+    return by_position;
+}
+
+/* 17, as far as the rows tell, and 18: each row lies in its column's part or in one of that part's ancestors, so that the column's part is in the
+ * branch of the row's. (Where the number of the column's part is less than the branch's first, the difference, cut to 16 bits, is above every count.)
+ * Both in one walk over the rows. A fault of 17 ends it; one of 18 is kept to the end, since one of 17 may follow. */
+static uint32_t check_rows(const Plan *plan) {
+    const Branch *branch = branches_by_position(plan);
+    const uint16_t *rows = plan->rows;
+    size_t n = plan->n;
+    uint32_t refusal = 0;
+    for (size_t j = 0; j < n; j++) {
+        uint16_t own = branch[j].first;
+        size_t before = j;
         for (uint32_t k = plan->column_starts[j]; k < plan->column_starts[j + 1]; k++) {
-            uint16_t wanted = part[plan->rows[k]];
-            while (q < wanted) q = plan->parents[q];
-            if (q != wanted) return 0;
+            size_t row = rows[k];
+            if (row <= before || row >= n) return 17;
+            if ((uint16_t)(own - branch[row].first) >= branch[row].count) refusal = 18;
+            before = row;
         }
+    }
+    return refusal;
+}
+
+/* Columns in lists by their first row: `head` has for each row the first column of its list, and `next` for each column the one behind it; NONE ends
+ * a list. */
+typedef struct { uint16_t head[NODES], next[NODES]; } Lists;
+
+/* 19 for the columns whose rows after the first are as many as the first row's column has, or more: they have to be the same. The columns with fewer
+ * are put in the lists. */
+static int equal_columns_fit(const Plan *plan, Lists *lists) {
+    const uint16_t *rows = plan->rows;
+    const uint32_t *starts = plan->column_starts;
+    for (size_t j = 0; j < plan->n; j++) {
+        if (starts[j + 1] - starts[j] < 2) continue;
+        size_t first = rows[starts[j]], count = starts[j + 1] - starts[j] - 1, most = starts[first + 1] - starts[first];
+        if (count < most) {
+            lists->next[j] = lists->head[first];
+            lists->head[first] = j;
+        } else if (count > most || memcmp(rows + starts[j] + 1, rows + starts[first], count * sizeof *rows) != 0) return 0;
     }
     return 1;
 }
 
-/* 19: each column's rows after the first are all in the first row's column; both lists ascend. */
-static int rows_in_first_column(const Plan *plan) {
-    const uint16_t *rows = plan->rows;
-    for (size_t j = 0; j < plan->n; j++) {
-        uint32_t k = plan->column_starts[j], end = plan->column_starts[j + 1];
-        if (k == end) continue;
-        uint32_t m = plan->column_starts[rows[k]], first_end = plan->column_starts[rows[k] + 1];
-        for (k++; k < end; k++, m++) {
-            while (m < first_end && rows[m] < rows[k]) m++;
-            if (m == first_end || rows[m] != rows[k]) return 0;
-        }
+/* Whether the rows of column j after its first are all marked with the first. */
+static int rows_are_marked(const Plan *plan, const uint16_t *marks, size_t first, size_t j) {
+    for (uint32_t k = plan->column_starts[j] + 1; k < plan->column_starts[j + 1]; k++) if (marks[plan->rows[k]] != first) return 0;
+    return 1;
+}
+
+/* 19 for the columns in the lists. The rows of a first row's column are marked once for all columns of its list. */
+static int listed_columns_fit(const Plan *plan, const Lists *lists) {
+    static uint16_t marks[NODES];
+    for (size_t i = 0; i < plan->n; i++) marks[i] = NONE;
+    for (size_t first = 0; first < plan->n; first++) {
+        if (lists->head[first] == NONE) continue;
+        for (uint32_t k = plan->column_starts[first]; k < plan->column_starts[first + 1]; k++) marks[plan->rows[k]] = first;
+        for (size_t j = lists->head[first]; j != NONE; j = lists->next[j]) if (!rows_are_marked(plan, marks, first, j)) return 0;
     }
     return 1;
+}
+
+/* 19: each column's rows after the first are all in the first row's column. */
+static int rows_in_first_column(const Plan *plan) {
+    static Lists lists;
+    for (size_t i = 0; i < plan->n; i++) lists.head[i] = NONE;
+    return equal_columns_fit(plan, &lists) && listed_columns_fit(plan, &lists);
 }
 
 /* Checks 15 to 19. */
@@ -100,10 +168,9 @@ static uint32_t check_contents(const Plan *plan) {
     if (!order_fits(plan)) return 15;
     if (!parts_fit(plan)) return 16;
     if (!starts_fit(plan->n, plan->column_starts) || plan->column_starts[plan->n] != plan->s) return 17;
-    if (!rows_fit(plan->n, plan->column_starts, plan->rows)) return 17;
-    if (!rows_in_ancestors(plan)) return 18;
-    if (!rows_in_first_column(plan)) return 19;
-    return 0;
+    uint32_t refusal = check_rows(plan);
+    if (refusal) return refusal;
+    return rows_in_first_column(plan) ? 0 : 19;
 }
 
 /* ---- little-endian numbers */
@@ -115,6 +182,24 @@ static uint32_t get32(const uint8_t *at) { return get16(at) | (uint32_t)get16(at
 static void put16(uint8_t *at, uint16_t x) { at[0] = x & 255; at[1] = x >> 8; }
 
 static void put32(uint8_t *at, uint32_t x) { put16(at, x & 65535); put16(at + 2, x >> 16); }
+
+/* Whether this machine keeps the low byte of a number first, as the file does; then a list of numbers is copied whole. */
+static int low_byte_first(void) {
+    uint16_t one = 1;
+    uint8_t first;
+    memcpy(&first, &one, 1);
+    return first == 1;
+}
+
+static void get_list(uint16_t *list, const uint8_t *at, size_t count) {
+    if (count > 0 && low_byte_first()) memcpy(list, at, 2 * count);
+    else for (size_t k = 0; k < count; k++) list[k] = get16(at + 2 * k);
+}
+
+static void put_list(uint8_t *at, const uint16_t *list, size_t count) {
+    if (count > 0 && low_byte_first()) memcpy(at, list, 2 * count);
+    else for (size_t k = 0; k < count; k++) put16(at + 2 * k, list[k]);
+}
 
 /* ---- reading */
 
@@ -135,10 +220,10 @@ static uint32_t check_header(const uint8_t *file, size_t length) {
 static Plan decode(const uint8_t *file) {
     size_t n = get32(file + 5), p = get32(file + 9), s = get32(file + 13);
     const uint8_t *order = file + HEADER, *parts = order + 2 * n, *counts = parts + 4 * p, *rows = counts + 2 * n;
-    for (size_t i = 0; i < n; i++) file_order[i] = get16(order + 2 * i);
+    get_list(file_order, order, n);
     for (size_t q = 0; q < p; q++) { file_sizes[q] = get16(parts + 4 * q); file_parents[q] = get16(parts + 4 * q + 2); }
     for (size_t j = 0; j < n; j++) file_starts[j + 1] = file_starts[j] + get16(counts + 2 * j);
-    for (size_t k = 0; k < s; k++) file_rows[k] = get16(rows + 2 * k);
+    get_list(file_rows, rows, s);
     return (Plan){n, p, s, file_order, file_sizes, file_parents, file_rows, file_starts};
 }
 
@@ -183,10 +268,10 @@ static void encode(const Plan *plan, uint8_t *file) {
     put32(file + 5, n);
     put32(file + 9, p);
     put32(file + 13, s);
-    for (size_t i = 0; i < n; i++) put16(order + 2 * i, plan->order[i]);
+    put_list(order, plan->order, n);
     for (size_t q = 0; q < p; q++) { put16(parts + 4 * q, plan->sizes[q]); put16(parts + 4 * q + 2, plan->parents[q]); }
     for (size_t j = 0; j < n; j++) put16(counts + 2 * j, plan->column_starts[j + 1] - plan->column_starts[j]);
-    for (size_t k = 0; k < s; k++) put16(rows + 2 * k, plan->rows[k]);
+    put_list(rows, plan->rows, s);
 }
 
 NdpWritten plain_write(size_t n, size_t p, size_t s, const uint16_t *order, size_t order_length, const uint16_t *sizes, size_t sizes_length,

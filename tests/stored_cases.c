@@ -433,6 +433,74 @@ static void slots(void) {
     slots_of_unsound();
 }
 
+/* ---- rows that break 17, 18 or both */
+
+/* Four nodes, each a part. The parents of parts 0, 1 and 2 are 2, 3 and 3, so part 1, which is not below part 2, stands between it and part 0, which
+ * is. Columns 0, 1 and 2 have one row each, in the parent. The parents stand at 27, 31, 35 and 39, row counts at 41, rows at 49. */
+static File branches_file(void) { return file_of(1, 4, 4, 3, LIST16(3, 1, 0, 2, 1, 2, 1, 3, 1, 3, 1, NONE, 1, 1, 1, 0, 2, 3, 3)); }
+
+/* The same parts with these lists. */
+static void write_branches(int title, List16 lent_parents, List32 starts, List16 lent_rows) {
+    write_lent(title, 4, 4, 3, LIST16(3, 1, 0, 2), LIST16(1, 1, 1, 1), lent_parents, starts, lent_rows, 55);
+}
+
+/* A row of n or more, no fault, and a fault of 18 alone in the first column, the middle one and the last one that has a row. */
+static void single_faults(void) {
+    File f = branches_file();
+    List16 joined = LIST16(2, 3, 3, NONE);
+    List32 starts = LIST32(0, 1, 2, 3, 3);
+    read_lent(131, file_of(1, 2, 1, 1, LIST16(0, 1, 2, NONE, 1, 0, 7)), (Lengths){3, 3, 3, 3, 4, 2});
+    write_lent(131, 2, 1, 1, LIST16(0, 1), LIST16(2), LIST16(NONE), LIST32(0, 1, 1), LIST16(7), 31);
+    read_path(132, f);
+    write_branches(132, joined, starts, LIST16(2, 3, 3));
+    read_path(133, changed(f, 49, 1));
+    write_branches(133, joined, starts, LIST16(1, 3, 3));
+    read_path(134, changed(f, 51, 2));
+    write_branches(134, joined, starts, LIST16(2, 2, 3));
+    read_path(135, changed(f, 35, NONE));
+    write_branches(135, LIST16(2, 3, NONE, NONE), starts, LIST16(2, 3, 3));
+}
+
+/* 18 in column 0 and 17 behind it; 17 in column 0 and 18 behind it; both in column 0, and the same rows ascending. */
+static void two_faults(void) {
+    File f = branches_file(), first = changed(f, 49, 1), last = changed(f, 35, NONE), two = changed(changed(f, 41, 2), 45, 0);
+    List16 joined = LIST16(2, 3, 3, NONE), apart = LIST16(2, 3, NONE, NONE);
+    List32 starts = LIST32(0, 1, 2, 3, 3);
+    read_path(136, changed(first, 53, 4));
+    write_branches(136, joined, starts, LIST16(1, 3, 4));
+    read_path(137, changed(changed(first, 45, 0), 47, 1));
+    write_branches(137, joined, LIST32(0, 1, 2, 2, 3), LIST16(1, 3, 3));
+    read_path(138, changed(last, 49, 0));
+    write_branches(138, apart, starts, LIST16(0, 3, 3));
+    read_path(139, changed(last, 49, 4));
+    write_branches(139, apart, starts, LIST16(4, 3, 3));
+    read_path(140, changed(two, 51, 1));
+    write_branches(140, joined, LIST32(0, 2, 3, 3, 3), LIST16(2, 1, 3));
+    read_path(141, changed(changed(two, 49, 1), 51, 2));
+    write_branches(141, joined, LIST32(0, 2, 3, 3, 3), LIST16(1, 2, 3));
+}
+
+/* Mesh 4: 18 and then 17, 17 and then 18, 18 in two columns, and a row twice. */
+static void faults_of_path(void) {
+    File f = path_file();
+    List16 path_order = LIST16(0, 1, 3, 4, 2);
+    List32 starts = LIST32(0, 1, 2, 4, 5, 5);
+    read_path(142, changed(changed(f, 49, 2), 57, 5));
+    write_path(142, path_order, starts, LIST16(2, 4, 3, 4, 5), 59);
+    read_path(143, changed(changed(f, 49, 5), 51, 3));
+    write_path(143, path_order, starts, LIST16(5, 3, 3, 4, 4), 59);
+    read_path(144, changed(changed(f, 49, 2), 51, 3));
+    write_path(144, path_order, starts, LIST16(2, 3, 3, 4, 4), 59);
+    read_path(145, changed(f, 55, 3));
+    write_path(145, path_order, starts, LIST16(1, 4, 3, 3, 4), 59);
+}
+
+static void row_faults(void) {
+    single_faults();
+    two_faults();
+    faults_of_path();
+}
+
 int main(void) {
     worked_meshes();
     telling_meshes();
@@ -444,5 +512,6 @@ int main(void) {
     families();
     long_lists();
     slots();
+    row_faults();
     return 0;
 }

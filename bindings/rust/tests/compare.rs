@@ -22,6 +22,7 @@ mod list_lengths;
 mod pairs;
 mod plans;
 mod replies;
+mod row_faults;
 mod settled;
 mod worked;
 mod worked_texts;

@@ -13,12 +13,12 @@ use meshes::front16;
 use meshes::front32;
 
 // Mesh 4's file of 59 bytes and a byte more: n stands at 5, the order at 17, sizes and parents at 27, row counts at 39, rows at 49.
-fn path_file() -> [u8; 60] {
+pub(crate) fn path_file() -> [u8; 60] {
     *b"NDP\x01\0\x05\0\0\0\x03\0\0\0\x05\0\0\0\0\0\x01\0\x03\0\x04\0\x02\0\x02\0\x02\0\x02\0\x02\0\x01\0\xff\xff\x01\0\x01\0\x02\0\x01\0\0\0\x01\0\x04\0\x03\0\x04\0\x04\0\0"
 }
 
 // The file with another number of two bytes there.
-fn changed(file: [u8; 60], at: u8, x: u16) -> [u8; 60] {
+pub(crate) fn changed(file: [u8; 60], at: u8, x: u16) -> [u8; 60] {
     let mut f = file;
     let first = at as usize;
     if first < 59 {
@@ -29,7 +29,7 @@ fn changed(file: [u8; 60], at: u8, x: u16) -> [u8; 60] {
 }
 
 // A file read into buffers of these lengths: order, positions, sizes, parents, column starts, rows.
-fn read_lent(title: u8, bytes: &[u8], lengths: [usize; 6]) {
+pub(crate) fn read_lent(title: u8, bytes: &[u8], lengths: [usize; 6]) {
     print_title(title);
     let mut order = [60000u16; 16];
     let mut positions = [60000u16; 16];
@@ -58,12 +58,12 @@ fn read_lent(title: u8, bytes: &[u8], lengths: [usize; 6]) {
 }
 
 // The first bytes of a file, read into buffers that are long enough for mesh 4.
-fn read_first(title: u8, file: [u8; 60], length: usize) {
+pub(crate) fn read_first(title: u8, file: [u8; 60], length: usize) {
     read_lent(title, first8(&file, length), [6, 6, 6, 6, 7, 6]);
 }
 
 // A plan of lists written into so many bytes, which hold 77.
-fn write_lent(
+pub(crate) fn write_lent(
     title: u8,
     n: usize,
     p: usize,
@@ -93,7 +93,13 @@ fn write_lent(
 }
 
 // Mesh 4's sizes and parents with these lists.
-fn write_path(title: u8, order: &[u16], columnStarts: &[u32], rows: &[u16], room: usize) {
+pub(crate) fn write_path(
+    title: u8,
+    order: &[u16],
+    columnStarts: &[u32],
+    rows: &[u16],
+    room: usize,
+) {
     let sizes = [2, 2, 1];
     let parents = [2, 2, 65535];
     write_lent(

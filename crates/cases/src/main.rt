@@ -5,6 +5,7 @@
 mod files;
 mod long_lists;
 mod questions;
+mod row_faults;
 mod show;
 mod slots;
 
@@ -252,4 +253,5 @@ fn main() {
     families();
     long_lists::all();
     slots::all();
+    row_faults::all();
 }

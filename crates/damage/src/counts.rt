@@ -21,7 +21,7 @@ const ROUND_TRIP: usize = 5;
 const PLAN: usize = 6;
 
 // The subjects, by the number of their first: the meshes that `main` gives by their edges and the plans with every slot, in turn; meshes that a seed
-// draws; lists to be written, and layouts, that a seed draws.
+// draws; lists to be written, and layouts, that a seed draws; and plans with every choice of parents.
 pub(crate) const GIVEN: usize = 0;
 
 pub(crate) const DRAWN_MESHES: usize = 1000;
@@ -29,6 +29,8 @@ pub(crate) const DRAWN_MESHES: usize = 1000;
 pub(crate) const DRAWN_DRAFTS: usize = 2000;
 
 pub(crate) const DRAWN_LAYOUTS: usize = 6000;
+
+pub(crate) const TREES: usize = 7000;
 
 // Answers by operation and refusal, 28 to an operation; 0 is an answer that is no refusal. `subject` is what is tried, and `turn` how many
 // comparisons of it were made: they tell where a difference is.

@@ -21,7 +21,7 @@ use meshes::draw;
 use meshes::less;
 
 // A draft written, with room and without, and, where it is small enough, its file read.
-fn try_both(c: Counts, d: Draft) -> Counts {
+pub(crate) fn try_both(c: Counts, d: Draft) -> Counts {
     let e = try_writing(try_writing(c, d), with_length(d, 5, 0));
     if 64 < d.n || 64 < d.p || 2016 < d.s {
         return e;

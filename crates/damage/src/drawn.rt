@@ -137,7 +137,7 @@ fn with_order(d: Draft, seed: u64) -> Draft {
 }
 
 // A draft of n nodes without parts and slots.
-fn empty(n: usize) -> Draft {
+pub(crate) fn empty(n: usize) -> Draft {
     Draft {
         n: n,
         p: 0,

@@ -12,6 +12,8 @@ mod files;
 mod held;
 mod layouts;
 mod slots;
+mod trees;
+mod two_rows;
 
 use crate::counts::Counts;
 use crate::counts::DRAWN_MESHES;
@@ -74,12 +76,18 @@ fn every_damage(c: Counts, h: Held) -> Counts {
     every_draft(every_file(round_trip(c, h), encoded(d)), d)
 }
 
+// Damages to two rows of the plan of a mesh.
+fn every_two_rows(c: Counts, m: Case) -> Counts {
+    let d = draft_of(planned(m));
+    two_rows::every_two_more(two_rows::every_two_changed(c, d), d)
+}
+
 // A mesh whose file is tried with every value of every byte too.
 fn small(c: Counts, number: u64, m: Case) -> Counts {
     let h = planned(m);
     let f = encoded(draft_of(h));
     let d = files::every_byte(every_damage(begun(c, GIVEN, number), h), f, f.length);
-    files::drawn_pairs(d, f, 0, 500)
+    every_two_rows(files::drawn_pairs(d, f, 0, 500), m)
 }
 
 // A mesh whose file is tried with every value of every byte before the order.
@@ -103,17 +111,15 @@ fn all_small(c: Counts) -> Counts {
 
 // A path, a mesh of four regions, and a grid of three by four nodes.
 fn all_middling(c: Counts) -> Counts {
-    let path = middling(c, 9, from_edges(7, &[0, 1, 1, 2, 2, 3, 3, 4, 4, 5, 5, 6]));
-    let regions = middling(
-        path,
-        10,
-        from_edges(9, &[0, 4, 4, 8, 1, 3, 3, 5, 1, 5, 2, 6]),
-    );
+    let path = from_edges(7, &[0, 1, 1, 2, 2, 3, 3, 4, 4, 5, 5, 6]);
+    let regions = from_edges(9, &[0, 4, 4, 8, 1, 3, 3, 5, 1, 5, 2, 6]);
     let grid = from_edges(
         12,
         b"\x00\x01\x01\x02\x03\x04\x04\x05\x06\x07\x07\x08\x09\x0a\x0a\x0b\x00\x03\x03\x06\x06\x09\x01\x04\x04\x07\x07\x0a\x02\x05\x05\x08\x08\x0b",
     );
-    middling(regions, 11, grid)
+    let d = every_two_rows(middling(c, 9, path), path);
+    let e = every_two_rows(middling(d, 10, regions), regions);
+    middling(e, 11, grid)
 }
 
 // A plan of one part with every slot. That of more than 27 nodes is no mesh's, and is written, read and asked about all the same.
@@ -149,5 +155,5 @@ fn all_drawn(c: Counts) -> Counts {
 
 fn main() {
     let c = all_drawn(all_full(all_middling(all_small(none()))));
-    print(layouts::all_drawn(drafts::all_drawn(c)));
+    print(trees::all(layouts::all_drawn(drafts::all_drawn(c))));
 }
