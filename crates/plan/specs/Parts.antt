@@ -7,7 +7,7 @@ use lib.ListN.{length, getD}
 use Rattle.plan.specs.Lists.{exists, keep, below, isIn, total}
 use Rattle.plan.specs.Mesh.{noParent, Mesh, adjacent}
 
--- The part in which position i lies: "Parts take the positions in turn, each as many as its size."
+-- The part in which position i lies: "Parts take the positions in turn, each as many as its size." Behind all parts it is their number, no part.
 unfoldable pub partOf : List ℕ → ℕ → ℕ
 partOf [] i = 0
 partOf (s ∷ ss) i = cond (ltb i s) 0 (suc (partOf ss (i - s)))

@@ -11,17 +11,17 @@ use Rattle.plan.specs.Planning.{Contents}
 use Rattle.plan.specs.File.{badColumn, badRows, outsideAncestors, notNested}
 
 -- "whether a fault of 17 .. stands in the rows walked so far": some column below k breaks 17's rule of the rows
-unfoldable pub unorderedBelow : ℕ → Contents → Bool
-unorderedBelow k c = exists (λ j. badColumn (c .nodes) j (listAt (c .columnStarts) (c .rows) j)) (below k)
+unfoldable pub badColumnsBelow : ℕ → Contents → Bool
+badColumnsBelow k c = exists (λ j. badColumn (c .nodes) j (listAt (c .columnStarts) (c .rows) j)) (below k)
 
--- "and whether one of 18": some column below k has a row outside its part and that part's ancestors. A row of n or more lies in no part, so it is
--- outside.
+-- "and whether one of 18": some column below k has a row outside the column's part and that part's ancestors. Behind 16 a row of n or more lies in no
+-- part, so it is outside.
 unfoldable pub outsideBelow : ℕ → Contents → Bool
 outsideBelow k c = exists (λ j. outsideAncestors (c .sizes) (c .parents) j (listAt (c .columnStarts) (c .rows) j)) (below k)
 
 -- "after each column, what the walk carries tells exactly" both: the two facts that it carries after the columns below k
 pub record Carried (k : ℕ) (c : Contents) (unordered outside : Bool) : Type 0 where
-  pub seventeen : unordered ≡ unorderedBelow k c
+  pub seventeen : unordered ≡ badColumnsBelow k c
   pub eighteen : outside ≡ outsideBelow k c
 
 -- the answer at the walk's end, 0 for none: "17 still wins wherever it stands"
@@ -32,8 +32,8 @@ walkAnswer unordered outside = cond unordered 17 (cond outside 18 0)
 abbrev pub walkChecks : Contents → Checks
 walkChecks c = (17, badRows c) ∷ (18, notNested c) ∷ []
 
--- "every file gets the answer it got before": where the column starts, for which no row is looked at, have no fault of 17, what is carried over all
--- columns gives the first fault of the two checks
+-- "every file gets the answer it got before": where the column starts, which are checked without a look at the rows, have no fault of 17, what is carried
+-- over all columns gives the first fault of the two checks. Where they have one, the answer is 17 before the walk.
 abbrev pub AnswersStay : Type 0
 AnswersStay =
     (c : Contents) (unordered outside : Bool) → badStarts (c .nodes) (c .columnStarts) ≡ false → getD (c .columnStarts) (c .nodes) 0 ≡ c .slots

@@ -1,5 +1,5 @@
-// Numbers for the parts by which a part and all parts below it are consecutive, so that "its own part or an ancestor" is a range test; and the range
-// of each position's part.
+// Numbers for the parts by which a part and all parts below it are consecutive, so that lying in a part or in an ancestor of it is a range test; and
+// the range of each position's part.
 use mesh::wide;
 use plan::Plan;
 ghost use mathlib.Core.Path.{_≡_};

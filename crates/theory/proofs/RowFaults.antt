@@ -10,20 +10,20 @@ use Rattle.plan.specs.Lists.{listAt}
 use Rattle.plan.specs.Refusals.{firstFault}
 use Rattle.plan.specs.Planning.{Contents}
 use Rattle.plan.specs.File.{badColumn, badColumns, badRows, outsideAncestors, notNested}
-use Rattle.plan.specs.RowFaults.{unorderedBelow, outsideBelow, Carried, walkAnswer, AnswersStay}
+use Rattle.plan.specs.RowFaults.{badColumnsBelow, outsideBelow, Carried, walkAnswer, AnswersStay}
 use Rattle.theory.proofs.Scans.{exists-next}
 
 module _ (c : Contents) where
   -- before the first column there is no fault
   pub carried-none : Carried 0 c false false
-  unfolding unorderedBelow outsideBelow
+  unfolding badColumnsBelow outsideBelow
   carried-none = record { seventeen = refl; eighteen = refl }
 
   -- behind column k those of its rows are added
   pub carried-more : (k : ℕ) (unordered outside : Bool) → Carried k c unordered outside
       → Carried (k + 1) c (unordered || badColumn (c .nodes) k (listAt (c .columnStarts) (c .rows) k))
       (outside || outsideAncestors (c .sizes) (c .parents) k (listAt (c .columnStarts) (c .rows) k))
-  unfolding unorderedBelow outsideBelow
+  unfolding badColumnsBelow outsideBelow
   carried-more k unordered outside h = record {
     seventeen = rw (h .seventeen, exists-next (λ j. badColumn (c .nodes) j (listAt (c .columnStarts) (c .rows) j)) k);
     eighteen = rw (h .eighteen, exists-next (λ j. outsideAncestors (c .sizes) (c .parents) j (listAt (c .columnStarts) (c .rows) j)) k);
@@ -31,7 +31,7 @@ module _ (c : Contents) where
 
   -- behind the last, they are those of the whole plan
   pub carried-columns : (unordered outside : Bool) → Carried (c .nodes) c unordered outside → unordered ≡ badColumns (c .nodes) (c .columnStarts) (c .rows)
-  unfolding unorderedBelow badColumns
+  unfolding badColumnsBelow badColumns
   carried-columns unordered outside h = h .seventeen
 
   carried-nested : (unordered outside : Bool) → Carried (c .nodes) c unordered outside → outside ≡ notNested c
