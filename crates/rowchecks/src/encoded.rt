@@ -32,8 +32,8 @@ fn encoded_list<'a>(columnStarts: &[u32], bytes: &'a [u8], j: usize) -> &'a [u8]
     &bytes[a..e]
 }
 
-// What the walk carries behind column j, where it carried `faults` before it: exactly the faults of the columns up to j. A column that breaks either
-// rule is looked at again for each of them, since its rows need not ascend. O(rows).
+// What the walk carries behind column j, where it carried `faults` before it: exactly the faults of the columns up to j, whatever the sizes and parents
+// that the ranges stand for. A column that breaks either rule is looked at again for each of them, since its rows need not ascend. O(rows).
 fn after_column_encoded(
     faults: RowFaults,
     n: usize,
@@ -79,8 +79,8 @@ pub fn walk_encoded(
     faults
 }
 
-// Whether column j keeps 19's rule: its rows behind the first are all in the first row's column. Where these are as many as those, both lists are
-// the same or one row is missing; else the first row's column is marked, and the rows are looked up. O(both columns).
+// Whether column j keeps 19's rule: its rows behind the first are all in the first row's column. Where that column has as many rows, the two lists
+// must be the same, since both ascend; else its rows are marked, and those of column j looked up. O(both columns).
 fn covered_encoded(
     n: usize,
     columnStarts: &[u32],

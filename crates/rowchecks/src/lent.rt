@@ -21,8 +21,8 @@ ghost use Rattle.plan.specs.RowFaults.{Carried};
 ghost use Rattle.layout.specs.Arrays.{Unmarked};
 ghost use Rattle.rowchecks.specs.Rows.{partsAndRows, SoundParts, Started, LaidOut, Ranges};
 
-// What the walk carries behind column j, where it carried `faults` before it: exactly the faults of the columns up to j. A column that breaks either
-// rule is looked at again for each of them, since its rows need not ascend. O(rows).
+// What the walk carries behind column j, where it carried `faults` before it: exactly the faults of the columns up to j, whatever the sizes and parents
+// that the ranges stand for. A column that breaks either rule is looked at again for each of them, since its rows need not ascend. O(rows).
 fn after_column(
     faults: RowFaults,
     n: usize,
@@ -68,8 +68,8 @@ pub fn walk(
     faults
 }
 
-// Whether column j keeps 19's rule: its rows behind the first are all in the first row's column. Where these are as many as those, both lists are
-// the same or one row is missing; else the first row's column is marked, and the rows are looked up. O(both columns).
+// Whether column j keeps 19's rule: its rows behind the first are all in the first row's column. Where that column has as many rows, the two lists
+// must be the same, since both ascend; else its rows are marked, and those of column j looked up. O(both columns).
 fn covered(n: usize, columnStarts: &[u32], rows: &[u16], j: usize, marks: &mut [u16]) -> bool
     requires { ⌜ LaidOut n (now columnStarts) (now rows) × (j < n) × (n ≤ length (now marks)) × Unmarked n j (now marks) ⌝ }
     ensures { λ r. ⌜ (r ≡ coveredBy (now (columnStarts .entry)) (now (rows .entry)) (listAt (now (columnStarts .entry)) (now (rows .entry)) j)) × Unmarked n (j + 1) (now (marks .exit)) ⌝ }
