@@ -23,9 +23,9 @@ refused k = record { number = k; values = [] }
 abbrev pub accepted : List ℕ → Reply
 accepted values = record { number = 0; values = values }
 
--- planning and reading: nodes, parts, slots, multiplications
+-- planning and reading: nodes, parts, slots, multiplications and, by document 02, E7, the unknowns for each node
 abbrev pub planReply : PlanAnswer → Reply
-planReply (plan.Accepted p) = accepted (p .nodes ∷ p .parts ∷ p .slots ∷ p .multiplications ∷ [])
+planReply (plan.Accepted p) = accepted (p .nodes ∷ p .parts ∷ p .slots ∷ p .multiplications ∷ p .unknowns ∷ [])
 planReply (plan.Refused k) = refused k
 
 -- writing: "The writer returns that length"

@@ -29,7 +29,7 @@ keepsRule m parts parents = uncutCliques m (flatten parts) (map length parts) pa
 
 unfoldable pub choiceHolds : ChoiceRow → Bool
 choiceHolds (parted m parts parents uncut) =
-    same (planOf m .order) (flatten parts) && same (planOf m .sizes) (map length parts) && same (planOf m .parents) parents
+    same (planOf 1 m .order) (flatten parts) && same (planOf 1 m .sizes) (map length parts) && same (planOf 1 m .parents) parents
     && same (uncutParts parents) uncut && keepsRule m parts parents
 choiceHolds (unruly m parts parents) = not (keepsRule m parts parents)
 choiceHolds (replaces m r x) = improves m (below (m .nodes)) r x

@@ -36,7 +36,7 @@ RootsDiffer =
 
 -- the parts hold each node once
 abbrev pub OrderWhole : Type 0
-OrderWhole = (m : Mesh) → firstFault (meshChecks m) ≡ 0 → eachOnce (m .nodes) (planOf m .order) ≡ true
+OrderWhole = (unknowns : ℕ) (m : Mesh) → firstFault (meshChecks m) ≡ 0 → eachOnce (m .nodes) (planOf unknowns m .order) ≡ true
 
 -- the last ancestor has no parent, by check 16's rule
 abbrev pub AncestorsEnd : Type 0

@@ -1,6 +1,7 @@
--- Document 01, "The plan file, version 1": the bytes of a plan, what bytes say, and the checks of a plan that is supplied (13, 15 to 19).
+-- Document 01, "The plan file, version 1", and version 2 of document 02, E7: the bytes of a plan, what bytes of either version say, and the checks of
+-- a plan that is supplied (13, 15 to 19).
 use mathlib.Core.Path.{_≡_}
-use mathlib.Core.Bool.{Bool, true, not, _&&_, _||_}
+use mathlib.Core.Bool.{Bool, true, cond, not, _&&_, _||_}
 use mathlib.Core.List.{List, [], _∷_, _++_, map, flatten}
 use Prim.Native.Nat.{ℕ, _+_, _-_, _*_, _/_, _%_}
 use lib.Dec.{ltb, eqb}
@@ -35,26 +36,36 @@ decode16s bytes at apart count = map (λ k. decode16 bytes (at + apart * k)) (be
 abbrev pub magic : List ℕ
 magic = 78 ∷ 68 ∷ 80 ∷ []
 
--- "3 and 4: version, 1."
+-- the version that a file's bytes say: "3 and 4: version"
+unfoldable pub versionOf : List ℕ → ℕ
+versionOf bytes = decode16 bytes 3
+
+-- "The writer writes version 2 only"
 abbrev pub version : ℕ
-version = 1
+version = 2
 
--- "5 to 8: n"
-abbrev pub nodesAt : ℕ
-nodesAt = 5
+-- Where n stands in a file of a version: in version 1 "5 to 8: n"; "Version 2 of the file holds it", the number of unknowns, "as 16 bits at bytes 5 and
+-- 6, and everything after moves by two".
+unfoldable pub nodesAt : ℕ → ℕ
+nodesAt v = cond (eqb v 1) 5 7
 
--- The length of a file whose n stands at byte `at`; at byte 5 it is "Length 17 + 4n + 4p + 2s."
+-- The length of a file whose n stands at byte `at`: at byte 5 it is "17 + 4n + 4p + 2s", at byte 7 "19 + 4n + 4p + 2s".
 unfoldable pub lengthAt : ℕ → ℕ → ℕ → ℕ → ℕ
 lengthAt at n p s = at + 12 + 4 * n + 4 * p + 2 * s
 
+-- how long a plan's file of a version is
+unfoldable pub lengthIn : ℕ → Contents → ℕ
+lengthIn v c = lengthAt (nodesAt v) (c .nodes) (c .parts) (c .slots)
+
+-- and the file that is written: "its length is 19 + 4n + 4p + 2s"
 unfoldable pub fileLength : Contents → ℕ
-fileLength c = lengthAt nodesAt (c .nodes) (c .parts) (c .slots)
+fileLength c = lengthIn version c
 
 -- "p times size and father, 2 bytes each"
 unfoldable pub encodeParts : Contents → List ℕ
 encodeParts c = flatten (map (λ q. encode16 (getD (c .sizes) q 0) ++ encode16 (getD (c .parents) q 0)) (below (c .parts)))
 
--- "5 to 8: n. 9 to 12: parts p. 13 to 16: slots s. Then the order, n × 2 bytes; p times size and father, 2 bytes each; n row counts of 2 bytes; s
+-- n, p and s, and what follows: "5 to 8: n. 9 to 12: parts p. 13 to 16: slots s. Then the order, n × 2 bytes; p times size and father, 2 bytes each; n row counts of 2 bytes; s
 -- rows of 2 bytes."
 unfoldable pub encodeContents : Contents → List ℕ
 encodeContents c = flatten (
@@ -67,17 +78,19 @@ encodeContents c = flatten (
     ∷ encode16s (c .rows)
     ∷ [])
 
--- the file: "Bytes 0 to 2: the letters NDP. 3 and 4: version, 1.", then the contents
+-- The file that is written: "Bytes 0 to 2: the letters NDP. 3 and 4: version", then "Version 2 of the file holds it", the number of unknowns, "as 16
+-- bits at bytes 5 and 6", then n and what follows.
 unfoldable pub encode : Contents → List ℕ
-encode c = flatten (magic ∷ encode16 version ∷ encodeContents c ∷ [])
+encode c = flatten (magic ∷ encode16 version ∷ encode16 (c .unknowns) ∷ encodeContents c ∷ [])
 
--- what bytes say whose n stands at byte `at`
-unfoldable pub parseAt : ℕ → List ℕ → Contents
-parseAt at bytes =
+-- what bytes say whose n stands at byte `at`, for so many unknowns for each node
+unfoldable pub parseAt : ℕ → ℕ → List ℕ → Contents
+parseAt at unknowns bytes =
     let n : ℕ = decode32 bytes at in
     let p : ℕ = decode32 bytes (at + 4) in
     let s : ℕ = decode32 bytes (at + 8) in
     record {
+      unknowns = unknowns;
       nodes = n;
       parts = p;
       slots = s;
@@ -88,8 +101,13 @@ parseAt at bytes =
       rows = decode16s bytes (at + 12 + 4 * n + 4 * p) 2 s;
     }
 
+-- the unknowns that bytes say: "The new reader takes version 1 as one unknown"; version 2 holds the number "as 16 bits at bytes 5 and 6"
+unfoldable pub unknownsIn : List ℕ → ℕ
+unknownsIn bytes = cond (eqb (versionOf bytes) 1) 1 (decode16 bytes 5)
+
+-- what bytes of version 1 or 2 say
 unfoldable pub parse : List ℕ → Contents
-parse bytes = parseAt nodesAt bytes
+parse bytes = parseAt (nodesAt (versionOf bytes)) (unknownsIn bytes) bytes
 
 -- a whole plan: each list is as long as its count says, the column starts n + 1
 pub record Whole (c : Contents) : Type 0 where

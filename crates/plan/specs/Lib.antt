@@ -16,6 +16,7 @@ pub mod RowFaults
 pub mod Reading
 pub mod Writing
 pub mod RoundTrips
+pub mod Version1
 pub mod Questions
 pub mod SlotsAndPairs
 pub mod Listing
@@ -26,6 +27,7 @@ pub mod Everything
 pub mod MeshCases
 pub mod ChoiceCases
 pub mod Starred
+pub mod VersionCases
 pub mod SlotCases
 pub mod RowFaultCases
 pub mod WorkedTexts

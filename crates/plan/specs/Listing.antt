@@ -42,7 +42,8 @@ badInput bytes =
     ltb (length bytes) 2 || ltb maxListedNodes (decode16 bytes 0) || ltb maxListedEntries (entryCount bytes)
     || ltb (length bytes) (neighboursAt bytes) || eqb ((length bytes - neighboursAt bytes) % 2) 1
 
--- 20 first, then the mesh's own checks; the program's buffers are long enough (256 nodes have at most 32,640 slots), so 8 and 9 do not come
+-- 20 first, then the mesh's own checks; the program's buffers are long enough (256 nodes have at most 32,640 slots), so 8 and 9 do not come, and
+-- neither does 28
 unfoldable pub listingChecks : List ℕ → Checks
 listingChecks bytes = (20, badInput bytes) ∷ meshChecks (inputMesh bytes)
 
@@ -89,6 +90,10 @@ unfoldable pub print : ℕ → Contents → List ℕ
 print zero c = headLine c ++ flatten (map (positionLine c) (below (c .nodes)))
 print (suc k) c = refusalLine (suc k)
 
+-- the plan that is listed: of the unknowns for each node, "The listing program gives 1"
+abbrev pub listedPlan : Mesh → Contents
+listedPlan m = planOf 1 m
+
 -- the listing, whole: what the program writes when it has read these bytes
 unfoldable pub listing : List ℕ → List ℕ
-listing bytes = print (firstFault (listingChecks bytes)) (planOf (inputMesh bytes))
+listing bytes = print (firstFault (listingChecks bytes)) (listedPlan (inputMesh bytes))

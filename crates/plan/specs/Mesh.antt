@@ -21,6 +21,10 @@ noParent = 65535
 abbrev pub maxNeighbours : ℕ
 maxNeighbours = 26
 
+-- Document 02, E7: "Every plan now carries the number of unknowns for each node, 1 to 6."
+abbrev pub maxUnknowns : ℕ
+maxUnknowns = 6
+
 -- "A mesh has n nodes, 0 to n − 1. The starts are n + 1 numbers of 32 bits and the neighbours are numbers of 16 bits". n is lent by itself; the
 -- widths are those of the slices.
 pub record Mesh : Type 0 where

@@ -19,10 +19,10 @@ pub data WalkRow : Type 0 where
   -- each; the answer
   walked : (sizes parents counts rows : List ℕ) → (carried : List (List ℕ)) → (answer : ℕ) → WalkRow
 
--- the plan whose order is 0, 1, ..
+-- the plan whose order is 0, 1, .., with one unknown for each node
 abbrev pub planIn : List ℕ → List ℕ → List ℕ → List ℕ → Contents
 planIn sizes parents counts rows =
-    contents (length counts) (length sizes) (length rows) (below (length counts)) sizes parents (runningSums 0 counts) rows
+    contents 1 (length counts) (length sizes) (length rows) (below (length counts)) sizes parents (runningSums 0 counts) rows
 
 -- the faults carried after the columns below k, as numbers
 abbrev pub faultsAfter : Contents → ℕ → List ℕ

@@ -15,6 +15,7 @@ use Rattle.plan.specs.File.{encode}
 use Rattle.plan.specs.Reading.{reading}
 use Rattle.plan.specs.Writing.{WriteOutcome, writing}
 use Rattle.plan.specs.RoundTrips.{handed}
+use Rattle.plan.specs.Version1.{untold, reading1}
 use Rattle.plan.specs.Listing.{listing}
 use Rattle.plan.specs.Everything.{everything}
 
@@ -26,10 +27,10 @@ pub data Claim : Type 0 where
   file : (size : ℕ) → (bytes : List ℕ) → Claim
 
 pub data Row : Type 0 where
-  -- planning a mesh, lent a rows buffer so long
-  planned : (m : Mesh) → (rows : ℕ) → (expected : Outcome) → List Claim → Row
-  -- reading bytes, lent buffers for n nodes and a rows buffer so long
-  read : (n rows : ℕ) → (bytes : List ℕ) → (expected : Outcome) → Row
+  -- planning a mesh for so many unknowns for each node, lent a rows buffer so long
+  planned : (unknowns : ℕ) → (m : Mesh) → (rows : ℕ) → (expected : Outcome) → List Claim → Row
+  -- reading bytes, lent buffers for n nodes and a rows buffer so long; and by the reader that knows version 1 alone
+  read read1 : (n rows : ℕ) → (bytes : List ℕ) → (expected : Outcome) → Row
   -- a plan that the writer refuses, and the reader refuses its bytes, with the same number
   faulty : (c : Contents) → (number : ℕ) → Row
   -- the listing program, from its input to its output
@@ -95,10 +96,11 @@ refusal k = record {
 }
 
 unfoldable pub holds : Row → Bool
-holds (planned m rows expected claims) =
-    let o : Outcome = planning m (capacity (staleBuffers (m .nodes) rows)) in
+holds (planned unknowns m rows expected claims) =
+    let o : Outcome = planning unknowns m (capacity (staleBuffers (m .nodes) rows)) in
     agrees (m .nodes) rows expected o && every (claimed m o) claims
 holds (read n rows bytes expected) = agrees n rows expected (reading bytes (capacity (staleBuffers n rows)))
+holds (read1 n rows bytes expected) = agrees n rows expected (reading1 bytes (capacity (staleBuffers n rows)))
 holds (faulty c k) =
     writes 100 (refused k) [] (writing c 100)
     && agrees (c .nodes) (c .slots) (refusal k) (reading (encode c) (capacity (staleBuffers (c .nodes) (c .slots))))
@@ -112,7 +114,7 @@ path = record { nodes = 5; starts = 0 ∷ 1 ∷ 3 ∷ 5 ∷ 7 ∷ 8 ∷ []; neig
 
 abbrev pub pathOutcome : Outcome
 pathOutcome = record {
-  reply = accepted (5 ∷ 3 ∷ 5 ∷ 11 ∷ []);
+  reply = accepted (5 ∷ 3 ∷ 5 ∷ 11 ∷ 1 ∷ []);
   order = 0 ∷ 1 ∷ 3 ∷ 4 ∷ 2 ∷ [];
   positions = 0 ∷ 1 ∷ 4 ∷ 2 ∷ 3 ∷ [];
   sizes = 2 ∷ 2 ∷ 1 ∷ [];
@@ -121,13 +123,11 @@ pathOutcome = record {
   rows = 1 ∷ 4 ∷ 3 ∷ 4 ∷ 4 ∷ [];
 }
 
--- the 59 bytes of its file
-abbrev pub pathFile : List ℕ
-pathFile = flatten (
-    -- NDP, version 1
-    (78 ∷ 68 ∷ 80 ∷ 1 ∷ 0 ∷ [])
+-- what its files of either version hold from n on
+abbrev pub pathContents : List ℕ
+pathContents = flatten (
     -- n, p, s
-    ∷ (5 ∷ 0 ∷ 0 ∷ 0 ∷ 3 ∷ 0 ∷ 0 ∷ 0 ∷ 5 ∷ 0 ∷ 0 ∷ 0 ∷ [])
+    (5 ∷ 0 ∷ 0 ∷ 0 ∷ 3 ∷ 0 ∷ 0 ∷ 0 ∷ 5 ∷ 0 ∷ 0 ∷ 0 ∷ [])
     -- the order
     ∷ (0 ∷ 0 ∷ 1 ∷ 0 ∷ 3 ∷ 0 ∷ 4 ∷ 0 ∷ 2 ∷ 0 ∷ [])
     -- size and father of each part
@@ -137,6 +137,14 @@ pathFile = flatten (
     -- the rows
     ∷ (1 ∷ 0 ∷ 4 ∷ 0 ∷ 3 ∷ 0 ∷ 4 ∷ 0 ∷ 4 ∷ 0 ∷ [])
     ∷ [])
+
+-- the 61 bytes of its file: NDP, version 2, one unknown
+abbrev pub pathFile : List ℕ
+pathFile = (78 ∷ 68 ∷ 80 ∷ 2 ∷ 0 ∷ 1 ∷ 0 ∷ []) ++ pathContents
+
+-- the 59 bytes of its file of version 1: NDP, version 1
+abbrev pub pathFile1 : List ℕ
+pathFile1 = (78 ∷ 68 ∷ 80 ∷ 1 ∷ 0 ∷ []) ++ pathContents
 
 -- the path as the listing program reads it: n, the starts, the neighbours
 abbrev pub pathInput : List ℕ
@@ -165,7 +173,7 @@ pathListing = flatten (
 
 abbrev pub triangleOutcome : Outcome
 triangleOutcome = record {
-  reply = accepted (3 ∷ 1 ∷ 3 ∷ 7 ∷ []);
+  reply = accepted (3 ∷ 1 ∷ 3 ∷ 7 ∷ 1 ∷ []);
   order = 0 ∷ 1 ∷ 2 ∷ [];
   positions = 0 ∷ 1 ∷ 2 ∷ [];
   sizes = 3 ∷ [];
@@ -177,9 +185,9 @@ triangleOutcome = record {
 unfoldable pub table : List Row
 table =
     -- 1. One node: one part, no slot.
-    planned (record { nodes = 1; starts = 0 ∷ 0 ∷ []; neighbours = [] }) 1
+    planned 1 (record { nodes = 1; starts = 0 ∷ 0 ∷ []; neighbours = [] }) 1
     (record {
-      reply = accepted (1 ∷ 1 ∷ 0 ∷ 0 ∷ []);
+      reply = accepted (1 ∷ 1 ∷ 0 ∷ 0 ∷ 1 ∷ []);
       order = 0 ∷ [];
       positions = 0 ∷ [];
       sizes = 1 ∷ [];
@@ -188,9 +196,9 @@ table =
       rows = [];
     }) []
     -- 2. Two nodes, no entry: order 0 1, two parts without father, no slot.
-    ∷ planned (record { nodes = 2; starts = 0 ∷ 0 ∷ 0 ∷ []; neighbours = [] }) 1
+    ∷ planned 1 (record { nodes = 2; starts = 0 ∷ 0 ∷ 0 ∷ []; neighbours = [] }) 1
     (record {
-      reply = accepted (2 ∷ 2 ∷ 0 ∷ 0 ∷ []);
+      reply = accepted (2 ∷ 2 ∷ 0 ∷ 0 ∷ 1 ∷ []);
       order = 0 ∷ 1 ∷ [];
       positions = 0 ∷ 1 ∷ [];
       sizes = 1 ∷ 1 ∷ [];
@@ -199,16 +207,19 @@ table =
       rows = [];
     }) []
     -- 3. Triangle: one part, 3 slots, 7 multiplications. Rows buffer of 2: refusal 9; of 3: accepted.
-    ∷ planned triangle 3 triangleOutcome []
-    ∷ planned triangle 2 (refusal 9) []
-    -- 4. Path 0-1-2-3-4: listing below; 11 multiplications; file of 59 bytes; bound 6.
-    ∷ planned path 6 pathOutcome (bounded 6 ∷ file 59 pathFile ∷ [])
+    ∷ planned 1 triangle 3 triangleOutcome []
+    ∷ planned 1 triangle 2 (refusal 9) []
+    -- 4. Path 0-1-2-3-4: listing below; 11 multiplications; bound 6. Document 02, E7: "mesh 4's written file has 61 bytes." Its file of 59 bytes, of
+    -- version 1, is read by both readers.
+    ∷ planned 1 path 6 pathOutcome (bounded 6 ∷ file 61 pathFile ∷ [])
     ∷ read 5 6 pathFile pathOutcome
+    ∷ read 5 6 pathFile1 pathOutcome
+    ∷ read1 5 6 pathFile1 (untold pathOutcome)
     ∷ listed pathInput pathListing
     -- 5. Ring 0-1-2-3: order 0 2 1 3, sizes 1 1 2, 5 slots, 12 multiplications; bound 5. The path 1-0-3 passes node 0, which is earlier than node 1.
-    ∷ planned (record { nodes = 4; starts = 0 ∷ 2 ∷ 4 ∷ 6 ∷ 8 ∷ []; neighbours = 1 ∷ 3 ∷ 0 ∷ 2 ∷ 1 ∷ 3 ∷ 0 ∷ 2 ∷ [] }) 6
+    ∷ planned 1 (record { nodes = 4; starts = 0 ∷ 2 ∷ 4 ∷ 6 ∷ 8 ∷ []; neighbours = 1 ∷ 3 ∷ 0 ∷ 2 ∷ 1 ∷ 3 ∷ 0 ∷ 2 ∷ [] }) 6
     (record {
-      reply = accepted (4 ∷ 3 ∷ 5 ∷ 12 ∷ []);
+      reply = accepted (4 ∷ 3 ∷ 5 ∷ 12 ∷ 1 ∷ []);
       order = 0 ∷ 2 ∷ 1 ∷ 3 ∷ [];
       positions = 0 ∷ 2 ∷ 1 ∷ 3 ∷ [];
       sizes = 1 ∷ 1 ∷ 2 ∷ [];
@@ -217,9 +228,9 @@ table =
       rows = 2 ∷ 3 ∷ 2 ∷ 3 ∷ 3 ∷ [];
     }) (bounded 5 ∷ onPath 3 2 (0 ∷ []) true ∷ [])
     -- 6. Star, centre 0, leaves 1 to 3: order 1 2 3 0, 3 slots. The path 1-0-2 passes node 0, which is later than node 1.
-    ∷ planned (record { nodes = 4; starts = 0 ∷ 3 ∷ 4 ∷ 5 ∷ 6 ∷ []; neighbours = 1 ∷ 2 ∷ 3 ∷ 0 ∷ 0 ∷ 0 ∷ [] }) 4
+    ∷ planned 1 (record { nodes = 4; starts = 0 ∷ 3 ∷ 4 ∷ 5 ∷ 6 ∷ []; neighbours = 1 ∷ 2 ∷ 3 ∷ 0 ∷ 0 ∷ 0 ∷ [] }) 4
     (record {
-      reply = accepted (4 ∷ 4 ∷ 3 ∷ 6 ∷ []);
+      reply = accepted (4 ∷ 4 ∷ 3 ∷ 6 ∷ 1 ∷ []);
       order = 1 ∷ 2 ∷ 3 ∷ 0 ∷ [];
       positions = 3 ∷ 0 ∷ 1 ∷ 2 ∷ [];
       sizes = 1 ∷ 1 ∷ 1 ∷ 1 ∷ [];
@@ -228,16 +239,20 @@ table =
       rows = 3 ∷ 3 ∷ 3 ∷ [];
     }) (onPath 1 0 (0 ∷ []) false ∷ [])
     -- 7. n = 0: 1.
-    ∷ planned (record { nodes = 0; starts = 0 ∷ []; neighbours = [] }) 1 (refusal 1) []
+    ∷ planned 1 (record { nodes = 0; starts = 0 ∷ []; neighbours = [] }) 1 (refusal 1) []
     -- 8. Two nodes, only 0 lists 1: 7.
-    ∷ planned (record { nodes = 2; starts = 0 ∷ 1 ∷ 1 ∷ []; neighbours = 1 ∷ [] }) 2 (refusal 7) []
+    ∷ planned 1 (record { nodes = 2; starts = 0 ∷ 1 ∷ 1 ∷ []; neighbours = 1 ∷ [] }) 2 (refusal 7) []
     -- 9. Node 0 of two lists 5, then 0: 4, not 5 or 6.
-    ∷ planned (record { nodes = 2; starts = 0 ∷ 2 ∷ 2 ∷ []; neighbours = 5 ∷ 0 ∷ [] }) 2 (refusal 4) []
-    -- 10. File of 17 bytes, NDP, version 2: 12. Its first 16 bytes: 10.
-    ∷ read 5 6 (78 ∷ 68 ∷ 80 ∷ 2 ∷ 0 ∷ replicate 12 0) (refusal 12)
+    ∷ planned 1 (record { nodes = 2; starts = 0 ∷ 2 ∷ 2 ∷ []; neighbours = 5 ∷ 0 ∷ [] }) 2 (refusal 4) []
+    -- 10. File of 17 bytes, NDP, version 2: 12. Its first 16 bytes: 10. So answers the reader of version 1. Document 02, E7: "the new reader answers 10 to
+    -- the 17 bytes of mesh case 10."
+    ∷ read1 5 6 (78 ∷ 68 ∷ 80 ∷ 2 ∷ 0 ∷ replicate 12 0) (refusal 12)
+    ∷ read1 5 6 (78 ∷ 68 ∷ 80 ∷ 2 ∷ 0 ∷ replicate 11 0) (refusal 10)
+    ∷ read 5 6 (78 ∷ 68 ∷ 80 ∷ 2 ∷ 0 ∷ replicate 12 0) (refusal 10)
     ∷ read 5 6 (78 ∷ 68 ∷ 80 ∷ 2 ∷ 0 ∷ replicate 11 0) (refusal 10)
     -- 11. n = 3, one part, column 0 has rows 1 and 2, column 1 none: 19.
     ∷ faulty (record {
+      unknowns = 1;
       nodes = 3;
       parts = 1;
       slots = 2;
@@ -249,6 +264,7 @@ table =
     }) 19
     -- 12. n = 2, two fatherless parts, column 0 has row 1: 18.
     ∷ faulty (record {
+      unknowns = 1;
       nodes = 2;
       parts = 2;
       slots = 1;

@@ -1,4 +1,4 @@
--- Document 01, writing a plan file: checks 13, 15 to 19, then 8, and what the output holds afterwards.
+-- Document 01 and document 02, E7, writing a plan file: checks 28, 13, 15 to 19, then 8, and what the output holds afterwards.
 use mathlib.Core.Bool.{Bool, _||_}
 use mathlib.Core.Path.{_≡_}
 use mathlib.Core.List.{List, [], _∷_, _++_}
@@ -9,7 +9,7 @@ use Rattle.plan.specs.declared.WriteAnswer.{WriteAnswer}
 use Rattle.plan.specs.Lists.{written}
 use Rattle.plan.specs.Refusals.{Checks, firstFault}
 use Rattle.plan.specs.Answers.{Reply, accepted, refused, writeReply}
-use Rattle.plan.specs.Planning.{Contents}
+use Rattle.plan.specs.Planning.{Contents, badUnknowns}
 use Rattle.plan.specs.File.{fileLength, encode, badHeader, contentsChecks}
 
 -- 13, "also when a lent slice is shorter than its count"
@@ -21,6 +21,7 @@ badSupply c =
 -- as many entries of each slice as its count says; the slices may be longer
 unfoldable pub used : Contents → Contents
 used c = record {
+  unknowns = c .unknowns;
   nodes = c .nodes;
   parts = c .parts;
   slots = c .slots;
@@ -31,9 +32,9 @@ used c = record {
   rows = take (c .slots) (c .rows);
 }
 
--- the checks of a plan that is supplied in slices: "13 (also ..), 15 to 19"
+-- the checks of a plan that is supplied in slices: "13 (also ..), 15 to 19", and 28 "before 13"
 unfoldable pub suppliedChecks : Contents → Checks
-suppliedChecks c = (13, badSupply c) ∷ contentsChecks (used c)
+suppliedChecks c = (28, badUnknowns (c .unknowns)) ∷ (13, badSupply c) ∷ contentsChecks (used c)
 
 -- 8 "for its output", which has room for so many bytes
 unfoldable pub outputTooShort : Contents → ℕ → Bool

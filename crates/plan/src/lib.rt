@@ -1,6 +1,7 @@
 // The public kinds: a plan, the answers of the entry points, and the family of a refusal's number.
 ghost use mathlib.Core.Path.{_≡_};
-ghost use Rattle.plan.specs.Mesh.{maxNodes, maxEntries, maxNeighbours, noParent};
+ghost use Rattle.plan.specs.Mesh.{maxNodes, maxEntries, maxNeighbours, maxUnknowns, noParent};
+ghost use Rattle.plan.specs.Planning.{badUnknowns};
 ghost use Rattle.plan.specs.Refusals.{familyOf};
 
 // A plan by its counts. Its lists (order, positions, sizes, parents, column starts, rows) stand in the lent buffers.
@@ -8,6 +9,8 @@ pub struct Plan {
     pub nodes: u32,
     pub parts: u32,
     pub slots: u32,
+    // for each node
+    pub unknowns: u32,
     pub multiplications: u64,
 }
 
@@ -18,22 +21,32 @@ impl Plan {
     pub const ENTRIES: usize = 65536;
     // the most neighbours that a node may have
     pub const NEIGHBOURS: usize = 26;
+    // the most unknowns for each node
+    pub const UNKNOWNS: usize = 6;
     // the parent (document 01: father) of a part that has none
     pub const NO_PARENT: u16 = 65535;
 
     // A plan of these counts. O(1).
-    pub fn new(nodes: u32, parts: u32, slots: u32, multiplications: u64) -> Self
-        ensures { λ r. ⌜ r ≡ record { nodes = nodes; parts = parts; slots = slots; multiplications = multiplications } ⌝ }
+    pub fn new(nodes: u32, parts: u32, slots: u32, unknowns: u32, multiplications: u64) -> Self
+        ensures { λ r. ⌜ r ≡ record { nodes = nodes; parts = parts; slots = slots; unknowns = unknowns; multiplications = multiplications } ⌝ }
     {
         Self {
             nodes,
             parts,
             slots,
+            unknowns,
             multiplications,
         }
     }
 
-    // The four limits are those of the book: a function for each says so, since the book cannot name a constant of the code. O(1).
+    // Check 28: the number of unknowns for each node is outside 1 to 6. O(1).
+    pub fn bad_unknowns(unknowns: usize) -> bool
+        ensures { λ r. ⌜ r ≡ badUnknowns unknowns ⌝ }
+    {
+        unknowns == 0 || unknowns > Self::UNKNOWNS
+    }
+
+    // The limits are those of the book: a function for each says so, since the book cannot name a constant of the code. O(1).
     fn max_nodes() -> usize
         ensures { λ r. ⌜ r ≡ maxNodes ⌝ }
     {
@@ -50,6 +63,12 @@ impl Plan {
         ensures { λ r. ⌜ r ≡ maxNeighbours ⌝ }
     {
         Self::NEIGHBOURS
+    }
+
+    fn max_unknowns() -> usize
+        ensures { λ r. ⌜ r ≡ maxUnknowns ⌝ }
+    {
+        Self::UNKNOWNS
     }
 
     fn no_parent() -> u16
