@@ -1,4 +1,4 @@
--- A whole plan that passes checks 13 and 15 to 19 has a place in a file.
+-- A whole plan that passes checks 28, 13 and 15 to 19 has a place in a file.
 use mathlib.Core.Path.{_≡_, sym, ap, _∙_}
 use mathlib.Core.Logic.{inl, inr}
 use mathlib.Core.Bool.{Bool, true, false, not, _||_}
@@ -12,9 +12,9 @@ use lib.Seq.{take-all}
 use borrow.Author.Tests.{eqb-true, eqb-false, ltb-false, not-false}
 use Rattle.plan.specs.Lists.{segment, below, isIn, listAt, eachOnce, indexOf}
 use Rattle.plan.specs.Refusals.{Checks, firstFault}
-use Rattle.plan.specs.Mesh.{maxNodes, noParent, badNodeCount, badStarts}
+use Rattle.plan.specs.Mesh.{maxNodes, maxUnknowns, noParent, badNodeCount, badStarts}
 use Rattle.plan.specs.Parts.{parentOf}
-use Rattle.plan.specs.Planning.{Contents, rowCounts}
+use Rattle.plan.specs.Planning.{Contents, rowCounts, badUnknowns}
 use Rattle.plan.specs.File.{Whole, badHeader, badOrder, badParts, badRows, badColumn, badColumns, notNested, notCovered, contentsChecks}
 use Rattle.plan.specs.RoundTrips.{Sound}
 use Rattle.theory.specs.Checked.{Starts}
@@ -33,10 +33,10 @@ use Rattle.theory.proofs.PartChecks.{passes-tree, parents-known}
 
 -- ---- what the checks say
 
--- a whole plan that passes 13 and 15 to 19 has none of their faults
-pub passes-sound : (c : Contents) → Whole c → badHeader c ≡ false → firstFault (contentsChecks c) ≡ 0 → Sound c
+-- a whole plan that passes 28, 13 and 15 to 19 has none of their faults
+pub passes-sound : (c : Contents) → Whole c → badUnknowns (c .unknowns) ≡ false → badHeader c ≡ false → firstFault (contentsChecks c) ≡ 0 → Sound c
 unfolding contentsChecks
-passes-sound c whole header h =
+passes-sound c whole unknowns header h =
     let c15 = no-fault 15 (badOrder c) _ (omega arith) h in
     let c16 = no-fault 16 (badParts c) _ (omega arith) (c15 .1) in
     let c17 = no-fault 17 (badRows c) _ (omega arith) (c16 .1) in
@@ -44,6 +44,7 @@ passes-sound c whole header h =
     let c19 = no-fault 19 (notCovered c) _ (omega arith) (c18 .1) in
     record {
       whole = whole;
+      unknowns = unknowns;
       header = header;
       order = c15 .0;
       parts = c16 .0;
@@ -56,6 +57,13 @@ passes-sound c whole header h =
 pub sound-passes : (c : Contents) (more : Checks) → Sound c → firstFault (contentsChecks c ++ more) ≡ firstFault more
 unfolding contentsChecks firstFault
 sound-passes c more h = rw (h .order, h .parts, h .rows, h .nested, h .covered)
+
+-- 28: the unknowns are 1 to 6
+pub unknowns-limits : (u : ℕ) → badUnknowns u ≡ false → (0 < u) × (u ≤ maxUnknowns)
+unfolding badUnknowns
+unknowns-limits u h =
+    let some = eqb-false u 0 (or-false-left (eqb u 0) _ h) in
+    (omega arith, ltb-false maxUnknowns u (or-false-right (eqb u 0) _ h))
 
 -- 13: n passes check 1, so it is 1 to 4,096; p is 1 to n; s is at most n(n − 1)/2
 pub record Limits (c : Contents) : Type 0 where
@@ -173,6 +181,7 @@ module _ (c : Contents) (sound : Sound c) where
   pub sound-fits : Fits c
   sound-fits = record {
     whole = sound .whole;
+    unknowns = omega (arith, unknowns-limits (c .unknowns) (sound .unknowns));
     nodes = omega (arith, limits .nodesFew);
     parts = omega (arith, limits .nodesFew, limits .partsFew);
     slots = omega (arith, counts-few c (sound .header));

@@ -62,3 +62,4 @@ pub mod TextRepeats
 pub mod TextEntries
 pub mod TextOrder
 pub mod Promises
+pub mod Versions

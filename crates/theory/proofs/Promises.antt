@@ -12,10 +12,10 @@ use Rattle.plan.specs.Lists.{written}
 use Rattle.plan.specs.Refusals.{firstFault}
 use Rattle.plan.specs.Answers.{Reply, accepted, planReply, writeReply}
 use Rattle.plan.specs.Planning.{Contents, planOf, Buffers, Capacity, capacity, planChecks, Outcome, handOut, planning, fill, Filled}
-use Rattle.plan.specs.File.{fileLength, encode, parse, Whole}
+use Rattle.plan.specs.File.{lengthIn, fileLength, encode, parse, Whole}
 use Rattle.plan.specs.Reading.{readChecks, reading}
 use Rattle.plan.specs.Writing.{used, writeChecks, WriteOutcome, writeOut, writing, Wrote}
-use Rattle.plan.specs.RoundTrips.{acceptedWriting, lentBack, WroteThenFilled, FilledThenWrote, PlannedThenWrote, Sound}
+use Rattle.plan.specs.RoundTrips.{acceptedWriting, lentBack, WroteThenFilled, FilledThenWrote, FilledWroteFilled, PlannedThenWrote, Sound}
 use Rattle.theory.proofs.Written.{front-written}
 use Rattle.theory.proofs.FileFields.{encode-length}
 use Rattle.theory.proofs.Planned.{hand-number, handed-planned}
@@ -30,10 +30,10 @@ shown-size zero c size e = ap (λ (r : Reply). getD (r .values) 0 0) e
 shown-size (suc k) c size e = absurd (omega (arith, ap (λ (r : Reply). r .number) e))
 
 -- and it writes so many bytes
-written-size : (c : Contents) (output size : ℕ) → writeReply (Written size) ≡ writing c output .reply → length (writing c output .bytes) ≡ size
+pub written-size : (c : Contents) (output size : ℕ) → writeReply (Written size) ≡ writing c output .reply → length (writing c output .bytes) ≡ size
 written-size c output size e =
     let w = write-says c output (sym (ap (λ (r : Reply). r .number) e)) in
-    let shown : size ≡ fileLength (used c) = unfold writing used fileLength in shown-size (firstFault (writeChecks c output)) c size e in
+    let shown : size ≡ fileLength (used c) = unfold writing used fileLength lengthIn in shown-size (firstFault (writeChecks c output)) c size e in
     ap length (w .1) ∙ encode-length (used c) (w .0 .whole) ∙ sym shown
 
 -- What was written, then read: the used entries are handed out.
@@ -57,7 +57,9 @@ filled-used c p lent left sound h =
     let nodes : p .nodes ≡ c .nodes = value 0 in
     let parts : p .parts ≡ c .parts = value 1 in
     let slots : p .slots ≡ c .slots = value 2 in
+    let unknowns : p .unknowns ≡ c .unknowns = value 4 in
     rw (
+      unknowns,
       nodes,
       parts,
       slots,
@@ -86,30 +88,42 @@ wrote-bytes c bytes found after answer w wrote = (
   wrote .output ∙ ap (λ (o : WriteOutcome). written (o .bytes) found) w,
 )
 
+-- the used entries of buffers that were read into are the plan that the bytes say
+read-used : (bytes : List ℕ) (p : Plan) (lent left : Buffers) → Filled (reading bytes (capacity lent)) (Accepted p) lent left → used (lentBack p left) ≡ parse bytes
+unfolding reading
+read-used bytes p lent left filled =
+    let room : Capacity = capacity lent in
+    let h : reading bytes room .reply .number ≡ 0 = sym (ap (λ (r : Reply). r .number) (filled .reply)) in
+    filled-used (parse bytes) p lent left (read-says bytes room h .1) (handed-out (firstFault (readChecks bytes room)) (parse bytes) p lent left filled)
+
 -- What was read, then written: the bytes.
 pub filled-then-wrote : FilledThenWrote
-unfolding reading
-filled-then-wrote bytes found after p lent left answer small filled fits wrote =
+filled-then-wrote bytes found after p lent left answer small known filled fits wrote =
     let room : Capacity = capacity lent in
     let c : Contents = lentBack p left in
     let h : reading bytes room .reply .number ≡ 0 = sym (ap (λ (r : Reply). r .number) (filled .reply)) in
-    let e : used c ≡ parse bytes =
-    filled-used (parse bytes) p lent left (read-says bytes room h .1) (handed-out (firstFault (readChecks bytes room)) (parse bytes) p lent left filled) in
-    wrote-bytes c bytes found after answer (read-then-written bytes room c (length found) small h (e ∙ sym (handed-read bytes room h)) fits) wrote
+    let e : used c ≡ parse bytes = read-used bytes p lent left filled in
+    wrote-bytes c bytes found after answer (read-then-written bytes room c (length found) small known h (e ∙ sym (handed-read bytes room h)) fits) wrote
+
+-- What was read, written, then read: what is handed out of the plan that the first bytes say.
+pub filled-wrote-filled : FilledWroteFilled
+filled-wrote-filled bytes found after p lent left again end size answer filled wrote eight nine last =
+    subst (λ (d : Contents). Filled (handOut 0 d) answer again end) (read-used bytes p lent left filled)
+    (wrote-then-filled (lentBack p left) size found after answer again end wrote eight nine last)
 
 -- ---- what was planned, then written
 
 -- What was planned, then written: the file of the mesh's plan.
 pub planned-then-wrote : PlannedThenWrote
 unfolding planning
-planned-then-wrote m found after p lent left answer filled fits wrote =
+planned-then-wrote u m found after p lent left answer filled fits wrote =
     let room : Capacity = capacity lent in
     let c : Contents = lentBack p left in
-    let h : planning m room .reply .number ≡ 0 = sym (ap (λ (r : Reply). r .number) (filled .reply)) in
-    let sound : Sound (planOf m) = planned-is-sound m room h in
-    let e : used c ≡ planOf m = filled-used (planOf m) p lent left sound (handed-out (firstFault (planChecks m room)) (planOf m) p lent left filled) in
-    let long : fileLength c ≡ fileLength (planOf m) = sym (used-long c) ∙ ap fileLength e in
-    let w : writing c (length found) ≡ acceptedWriting (encode (planOf m)) =
-    planned-is-writable m room c (length found) h (e ∙ sym (handed-planned m room h)) (omega (arith, long, fits)) ∙ ap (λ (d : Contents). acceptedWriting (encode d)) e in
-    let r : (answer ≡ Written (length (encode (planOf m)))) × (after ≡ written (encode (planOf m)) found) = wrote-bytes c (encode (planOf m)) found after answer w wrote in
-    (r .0 ∙ ap Written (encode-length (planOf m) (sound .whole)), r .1)
+    let h : planning u m room .reply .number ≡ 0 = sym (ap (λ (r : Reply). r .number) (filled .reply)) in
+    let sound : Sound (planOf u m) = planned-is-sound u m room h in
+    let e : used c ≡ planOf u m = filled-used (planOf u m) p lent left sound (handed-out (firstFault (planChecks u m room)) (planOf u m) p lent left filled) in
+    let long : fileLength c ≡ fileLength (planOf u m) = sym (used-long c) ∙ ap fileLength e in
+    let w : writing c (length found) ≡ acceptedWriting (encode (planOf u m)) =
+    planned-is-writable u m room c (length found) h (e ∙ sym (handed-planned u m room h)) (omega (arith, long, fits)) ∙ ap (λ (d : Contents). acceptedWriting (encode d)) e in
+    let r : (answer ≡ Written (length (encode (planOf u m)))) × (after ≡ written (encode (planOf u m)) found) = wrote-bytes c (encode (planOf u m)) found after answer w wrote in
+    (r .0 ∙ ap Written (encode-length (planOf u m) (sound .whole)), r .1)

@@ -33,12 +33,12 @@ use Rattle.theory.proofs.Planned.{planWith, plan-sizes, plan-once, plan
 
 -- ---- by any choice that takes a non-empty part from each region
 
-module _ (m : Mesh) (choose : List ℕ → List ℕ) (takes : Takes (adjacent m) choose) (good : Checked m) where
+module _ (u : ℕ) (m : Mesh) (choose : List ℕ → List ℕ) (takes : Takes (adjacent m) choose) (good : Checked m) where
   abbrev plan : Contents
-  plan = planWith m choose
+  plan = planWith u m choose
 
   tree : PartTree (m .nodes) (plan .sizes) (plan .parents)
-  tree = plan-tree m choose takes
+  tree = plan-tree u m choose takes
 
   -- 13: n is 1 to 4,096, p is 1 to n, s is at most n(n − 1)/2
   plan-header-good : badHeader plan ≡ false
@@ -46,19 +46,19 @@ module _ (m : Mesh) (choose : List ℕ → List ℕ) (takes : Takes (adjacent m)
   plan-header-good =
       let n : ℕ = m .nodes in
       let p : ℕ = plan .parts in
-      let some : 0 < p = omega (arith, total-some (plan .sizes) (omega (arith, tree .whole, good .some)), plan-sizes m choose) in
+      let some : 0 < p = omega (arith, total-some (plan .sizes) (omega (arith, tree .whole, good .some)), plan-sizes u m choose) in
       rw (ne-eqb n 0 (λ e. omega (arith, good .some)), le-ltb maxNodes n (good .few), ne-eqb p 0 (λ e. omega arith), le-ltb n p (parts-few (adjacent m) choose takes n))
       (le-ltb (n * (n - 1) / 2) (plan .slots) (slots-few m (plan .order)))
 
   -- 15: the order is each node once
   plan-order-good : badOrder plan ≡ false
   unfolding badOrder planBy
-  plan-order-good = ap not (order-passes (m .nodes) (plan .order) (plan-once m choose takes))
+  plan-order-good = ap not (order-passes (m .nodes) (plan .order) (plan-once u m choose takes))
 
   -- 16: the sizes are positive and sum to n, a father is 65,535 or a later part below p
   plan-parts-good : badParts plan ≡ false
   unfolding planBy
-  plan-parts-good = tree-passes plan (plan-sizes m choose) tree
+  plan-parts-good = tree-passes plan (plan-sizes u m choose) tree
 
   -- 17: the counts sum to s, a column's rows are strictly ascending, above the column and below n
   plan-rows-good : badRows plan ≡ false
@@ -73,7 +73,7 @@ module _ (m : Mesh) (choose : List ℕ → List ℕ) (takes : Takes (adjacent m)
   plan-nested-good = none-exists (λ j. outsideAncestors (plan .sizes) (plan .parents) j (listAt (plan .columnStarts) (plan .rows) j)) (below (m .nodes)) (λ j h.
       let at : listAt (plan .columnStarts) (plan .rows) j ≡ column m (plan .order) j = column-at m (plan .order) j (isIn-below (m .nodes) j h) in
       none-exists (λ i. not (atOrAbove (plan .parents) (partOf (plan .sizes) j) (partOf (plan .sizes) i))) (listAt (plan .columnStarts) (plan .rows) j) (λ i t.
-      ap not (row-nested m (plan .order) (plan .sizes) (plan .parents) (good .symmetric) (plan-once m choose takes) tree (plan-nested m choose takes good) i j
+      ap not (row-nested m (plan .order) (plan .sizes) (plan .parents) (good .symmetric) (plan-once u m choose takes) tree (plan-nested u m choose takes good) i j
       (ap (isIn i) (sym at) ∙ t))))
 
   -- 19: a column's rows after its first are all in the first row's column
@@ -91,11 +91,11 @@ module _ (m : Mesh) (choose : List ℕ → List ℕ) (takes : Takes (adjacent m)
 -- ---- by George and Liu's choice, of a mesh that passes its checks
 
 -- 13: n, p and s are within their limits
-pub planned-header : (m : Mesh) → firstFault (meshChecks m) ≡ 0 → badHeader (planOf m) ≡ false
+pub planned-header : (u : ℕ) (m : Mesh) → firstFault (meshChecks m) ≡ 0 → badHeader (planOf u m) ≡ false
 unfolding planOf
-planned-header m passes = plan-header-good m (georgeLiu m) (georgeLiu-takes m) (checked m passes)
+planned-header u m passes = plan-header-good u m (georgeLiu m) (georgeLiu-takes m) (checked m passes)
 
 -- 15 to 19
-pub planned-readable : (m : Mesh) → firstFault (meshChecks m) ≡ 0 → firstFault (contentsChecks (planOf m)) ≡ 0
+pub planned-readable : (u : ℕ) (m : Mesh) → firstFault (meshChecks m) ≡ 0 → firstFault (contentsChecks (planOf u m)) ≡ 0
 unfolding planOf
-planned-readable m passes = plan-readable m (georgeLiu m) (georgeLiu-takes m) (checked m passes)
+planned-readable u m passes = plan-readable u m (georgeLiu m) (georgeLiu-takes m) (checked m passes)
