@@ -13,11 +13,11 @@ use Rattle.plan.specs.File.{mayBeParent, badOrder, badParts}
 
 -- a plan of its three counts alone: what check 13 looks at
 abbrev pub countsOnly : ℕ → ℕ → ℕ → Contents
-countsOnly n p s = contents n p s [] [] [] [] []
+countsOnly n p s = contents 1 n p s [] [] [] [] []
 
 -- a plan of its order and its tree of parts: what checks 15 and 16 look at
 abbrev pub orderAndParts : ℕ → List ℕ → List ℕ → List ℕ → Contents
-orderAndParts n order sizes parents = contents n (length sizes) 0 order sizes parents [] []
+orderAndParts n order sizes parents = contents 1 n (length sizes) 0 order sizes parents [] []
 
 abbrev pub orderAndPartsChecks : Contents → Checks
 orderAndPartsChecks c = (15, badOrder c) ∷ (16, badParts c) ∷ []

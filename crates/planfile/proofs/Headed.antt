@@ -1,4 +1,4 @@
--- A file that passed checks 10 to 14: its counts and its length, its fields, and what checks 15 to 19 look at in it.
+-- A file that passed checks 10 to 14 and 28: its counts and its length, its fields, and what checks 15 to 19 look at in it.
 use mathlib.Core.Path.{_≡_, refl, sym, ap, _∙_}
 use mathlib.Core.Bool.{true, false}
 use mathlib.Core.List.{List, []}
@@ -9,10 +9,10 @@ use lib.Seq.{take-all}
 use borrow.Author.Tests.{ne-eqb, not-false}
 use Rattle.plan.specs.Lists.{eachOnce, written, runningSums}
 use Rattle.plan.specs.Refusals.{firstFault}
-use Rattle.plan.specs.Mesh.{maxNodes, badStarts}
+use Rattle.plan.specs.Mesh.{maxNodes, maxUnknowns, badStarts}
 use Rattle.plan.specs.Dissection.{positions}
 use Rattle.plan.specs.Planning.{Contents}
-use Rattle.plan.specs.File.{decode16s, lengthAt, fileLength, parseAt, parse, badOrder, badRows, notNested, notCovered, contentsChecks}
+use Rattle.plan.specs.File.{decode16s, versionOf, nodesAt, lengthAt, lengthIn, parseAt, parse, badOrder, badRows, notNested, notCovered, contentsChecks}
 use Rattle.plan.specs.RowFaults.{walkChecks}
 use Rattle.plan.specs.Reading.{headerChecks}
 use Rattle.theory.specs.Counting.{Order}
@@ -20,7 +20,8 @@ use Rattle.theory.proofs.Refusals.{no-fault}
 use Rattle.theory.proofs.Orders.{passes-order}
 use Rattle.theory.proofs.Compressed.{sums-starts}
 use Rattle.theory.proofs.Coding.{decode16s-length, decode16s-drop}
-use Rattle.theory.proofs.Fitting.{Limits, header-limits, counts-few}
+use Rattle.theory.proofs.FileFields.{nodes-at-within}
+use Rattle.theory.proofs.Fitting.{unknowns-limits, Limits, header-limits, counts-few}
 use Rattle.theory.proofs.RoundTrips.{Header, header-says, read-whole}
 use Rattle.filechecks.specs.Fields.{orderAndParts, orderAndPartsChecks}
 use Rattle.filechecks.proofs.Fields.{order-checks}
@@ -31,59 +32,65 @@ use Rattle.planfile.proofs.Passing.{exact-few, passed-parts}
 
 -- ---- the counts and the length
 
--- such a file has a header
-pub header-long : (bytes : List ℕ) → firstFault (headerChecks bytes) ≡ 0 → 17 ≤ length bytes
-unfolding fileLength lengthAt
-header-long bytes h = omega (arith, header-says bytes h .long)
+-- such a file has all the bytes before its order
+pub header-long : (bytes : List ℕ) → firstFault (headerChecks bytes) ≡ 0 → (17 ≤ length bytes) × (nodesAt (versionOf bytes) + 12 ≤ length bytes)
+unfolding lengthIn lengthAt
+header-long bytes h =
+    let says : Header bytes = header-says bytes h in
+    (omega (arith, says .long, nodes-at-within (versionOf bytes)), omega (arith, says .long))
 
--- what 13 and 14 say of n, p and s
-pub record Sizes (bytes : List ℕ) (n p s : ℕ) : Type 0 where
+-- what 28, 13 and 14 say of the unknowns, n, p and s, and where the order stands
+pub record Sizes (bytes : List ℕ) (end n p s : ℕ) : Type 0 where
+  pub early : end ≤ 19
+  pub unknowns : parse bytes .unknowns ≤ maxUnknowns
   pub few : n ≤ maxNodes
   pub parts : p ≤ n
   pub slots : s < 4294967296
-  pub long : length bytes ≡ 17 + 4 * n + 4 * p + 2 * s
+  pub long : length bytes ≡ end + 4 * n + 4 * p + 2 * s
 
 -- the bytes behind the counts
-abbrev pub behind : List ℕ → ℕ → ℕ → List ℕ
-behind bytes n p = take (length bytes - (17 + 4 * n + 4 * p)) (drop (17 + 4 * n + 4 * p) bytes)
+abbrev pub behind : List ℕ → ℕ → ℕ → ℕ → List ℕ
+behind bytes end n p = take (length bytes - (end + 4 * n + 4 * p)) (drop (end + 4 * n + 4 * p) bytes)
 
-module _ (bytes : List ℕ) (n p s : ℕ) (h : Headed bytes n p s) where
+module _ (bytes : List ℕ) (end n p s : ℕ) (h : Headed bytes end n p s) where
   -- they say so
-  pub headed-sizes : Sizes bytes n p s
-  unfolding fileLength lengthAt
+  pub headed-sizes : Sizes bytes end n p s
+  unfolding lengthIn lengthAt
   headed-sizes =
       let says : Header bytes = header-says bytes (h .good) in
       let limits : Limits (parse bytes) = header-limits (parse bytes) (says .good) in
       record {
+        early = omega (arith, h .head, nodes-at-within (versionOf bytes));
+        unknowns = unknowns-limits (parse bytes .unknowns) (says .unknowns) .1;
         few = omega (arith, h .nodes, limits .nodesFew);
         parts = omega (arith, h .nodes, h .parts, limits .partsFew);
         slots = omega (arith, h .slots, counts-few (parse bytes) (says .good));
-        long = omega (arith, h .nodes, h .parts, h .slots, says .long);
+        long = omega (arith, h .head, h .nodes, h .parts, h .slots, says .long);
       }
 
   -- ---- the fields
 
   -- where each stands
-  pub order-field : parse bytes .order ≡ decode16s bytes 17 2 n
+  pub order-field : parse bytes .order ≡ decode16s bytes end 2 n
   unfolding parse parseAt
-  order-field = rw (h .nodes)
+  order-field = rw (h .head, h .nodes)
 
-  pub sizes-field : parse bytes .sizes ≡ decode16s bytes (17 + 2 * n) 4 p
+  pub sizes-field : parse bytes .sizes ≡ decode16s bytes (end + 2 * n) 4 p
   unfolding parse parseAt
-  sizes-field = rw (h .nodes, h .parts)
+  sizes-field = rw (h .head, h .nodes, h .parts)
 
-  pub parents-field : parse bytes .parents ≡ decode16s bytes (17 + 2 * n + 2) 4 p
+  pub parents-field : parse bytes .parents ≡ decode16s bytes (end + 2 * n + 2) 4 p
   unfolding parse parseAt
   parents-field =
-      let place : 17 + 2 * n + 2 ≡ 19 + 2 * n = omega arith in
+      let place : end + 2 * n + 2 ≡ nodesAt (versionOf bytes) + 14 + 2 * n = omega (arith, h .head) in
       rw (place, h .nodes, h .parts)
 
-  pub counts-field : rowCountsIn bytes ≡ decode16s bytes (17 + 2 * n + 4 * p) 2 n
-  counts-field = rw (← h .nodes, ← h .parts)
+  pub counts-field : rowCountsIn bytes ≡ decode16s bytes (end + 2 * n + 4 * p) 2 n
+  counts-field = rw (h .head, ← h .nodes, ← h .parts)
 
-  pub rows-field : parse bytes .rows ≡ decode16s bytes (17 + 4 * n + 4 * p) 2 s
+  pub rows-field : parse bytes .rows ≡ decode16s bytes (end + 4 * n + 4 * p) 2 s
   unfolding parse parseAt
-  rows-field = rw (h .nodes, h .parts, h .slots)
+  rows-field = rw (h .head, h .nodes, h .parts, h .slots)
 
   -- the column starts are the running sums of the counts
   starts-field : parse bytes .columnStarts ≡ runningSums 0 (rowCountsIn bytes)
@@ -114,9 +121,9 @@ module _ (bytes : List ℕ) (n p s : ℕ) (h : Headed bytes n p s) where
   starts-written counts found left same e = rw starts-field (rw same at e)
 
   -- the bytes behind the counts say the rows
-  rows-behind : rowsIn (behind bytes n p) ≡ parse bytes .rows
+  rows-behind : rowsIn (behind bytes end n p) ≡ parse bytes .rows
   rows-behind =
-      let at : ℕ = 17 + 4 * n + 4 * p in
+      let at : ℕ = end + 4 * n + 4 * p in
       let many : length (drop at bytes) ≡ 2 * s = omega (arith, length-drop at bytes, headed-sizes .long) in
       let half : length (drop at bytes) / 2 ≡ s = omega arith in
       rw (take-all (length bytes - at) (drop at bytes) (omega (arith, headed-sizes .long)), half) (sym (rows-field ∙ decode16s-drop bytes at 2 s))
@@ -172,14 +179,14 @@ module _ (bytes : List ℕ) (n p s : ℕ) (h : Headed bytes n p s) where
 
     module _ (ends : getD columnStarts n 0 ≡ s) where
       -- where it is, the rows are as many as the starts say
-      pub rows-started : Started n columnStarts (rowsIn (behind bytes n p))
+      pub rows-started : Started n columnStarts (rowsIn (behind bytes end n p))
       rows-started = record { few = headed-sizes .few; starts = starts-good; last = ends ∙ sym (ap length rows-behind ∙ rows-many) }
 
     -- 17 and 18 look at the parts and the layout, 19 at the layout
-    pub file-walked : firstFault (walkChecks (partsAndRows n sizes parents columnStarts (rowsIn (behind bytes n p)))) ≡ firstFault (walkChecks file)
+    pub file-walked : firstFault (walkChecks (partsAndRows n sizes parents columnStarts (rowsIn (behind bytes end n p)))) ≡ firstFault (walkChecks file)
     unfolding badRows notNested
     file-walked = rw (own .1, own .2, own .3, rows-behind, h .nodes, read-whole bytes .rows)
 
-    pub file-covered : notCovered (partsAndRows n [] [] columnStarts (rowsIn (behind bytes n p))) ≡ notCovered file
+    pub file-covered : notCovered (partsAndRows n [] [] columnStarts (rowsIn (behind bytes end n p))) ≡ notCovered file
     unfolding notCovered
     file-covered = rw (own .3, rows-behind, h .nodes)

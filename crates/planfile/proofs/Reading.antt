@@ -35,12 +35,12 @@ module _ (bytes : List ℕ) (found : Buffers) where
   refused : (k : ℕ) → firstFault (readChecks bytes (capacity found)) ≡ k → (k ≡ 0 → ⊥) → Filled (reading bytes (capacity found)) (Refused k) found found
   refused k e some = outcome k (Refused k) found e (filled-refused k (parse bytes) found some)
 
-  -- what checks 10 to 14 refuse is refused
+  -- what checks 10 to 14 and 28 refuse is refused
   pub header-refused : (k : ℕ) → k ≡ firstFault (headerChecks bytes) → (k ≡ 0 → ⊥) → Filled (reading bytes (capacity found)) (Refused k) found found
   unfolding readChecks
   header-refused k e some = refused k (first-some (headerChecks bytes) _ (λ z. some (e ∙ z)) ∙ sym e) some
 
-  module _ (n p s : ℕ) (h : Headed bytes n p s) where
+  module _ (end n p s : ℕ) (h : Headed bytes end n p s) where
     -- behind them the first fault is that of the checks to come
     header-passed : firstFault (readChecks bytes (capacity found)) ≡ firstFault (contentsChecks (parse bytes) ++ late bytes (capacity found))
     unfolding readChecks headerChecks
@@ -82,8 +82,9 @@ module _ (bytes : List ℕ) (found : Buffers) where
             outcome 0 answer left (buffers-passed ∙ fault-later 9 _ [] (le-ltb (length (found .rows)) (parse bytes .slots) (omega (arith, h .slots))) ∙ first-nil) filled
 
 -- the answer is the plan's
-pub read-reply : (bytes : List ℕ) (n p s : ℕ) → Headed bytes n p s → (counts : List ℕ) (products : ℕ) (plan : Plan) → take n counts ≡ rowCountsIn bytes
-    → products ≡ multiplications (take n counts) → plan ≡ record { nodes = n; parts = p; slots = s; multiplications = products }
+pub read-reply : (bytes : List ℕ) (end unknowns n p s : ℕ) → Headed bytes end n p s → unknowns ≡ parse bytes .unknowns
+    → (counts : List ℕ) (products : ℕ) (plan : Plan) → take n counts ≡ rowCountsIn bytes
+    → products ≡ multiplications (take n counts) → plan ≡ record { nodes = n; parts = p; slots = s; unknowns = unknowns; multiplications = products }
     → planReply (Accepted plan) ≡ handOut 0 (parse bytes) .reply
 unfolding handOut
-read-reply bytes n p s h counts products plan same k e = rw (e, k, same, counts-read bytes, ← h .nodes, ← h .parts, ← h .slots)
+read-reply bytes end unknowns n p s h own counts products plan same k e = rw (e, k, same, counts-read bytes, ← h .nodes, ← h .parts, ← h .slots, own)

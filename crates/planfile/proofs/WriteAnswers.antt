@@ -12,8 +12,8 @@ use Rattle.plan.specs.declared.WriteAnswer.the-variants.{Written, Refused}
 use Rattle.plan.specs.Lists.{written}
 use Rattle.plan.specs.Refusals.{firstFault}
 use Rattle.plan.specs.Answers.{refused}
-use Rattle.plan.specs.Planning.{Contents, rowCounts, contents}
-use Rattle.plan.specs.File.{fileLength, encode, Whole, contentsChecks}
+use Rattle.plan.specs.Planning.{Contents, rowCounts, contents, badUnknowns}
+use Rattle.plan.specs.File.{lengthIn, fileLength, encode, Whole, badHeader, badOrder, badParts, badRows, notNested, notCovered, contentsChecks}
 use Rattle.plan.specs.Writing.{badSupply, used, suppliedChecks, outputTooShort, writeChecks, WriteOutcome, writeOut, writing, Wrote}
 use Rattle.plan.specs.RoundTrips.{Sound}
 use Rattle.theory.proofs.Lists.{isIn-getD}
@@ -24,7 +24,29 @@ use Rattle.theory.proofs.Compressed.{start-next}
 use Rattle.theory.proofs.FileFields.{counts-length}
 use Rattle.theory.proofs.Fitting.{passes-sound, sound-passes, good-rows, sound-fits}
 use Rattle.theory.proofs.RoundTrips.{used-long, supply-says}
-use Rattle.planfile.specs.Supplied.{Exact, NarrowColumns, lateChecks, WroteExact}
+use Rattle.planfile.specs.Supplied.{listed, Exact, NarrowColumns, lateChecks, WroteExact}
+
+-- ---- what the checks look at
+
+-- the plan of counts and lists alone
+abbrev pub unnumbered : Contents → Contents
+unnumbered c = listed (c .nodes) (c .parts) (c .slots) (c .order) (c .sizes) (c .parents) (c .columnStarts) (c .rows)
+
+-- 13 and 15 to 19 do not look at the unknowns
+pub supply-listed : (c : Contents) → badSupply (unnumbered c) ≡ badSupply c
+unfolding badSupply badHeader
+supply-listed c = refl
+
+pub checks-listed : (c : Contents) → contentsChecks (unnumbered c) ≡ contentsChecks c
+unfolding contentsChecks badOrder badParts badRows notNested notCovered
+checks-listed c = refl
+
+pub exact-listed : (c : Contents) → Exact c → Exact (unnumbered c)
+unfolding badHeader
+exact-listed c x = let w : Whole c = x .whole in record {
+  header = x .header;
+  whole = record { order = w .order; sizes = w .sizes; parents = w .parents; columnStarts = w .columnStarts; rows = w .rows };
+}
 
 -- ---- slices that are as long as their counts say
 
@@ -48,7 +70,7 @@ abbrev pub fronts : Contents → Contents
 fronts c =
     let sizes : List ℕ = take (c .parts) (c .sizes) in
     let rows : List ℕ = take (c .slots) (c .rows) in
-    contents (c .nodes) (length sizes) (length rows) (take (c .nodes) (c .order)) sizes (take (c .parts) (c .parents)) (take (c .nodes + 1) (c .columnStarts)) rows
+    contents (c .unknowns) (c .nodes) (length sizes) (length rows) (take (c .nodes) (c .order)) sizes (take (c .parts) (c .parents)) (take (c .nodes + 1) (c .columnStarts)) rows
 
 -- are the used entries
 fronts-used : (c : Contents) → Whole (used c) → fronts c ≡ used c
@@ -60,10 +82,10 @@ pub exact-fronts : (c : Contents) → badSupply c ≡ false → Exact (fronts c)
 exact-fronts c h = let x = exact-used c h in subst Exact (sym (fronts-used c (x .whole))) x
 
 -- where 15 to 19 find no fault either, each column has a number of rows that fits 16 bits
-pub passes-narrow : (c : Contents) → Exact c → firstFault (contentsChecks c) ≡ 0 → NarrowColumns (c .nodes) (c .columnStarts)
+pub passes-narrow : (c : Contents) → badUnknowns (c .unknowns) ≡ false → Exact c → firstFault (contentsChecks c) ≡ 0 → NarrowColumns (c .nodes) (c .columnStarts)
 unfolding rowCounts
-passes-narrow c x h =
-    let sound : Sound c = passes-sound c (x .whole) (x .header) h in
+passes-narrow c u x h =
+    let sound : Sound c = passes-sound c (x .whole) u (x .header) h in
     let starts : List ℕ = c .columnStarts in
     let count : ℕ → ℕ = λ j. getD starts (j + 1) 0 - getD starts j 0 in
     let fits = sound-fits c sound in
@@ -96,36 +118,44 @@ module _ (c : Contents) (found : List ℕ) where
   refused-contents k e some = late-refused k (first-some (contentsChecks c) _ (λ z. some (e ∙ z)) ∙ sym e) some
 
   -- none of them: 8 is left
-  late-eight : Exact c → firstFault (contentsChecks c) ≡ 0 → firstFault (lateChecks c (length found)) ≡ firstFault ((8, outputTooShort c (length found)) ∷ [])
-  late-eight x e = sound-passes c ((8, outputTooShort c (length found)) ∷ []) (passes-sound c (x .whole) (x .header) e)
+  late-eight : badUnknowns (c .unknowns) ≡ false → Exact c → firstFault (contentsChecks c) ≡ 0 → firstFault (lateChecks c (length found)) ≡ firstFault ((8, outputTooShort c (length found)) ∷ [])
+  late-eight u x e = sound-passes c ((8, outputTooShort c (length found)) ∷ []) (passes-sound c (x .whole) u (x .header) e)
 
   -- too little room
-  pub refused-room : Exact c → firstFault (contentsChecks c) ≡ 0 → length found < fileLength c → WroteExact c (Refused 8) found found
+  pub refused-room : badUnknowns (c .unknowns) ≡ false → Exact c → firstFault (contentsChecks c) ≡ 0 → length found < fileLength c → WroteExact c (Refused 8) found found
   unfolding outputTooShort
-  refused-room x e short = late-refused 8 (late-eight x e ∙ fault-here 8 (outputTooShort c (length found)) [] (lt-ltb (length found) (fileLength c) short)) (λ z. absurd (omega arith))
+  refused-room u x e short = late-refused 8 (late-eight u x e ∙ fault-here 8 (outputTooShort c (length found)) [] (lt-ltb (length found) (fileLength c) short)) (λ z. absurd (omega arith))
 
   -- no fault
-  pub accepted-exact : (left : List ℕ) → Exact c → firstFault (contentsChecks c) ≡ 0 → fileLength c ≤ length found → left ≡ written (encode c) found
+  pub accepted-exact : (left : List ℕ) → badUnknowns (c .unknowns) ≡ false → Exact c → firstFault (contentsChecks c) ≡ 0 → fileLength c ≤ length found → left ≡ written (encode c) found
       → WroteExact c (Written (fileLength c)) found left
   unfolding outputTooShort writeOut
-  accepted-exact left x e room bytes =
-      let first : firstFault (lateChecks c (length found)) ≡ 0 = late-eight x e ∙ fault-later 8 (outputTooShort c (length found)) [] (le-ltb (length found) (fileLength c) room) ∙ first-nil in
+  accepted-exact left u x e room bytes =
+      let first : firstFault (lateChecks c (length found)) ≡ 0 = late-eight u x e ∙ fault-later 8 (outputTooShort c (length found)) [] (le-ltb (length found) (fileLength c) room) ∙ first-nil in
       record {
         reply = sym (ap (λ (k : ℕ). writeOut k c .reply) first);
         output = bytes ∙ sym (ap (λ (k : ℕ). written (writeOut k c .bytes) found) first ∙ ap (λ (d : Contents). written (encode d) found) (used-whole c (x .whole)));
       }
 
-  -- 13 of slices as lent
-  pub refused-supply : badSupply c ≡ true → Wrote c (Refused 13) found found
+  -- 28 of a plan as lent
+  pub refused-unknowns : badUnknowns (c .unknowns) ≡ true → Wrote c (Refused 28) found found
   unfolding writing writeChecks suppliedChecks
-  refused-supply bad =
-      let r = refused-out 13 (firstFault (writeChecks c (length found))) (fault-here 13 (badSupply c) _ bad) (λ z. absurd (omega arith)) in
+  refused-unknowns bad =
+      let r = refused-out 28 (firstFault (writeChecks c (length found))) (fault-here 28 (badUnknowns (c .unknowns)) _ bad) (λ z. absurd (omega arith)) in
       record { reply = r .0; output = r .1 }
 
-  -- where 13 finds no fault, the first fault is that of the used entries
-  used-late : badSupply c ≡ false → firstFault (writeChecks c (length found)) ≡ firstFault (lateChecks (used c) (length found))
-  unfolding writeChecks suppliedChecks outputTooShort fileLength used
-  used-late good = fault-later 13 (badSupply c) _ good
+  -- 13 of slices as lent
+  pub refused-supply : badUnknowns (c .unknowns) ≡ false → badSupply c ≡ true → Wrote c (Refused 13) found found
+  unfolding writing writeChecks suppliedChecks
+  refused-supply few bad =
+      let first = fault-later 28 (badUnknowns (c .unknowns)) _ few ∙ fault-here 13 (badSupply c) _ bad in
+      let r = refused-out 13 (firstFault (writeChecks c (length found))) first (λ z. absurd (omega arith)) in
+      record { reply = r .0; output = r .1 }
+
+  -- where 28 and 13 find no fault, the first fault is that of the used entries
+  used-late : badUnknowns (c .unknowns) ≡ false → badSupply c ≡ false → firstFault (writeChecks c (length found)) ≡ firstFault (lateChecks (used c) (length found))
+  unfolding writeChecks suppliedChecks outputTooShort fileLength lengthIn used
+  used-late few good = fault-later 28 (badUnknowns (c .unknowns)) _ few ∙ fault-later 13 (badSupply c) _ good
 
   -- and so is what is written
   used-out : (k : ℕ) → used (used c) ≡ used c → writeOut k (used c) ≡ writeOut k c
@@ -134,11 +164,11 @@ module _ (c : Contents) (found : List ℕ) where
   used-out (suc k) e = refl
 
   -- so the answer and the output are those of the slices' fronts
-  pub wrote-fronts : (answer : WriteAnswer) (left : List ℕ) → badSupply c ≡ false → WroteExact (fronts c) answer found left → Wrote c answer found left
+  pub wrote-fronts : (answer : WriteAnswer) (left : List ℕ) → badUnknowns (c .unknowns) ≡ false → badSupply c ≡ false → WroteExact (fronts c) answer found left → Wrote c answer found left
   unfolding writing
-  wrote-fronts answer left good wrote =
+  wrote-fronts answer left few good wrote =
       let x : Exact (used c) = exact-used c good in
       let k : ℕ = firstFault (lateChecks (used c) (length found)) in
-      let same : writeOut k (used c) ≡ writing c (length found) = used-out k (used-whole (used c) (x .whole)) ∙ sym (ap (λ (i : ℕ). writeOut i c) (used-late good)) in
+      let same : writeOut k (used c) ≡ writing c (length found) = used-out k (used-whole (used c) (x .whole)) ∙ sym (ap (λ (i : ℕ). writeOut i c) (used-late few good)) in
       let w : WroteExact (used c) answer found left = subst (λ (d : Contents). WroteExact d answer found left) (fronts-used c (x .whole)) wrote in
       record { reply = w .reply ∙ ap (λ (o : WriteOutcome). o .reply) same; output = w .output ∙ ap (λ (o : WriteOutcome). written (o .bytes) found) same }

@@ -11,15 +11,15 @@ use Rattle.theory.proofs.FileFields.{encode-fields, word-length}
 use Rattle.planfile.specs.Filed.{headerOf}
 
 -- the file's first bytes, one number behind the other
-pub header-fields : (n p s : ℕ) → headerOf n p s ≡ (((magic ++ encode16 version) ++ encode32 n) ++ encode32 p) ++ encode32 s
+pub header-fields : (u n p s : ℕ) → headerOf u n p s ≡ ((((magic ++ encode16 version) ++ encode16 u) ++ encode32 n) ++ encode32 p) ++ encode32 s
 unfolding flatten
-header-fields n p s = simp (append-nil, append-assoc)
+header-fields u n p s = simp (append-nil, append-assoc)
 
--- 17 bytes
-pub header-length : (n p s : ℕ) → length (headerOf n p s) ≡ 17
-header-length n p s = rw (header-fields n p s) (simp length-append (omega (arith, encode16-length version, word-length n, word-length p, word-length s)))
+-- 19 bytes
+pub header-length : (u n p s : ℕ) → length (headerOf u n p s) ≡ 19
+header-length u n p s = rw (header-fields u n p s) (simp length-append (omega (arith, encode16-length version, encode16-length u, word-length n, word-length p, word-length s)))
 
 -- the whole file, one field behind the other
 pub file-fields : (c : Contents)
-    → encode c ≡ (((headerOf (c .nodes) (c .parts) (c .slots) ++ encode16s (c .order)) ++ encodeParts c) ++ encode16s (rowCounts c)) ++ encode16s (c .rows)
-file-fields c = encode-fields c ∙ sym (rw (header-fields (c .nodes) (c .parts) (c .slots)) (simp append-assoc))
+    → encode c ≡ (((headerOf (c .unknowns) (c .nodes) (c .parts) (c .slots) ++ encode16s (c .order)) ++ encodeParts c) ++ encode16s (rowCounts c)) ++ encode16s (c .rows)
+file-fields c = encode-fields c ∙ sym (rw (header-fields (c .unknowns) (c .nodes) (c .parts) (c .slots)) (simp append-assoc))

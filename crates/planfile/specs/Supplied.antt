@@ -9,9 +9,13 @@ use Rattle.plan.specs.declared.WriteAnswer.{WriteAnswer}
 use Rattle.plan.specs.Lists.{written}
 use Rattle.plan.specs.Refusals.{Checks, firstFault}
 use Rattle.plan.specs.Answers.{writeReply}
-use Rattle.plan.specs.Planning.{Contents}
+use Rattle.plan.specs.Planning.{Contents, contents}
 use Rattle.plan.specs.File.{Whole, badHeader, contentsChecks}
 use Rattle.plan.specs.Writing.{outputTooShort, writeOut}
+
+-- a plan of its counts and lists: what checks 13 and 15 to 19 look at
+abbrev pub listed : ℕ → ℕ → ℕ → List ℕ → List ℕ → List ℕ → List ℕ → List ℕ → Contents
+listed n p s order sizes parents columnStarts rows = contents 1 n p s order sizes parents columnStarts rows
 
 -- a whole plan that passed check 13
 pub record Exact (c : Contents) : Type 0 where

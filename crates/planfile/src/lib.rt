@@ -1,4 +1,4 @@
-// The plan file, version 1: reading it into lent buffers, and writing it from lent slices.
+// The plan file: reading version 1 or 2 into lent buffers, and writing version 2 from lent slices.
 mod reader;
 mod slices;
 mod writer;

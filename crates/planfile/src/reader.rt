@@ -1,9 +1,9 @@
-// Reading a plan file: checks 10 to 19, then 8 and 9, then the plan in the lent buffers. Until all checks are passed only working memory is written.
+// Reading a plan file of version 1 or 2: checks 10 to 14 with 28, 15 to 19, then 8 and 9, then the plan in the lent buffers. Until all checks are passed
+// only working memory is written. `end` is how many bytes stand before the order, by the file's version.
 use coding::read16s;
-use filechecks::HEADER;
 use filechecks::header_refusal;
 use filechecks::order_and_parts_refusal;
-use filechecks::read_counts;
+use filechecks::read_head;
 use layout::buffers_too_short;
 use layout::invert;
 use layout::sum;
@@ -29,6 +29,7 @@ ghost use Rattle.planfile.specs.Filed.{Headed, rowCountsIn};
 // rows' columns).
 fn decoded_refusal(
     bytes: &[u8],
+    end: usize,
     n: usize,
     p: usize,
     s: usize,
@@ -37,7 +38,7 @@ fn decoded_refusal(
     parents: &[u16],
     columnStarts: &[u32],
 ) -> u32
-    requires { ⌜ Headed (now bytes) n p s ⌝ }
+    requires { ⌜ Headed (now bytes) end n p s ⌝ }
     requires { ⌜ (now order ≡ parse (now bytes) .order) × (now sizes ≡ parse (now bytes) .sizes) × (now parents ≡ parse (now bytes) .parents) × (now columnStarts ≡ parse (now bytes) .columnStarts) ⌝ }
     ensures { λ r. ⌜ r ≡ firstFault (contentsChecks (parse (now (bytes .entry)))) ⌝ }
 {
@@ -48,7 +49,7 @@ fn decoded_refusal(
     if index(columnStarts[n]) != s {
         return 17;
     }
-    let at = HEADER + 4 * n + 4 * p;
+    let at = end + 4 * n + 4 * p;
     let rows = &bytes[at..];
     let faults = walk_encoded(n, sizes, parents, columnStarts, rows);
     let refusal = faults.refusal();
@@ -64,6 +65,7 @@ fn decoded_refusal(
 // The order, the sizes and the parents to the front of three buffers. s is for the contract alone. O(n).
 fn read_order_and_parts(
     bytes: &[u8],
+    end: usize,
     n: usize,
     p: usize,
     s: usize,
@@ -71,20 +73,20 @@ fn read_order_and_parts(
     sizes: &mut [u16],
     parents: &mut [u16],
 )
-    requires { ⌜ Headed (now bytes) n p s × (n ≤ length (now order)) × (n ≤ length (now sizes)) × (n ≤ length (now parents)) ⌝ }
+    requires { ⌜ Headed (now bytes) end n p s × (n ≤ length (now order)) × (n ≤ length (now sizes)) × (n ≤ length (now parents)) ⌝ }
     ensures { λ _. ⌜ (now (order .exit) ≡ written (parse (now (bytes .entry)) .order) (now (order .entry))) × (now (sizes .exit) ≡ written (parse (now (bytes .entry)) .sizes) (now (sizes .entry))) × (now (parents .exit) ≡ written (parse (now (bytes .entry)) .parents) (now (parents .entry))) ⌝ }
 {
-    read16s(bytes, HEADER, 2, n, order);
-    read16s(bytes, HEADER + 2 * n, 4, p, sizes);
-    read16s(bytes, HEADER + 2 * n + 2, 4, p, parents);
+    read16s(bytes, end, 2, n, order);
+    read16s(bytes, end + 2 * n, 4, p, sizes);
+    read16s(bytes, end + 2 * n + 2, 4, p, parents);
 }
 
 // The row counts to the front of a buffer. s is for the contract alone. O(n).
-fn read_row_counts(bytes: &[u8], n: usize, p: usize, s: usize, counts: &mut [u16])
-    requires { ⌜ Headed (now bytes) n p s × (n ≤ length (now counts)) ⌝ }
+fn read_row_counts(bytes: &[u8], end: usize, n: usize, p: usize, s: usize, counts: &mut [u16])
+    requires { ⌜ Headed (now bytes) end n p s × (n ≤ length (now counts)) ⌝ }
     ensures { λ _. ⌜ now (counts .exit) ≡ written (rowCountsIn (now (bytes .entry))) (now (counts .entry)) ⌝ }
 {
-    read16s(bytes, HEADER + 2 * n + 4 * p, 2, n, counts);
+    read16s(bytes, end + 2 * n + 4 * p, 2, n, counts);
 }
 
 // A start for each column, and the last one's end, all zero. O(4,096).
@@ -95,36 +97,39 @@ fn zero_starts() -> [u32; Plan::NODES + 1]
 }
 
 // Checks 15 to 19 of a file: its fields but the rows are read into working memory. O(4,096 + slots + the first rows' columns).
-fn contents_refusal(bytes: &[u8], n: usize, p: usize, s: usize, counts: &[u16]) -> u32
-    requires { ⌜ Headed (now bytes) n p s × (n ≤ length (now counts)) × (take n (now counts) ≡ rowCountsIn (now bytes)) ⌝ }
+fn contents_refusal(bytes: &[u8], end: usize, n: usize, p: usize, s: usize, counts: &[u16]) -> u32
+    requires { ⌜ Headed (now bytes) end n p s × (n ≤ length (now counts)) × (take n (now counts) ≡ rowCountsIn (now bytes)) ⌝ }
     ensures { λ r. ⌜ r ≡ firstFault (contentsChecks (parse (now (bytes .entry)))) ⌝ }
 {
     let mut order = filled(0);
     let mut sizes = filled(0);
     let mut parents = filled(0);
     let mut columnStarts = zero_starts();
-    read_order_and_parts(bytes, n, p, s, &mut order, &mut sizes, &mut parents);
+    read_order_and_parts(bytes, end, n, p, s, &mut order, &mut sizes, &mut parents);
     write_starts(n, counts, &mut columnStarts);
     let orderAll = &order[..];
     let sizesAll = &sizes[..];
     let parentsAll = &parents[..];
     let startsAll = &columnStarts[..];
-    let end = n + 1;
+    let starts = n + 1;
     decoded_refusal(
         bytes,
+        end,
         n,
         p,
         s,
         &orderAll[..n],
         &sizesAll[..p],
         &parentsAll[..p],
-        &startsAll[..end],
+        &startsAll[..starts],
     )
 }
 
 // Reading where checks 10 to 19 found no fault: 8 and 9, then the plan in the lent buffers, and its counts. O(n + slots).
 fn read_checked(
     bytes: &[u8],
+    end: usize,
+    unknowns: usize,
     n: usize,
     p: usize,
     s: usize,
@@ -136,7 +141,8 @@ fn read_checked(
     columnStarts: &mut [u32],
     rows: &mut [u16],
 ) -> PlanAnswer
-    requires { ⌜ Headed (now bytes) n p s × (n ≤ length (now counts)) × (take n (now counts) ≡ rowCountsIn (now bytes)) × (firstFault (contentsChecks (parse (now bytes))) ≡ 0) ⌝ }
+    requires { ⌜ Headed (now bytes) end n p s × (n ≤ length (now counts)) × (take n (now counts) ≡ rowCountsIn (now bytes)) × (firstFault (contentsChecks (parse (now bytes))) ≡ 0) ⌝ }
+    requires { ⌜ unknowns ≡ parse (now bytes) .unknowns ⌝ }
     ensures { λ r. ⌜ Filled (reading (now (bytes .entry)) (capacity (buffers (now (order .entry)) (now (positions .entry)) (now (sizes .entry)) (now (parents .entry)) (now (columnStarts .entry)) (now (rows .entry))))) r
         (buffers (now (order .entry)) (now (positions .entry)) (now (sizes .entry)) (now (parents .entry)) (now (columnStarts .entry)) (now (rows .entry)))
         (buffers (now (order .exit)) (now (positions .exit)) (now (sizes .exit)) (now (parents .exit)) (now (columnStarts .exit)) (now (rows .exit))) ⌝ }
@@ -154,15 +160,21 @@ fn read_checked(
     if rows.len() < s {
         return PlanAnswer::Refused(9);
     }
-    read_order_and_parts(bytes, n, p, s, order, sizes, parents);
+    read_order_and_parts(bytes, end, n, p, s, order, sizes, parents);
     invert(&order[..n], positions);
     write_starts(n, counts, columnStarts);
-    read16s(bytes, HEADER + 4 * n + 4 * p, 2, s, rows);
+    read16s(bytes, end + 4 * n + 4 * p, 2, s, rows);
     let totals = sum(n, counts);
-    PlanAnswer::Accepted(Plan::new(n as u32, p as u32, s as u32, totals.multiplications))
+    PlanAnswer::Accepted(Plan::new(
+        n as u32,
+        p as u32,
+        s as u32,
+        unknowns as u32,
+        totals.multiplications,
+    ))
 }
 
-// Reading where checks 10 to 14 found no fault: 15 to 19, then what is left. O(4,096 + slots + the first rows' columns).
+// Reading where checks 10 to 14 and 28 found no fault: 15 to 19, then what is left. O(4,096 + slots + the first rows' columns).
 fn read_headed(
     bytes: &[u8],
     order: &mut [u16],
@@ -177,18 +189,21 @@ fn read_headed(
         (buffers (now (order .entry)) (now (positions .entry)) (now (sizes .entry)) (now (parents .entry)) (now (columnStarts .entry)) (now (rows .entry)))
         (buffers (now (order .exit)) (now (positions .exit)) (now (sizes .exit)) (now (parents .exit)) (now (columnStarts .exit)) (now (rows .exit))) ⌝ }
 {
-    let c = read_counts(bytes);
-    let n = c.nodes;
-    let p = c.parts;
-    let s = c.slots;
+    let head = read_head(bytes);
+    let end = head.end;
+    let n = head.nodes;
+    let p = head.parts;
+    let s = head.slots;
     let mut counts = filled(0);
-    read_row_counts(bytes, n, p, s, &mut counts);
-    let fault = contents_refusal(bytes, n, p, s, &counts);
+    read_row_counts(bytes, end, n, p, s, &mut counts);
+    let fault = contents_refusal(bytes, end, n, p, s, &counts);
     if fault != 0 {
         return PlanAnswer::Refused(fault);
     }
     read_checked(
         bytes,
+        end,
+        head.unknowns,
         n,
         p,
         s,
@@ -202,7 +217,7 @@ fn read_headed(
     )
 }
 
-// Reading: checks 10 to 19, 8 and 9 in this order, then the plan in the lent buffers; the multiplications are counted anew. O(4,096 + slots + the first
+// Reading: checks 10 to 12, 10 again, 28, 13 to 19, 8 and 9 in this order, then the plan in the lent buffers; the multiplications are counted anew. O(4,096 + slots + the first
 // rows' columns).
 pub fn read(
     bytes: &[u8],

@@ -7,9 +7,8 @@ use rowchecks::walk;
 ghost use mathlib.Core.Path.{_≡_};
 ghost use lib.ListN.{length};
 ghost use Rattle.plan.specs.Refusals.{firstFault};
-ghost use Rattle.plan.specs.Planning.{contents};
 ghost use Rattle.plan.specs.File.{contentsChecks};
-ghost use Rattle.planfile.specs.Supplied.{Exact};
+ghost use Rattle.planfile.specs.Supplied.{listed, Exact};
 
 // The first refusal of checks 15 to 19, 0 for none. O(4,096 + slots + the first rows' columns).
 pub(crate) fn contents_refusal(
@@ -20,8 +19,8 @@ pub(crate) fn contents_refusal(
     columnStarts: &[u32],
     rows: &[u16],
 ) -> u32
-    requires { ⌜ Exact (contents n (length (now sizes)) (length (now rows)) (now order) (now sizes) (now parents) (now columnStarts) (now rows)) ⌝ }
-    ensures { λ r. ⌜ r ≡ firstFault (contentsChecks (contents n (length (now (sizes .entry))) (length (now (rows .entry))) (now (order .entry)) (now (sizes .entry)) (now (parents .entry)) (now (columnStarts .entry)) (now (rows .entry)))) ⌝ }
+    requires { ⌜ Exact (listed n (length (now sizes)) (length (now rows)) (now order) (now sizes) (now parents) (now columnStarts) (now rows)) ⌝ }
+    ensures { λ r. ⌜ r ≡ firstFault (contentsChecks (listed n (length (now (sizes .entry))) (length (now (rows .entry))) (now (order .entry)) (now (sizes .entry)) (now (parents .entry)) (now (columnStarts .entry)) (now (rows .entry)))) ⌝ }
 {
     let fault = order_and_parts_refusal(order, sizes, parents);
     if fault != 0 {

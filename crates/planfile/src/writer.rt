@@ -1,4 +1,4 @@
-// Writing a plan file from lent slices: checks 13 and 15 to 19, then 8, then the bytes.
+// Writing a plan file, of version 2, from lent slices: checks 28, 13 and 15 to 19, then 8, then the bytes.
 use crate::slices::contents_refusal;
 use coding::write16;
 use coding::write16s;
@@ -10,6 +10,7 @@ use filechecks::P;
 use filechecks::VERSION;
 use filechecks::bad_header;
 use filechecks::file_length;
+use plan::Plan;
 use plan::WriteAnswer;
 ghost use mathlib.Core.Path.{_≡_};
 ghost use mathlib.Core.Bool.{false};
@@ -17,12 +18,12 @@ ghost use mathlib.Core.List.{[]};
 ghost use Prim.Native.Nat.{_+_, _*_, _≤_, _<_};
 ghost use lib.ListN.{length};
 ghost use Rattle.plan.specs.Lists.{written};
-ghost use Rattle.plan.specs.Planning.{rowCounts, contents};
+ghost use Rattle.plan.specs.Planning.{rowCounts, contents, badUnknowns};
 ghost use Rattle.plan.specs.File.{fileLength, encode, encodeParts, encode16s, badHeader};
 ghost use Rattle.plan.specs.Writing.{badSupply, Wrote};
 ghost use Rattle.filechecks.specs.Fields.{countsOnly, orderAndParts};
 ghost use Rattle.rowchecks.specs.Rows.{partsAndRows};
-ghost use Rattle.planfile.specs.Supplied.{Exact, NarrowColumns, WroteExact};
+ghost use Rattle.planfile.specs.Supplied.{listed, Exact, NarrowColumns, WroteExact};
 ghost use Rattle.planfile.specs.Filed.{headerOf};
 
 // Check 13: the counts are out of their limits, or a slice is shorter than its count says. O(1).
@@ -36,7 +37,7 @@ fn bad_supply(
     columnStarts: &[u32],
     rows: &[u16],
 ) -> bool
-    ensures { λ r. ⌜ r ≡ badSupply (contents n p s (now (order .entry)) (now (sizes .entry)) (now (parents .entry)) (now (columnStarts .entry)) (now (rows .entry))) ⌝ }
+    ensures { λ r. ⌜ r ≡ badSupply (listed n p s (now (order .entry)) (now (sizes .entry)) (now (parents .entry)) (now (columnStarts .entry)) (now (rows .entry))) ⌝ }
 {
     if bad_header(n, p, s) {
         return true;
@@ -56,18 +57,19 @@ fn bad_supply(
     rows.len() < s
 }
 
-// The mark, the version and the counts. O(1).
-fn write_header(n: usize, p: usize, s: usize, bytes: &mut [u8])
-    requires { ⌜ (badHeader (countsOnly n p s) ≡ false) × (17 ≤ length (now bytes)) ⌝ }
-    ensures { λ _. ⌜ now (bytes .exit) ≡ written (headerOf n p s) (now (bytes .entry)) ⌝ }
+// The mark, the version, the unknowns and the counts. O(1).
+fn write_header(unknowns: usize, n: usize, p: usize, s: usize, bytes: &mut [u8])
+    requires { ⌜ (badUnknowns unknowns ≡ false) × (badHeader (countsOnly n p s) ≡ false) × (19 ≤ length (now bytes)) ⌝ }
+    ensures { λ _. ⌜ now (bytes .exit) ≡ written (headerOf unknowns n p s) (now (bytes .entry)) ⌝ }
 {
     bytes[0] = N;
     bytes[1] = D;
     bytes[2] = P;
     write16(VERSION, &mut bytes[3..]);
-    write32(n as u32, &mut bytes[5..]);
-    write32(p as u32, &mut bytes[9..]);
-    write32(s as u32, &mut bytes[13..]);
+    write16(unknowns as u16, &mut bytes[5..]);
+    write32(n as u32, &mut bytes[7..]);
+    write32(p as u32, &mut bytes[11..]);
+    write32(s as u32, &mut bytes[15..]);
 }
 
 // The size and the parent of each part. O(p).
@@ -97,6 +99,7 @@ fn write_row_counts(n: usize, columnStarts: &[u32], bytes: &mut [u8])
 
 // The bytes of a plan that passed its checks. O(n + slots).
 fn write_plan(
+    unknowns: usize,
     n: usize,
     order: &[u16],
     sizes: &[u16],
@@ -105,14 +108,15 @@ fn write_plan(
     rows: &[u16],
     bytes: &mut [u8],
 )
-    requires { ⌜ Exact (contents n (length (now sizes)) (length (now rows)) (now order) (now sizes) (now parents) (now columnStarts) (now rows)) × NarrowColumns n (now columnStarts) ⌝ }
-    requires { ⌜ fileLength (contents n (length (now sizes)) (length (now rows)) (now order) (now sizes) (now parents) (now columnStarts) (now rows)) ≤ length (now bytes) ⌝ }
-    ensures { λ _. ⌜ now (bytes .exit) ≡ written (encode (contents n (length (now (sizes .entry))) (length (now (rows .entry))) (now (order .entry)) (now (sizes .entry)) (now (parents .entry)) (now (columnStarts .entry)) (now (rows .entry)))) (now (bytes .entry)) ⌝ }
+    requires { ⌜ (badUnknowns unknowns ≡ false) × NarrowColumns n (now columnStarts) ⌝ }
+    requires { ⌜ Exact (contents unknowns n (length (now sizes)) (length (now rows)) (now order) (now sizes) (now parents) (now columnStarts) (now rows)) ⌝ }
+    requires { ⌜ fileLength (contents unknowns n (length (now sizes)) (length (now rows)) (now order) (now sizes) (now parents) (now columnStarts) (now rows)) ≤ length (now bytes) ⌝ }
+    ensures { λ _. ⌜ now (bytes .exit) ≡ written (encode (contents unknowns n (length (now (sizes .entry))) (length (now (rows .entry))) (now (order .entry)) (now (sizes .entry)) (now (parents .entry)) (now (columnStarts .entry)) (now (rows .entry)))) (now (bytes .entry)) ⌝ }
 {
     let partsAt = HEADER + 2 * n;
     let countsAt = partsAt + 4 * sizes.len();
     let rowsAt = countsAt + 2 * n;
-    write_header(n, sizes.len(), rows.len(), bytes);
+    write_header(unknowns, n, sizes.len(), rows.len(), bytes);
     write16s(order, &mut bytes[HEADER..]);
     write_parts(sizes, parents, &mut bytes[partsAt..]);
     write_row_counts(n, columnStarts, &mut bytes[countsAt..]);
@@ -121,6 +125,7 @@ fn write_plan(
 
 // Writing from slices as long as their counts say: checks 15 to 19, then 8. O(4,096 + slots + the first rows' columns).
 fn write_exact(
+    unknowns: usize,
     n: usize,
     order: &[u16],
     sizes: &[u16],
@@ -129,24 +134,35 @@ fn write_exact(
     rows: &[u16],
     bytes: &mut [u8],
 ) -> WriteAnswer
-    requires { ⌜ Exact (contents n (length (now sizes)) (length (now rows)) (now order) (now sizes) (now parents) (now columnStarts) (now rows)) ⌝ }
-    ensures { λ r. ⌜ WroteExact (contents n (length (now (sizes .entry))) (length (now (rows .entry))) (now (order .entry)) (now (sizes .entry)) (now (parents .entry)) (now (columnStarts .entry)) (now (rows .entry))) r (now (bytes .entry)) (now (bytes .exit)) ⌝ }
+    requires { ⌜ badUnknowns unknowns ≡ false ⌝ }
+    requires { ⌜ Exact (contents unknowns n (length (now sizes)) (length (now rows)) (now order) (now sizes) (now parents) (now columnStarts) (now rows)) ⌝ }
+    ensures { λ r. ⌜ WroteExact (contents unknowns n (length (now (sizes .entry))) (length (now (rows .entry))) (now (order .entry)) (now (sizes .entry)) (now (parents .entry)) (now (columnStarts .entry)) (now (rows .entry))) r (now (bytes .entry)) (now (bytes .exit)) ⌝ }
 {
     let fault = contents_refusal(n, order, sizes, parents, columnStarts, rows);
     if fault != 0 {
         return WriteAnswer::Refused(fault);
     }
-    let length = file_length(n, sizes.len(), rows.len());
+    let length = file_length(HEADER, n, sizes.len(), rows.len());
     if bytes.len() < length {
         return WriteAnswer::Refused(8);
     }
-    write_plan(n, order, sizes, parents, columnStarts, rows, bytes);
+    write_plan(
+        unknowns,
+        n,
+        order,
+        sizes,
+        parents,
+        columnStarts,
+        rows,
+        bytes,
+    );
     WriteAnswer::Written(length)
 }
 
-// Writing: checks 13, 15 to 19 and 8 in this order, then the bytes, and the file's length is returned; slices may be longer than their counts say.
+// Writing: checks 28, 13, 15 to 19 and 8 in this order, then the bytes, and the file's length is returned; slices may be longer than their counts say.
 // O(4,096 + slots + the first rows' columns).
 pub fn write(
+    unknowns: usize,
     n: usize,
     p: usize,
     s: usize,
@@ -157,13 +173,17 @@ pub fn write(
     rows: &[u16],
     bytes: &mut [u8],
 ) -> WriteAnswer
-    ensures { λ r. ⌜ Wrote (contents n p s (now (order .entry)) (now (sizes .entry)) (now (parents .entry)) (now (columnStarts .entry)) (now (rows .entry))) r (now (bytes .entry)) (now (bytes .exit)) ⌝ }
+    ensures { λ r. ⌜ Wrote (contents unknowns n p s (now (order .entry)) (now (sizes .entry)) (now (parents .entry)) (now (columnStarts .entry)) (now (rows .entry))) r (now (bytes .entry)) (now (bytes .exit)) ⌝ }
 {
+    if Plan::bad_unknowns(unknowns) {
+        return WriteAnswer::Refused(28);
+    }
     if bad_supply(n, p, s, order, sizes, parents, columnStarts, rows) {
         return WriteAnswer::Refused(13);
     }
     let end = n + 1;
     write_exact(
+        unknowns,
         n,
         &order[..n],
         &sizes[..p],

@@ -14,7 +14,7 @@ use Rattle.plan.specs.File.{decode16s, badParts, badColumns}
 
 -- a plan of its tree of parts and its layout: what checks 17 to 19 look at
 abbrev pub partsAndRows : ℕ → List ℕ → List ℕ → List ℕ → List ℕ → Contents
-partsAndRows n sizes parents columnStarts rows = contents n (length sizes) (length rows) [] sizes parents columnStarts rows
+partsAndRows n sizes parents columnStarts rows = contents 1 n (length sizes) (length rows) [] sizes parents columnStarts rows
 
 -- sizes and parents of parts of n positions that passed check 16
 pub record SoundParts (n : ℕ) (sizes parents : List ℕ) : Type 0 where

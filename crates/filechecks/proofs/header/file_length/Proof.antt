@@ -3,7 +3,6 @@ use mathlib.Core.Path.{refl}
 use Prim.Native.Nat.{_≤_}
 use native.Mathlib.Omega.{arith}
 use Rattle.plan.specs.Mesh.{maxNodes}
-use Rattle.plan.specs.File.{lengthAt}
 use Rattle.theory.proofs.Fitting.{counts-few}
 use Rattle.filechecks.specs.Fields.{countsOnly}
 use Rattle.filechecks.proofs.header.file_length.Statement.{statement}
@@ -11,10 +10,9 @@ use Rattle.filechecks.proofs.header.file_length.Tie as tie
 
 -- the counts are small
 few : (c : tie.Start) → let a = c .args in (a .n ≤ maxNodes) × (a .p ≤ maxNodes) × (a .s ≤ 8386560)
-few c = let a = c .args in counts-few (countsOnly (a .n) (a .p) (a .s)) (c .pre)
+few c = let a = c .args in counts-few (countsOnly (a .n) (a .p) (a .s)) (c .pre .1)
 
 returns : tie.Need-returns
-unfolding lengthAt
 returns c = refl
 
 pub file-length-spec : {M : Type 1} → statement M

@@ -12,8 +12,8 @@ use Rattle.planfile.proofs.reader.contents_refusal.Statement.{statement
 use Rattle.planfile.proofs.reader.contents_refusal.Tie as tie
 
 -- the counts and the length of the file
-known : (s : tie.Start) → Sizes (s .args .bytes .now) (s .args .n) (s .args .p) (s .args .s)
-known s = headed-sizes _ _ _ _ (s .pre .0)
+known : (s : tie.Start) → Sizes (s .args .bytes .now) (s .args .end) (s .args .n) (s .args .p) (s .args .s)
+known s = headed-sizes _ _ _ _ _ (s .pre .0)
 
 read-order-and-parts-requires : tie.Need-read-order-and-parts-requires
 read-order-and-parts-requires c κs =
@@ -41,14 +41,14 @@ write-starts-requires c κs =
 abbrev file : tie.After-read-order-and-parts → Contents
 file r = parse (begin r .args .bytes .now)
 
-order-front : (r : tie.After-read-order-and-parts) → take (begin r .args .n) (r .read-order-and-parts .last .1 .1 .1 .1 .0) ≡ file r .order
-order-front r = front-written _ _ _ _ (r .read-order-and-parts .ensures .0) (order-many _ _ _ _ (begin r .pre .0))
+order-front : (r : tie.After-read-order-and-parts) → take (begin r .args .n) (r .read-order-and-parts .last .1 .1 .1 .1 .1 .0) ≡ file r .order
+order-front r = front-written _ _ _ _ (r .read-order-and-parts .ensures .0) (order-many _ _ _ _ _ (begin r .pre .0))
 
-sizes-front : (r : tie.After-read-order-and-parts) → take (begin r .args .p) (r .read-order-and-parts .last .1 .1 .1 .1 .1 .0) ≡ file r .sizes
-sizes-front r = front-written _ _ _ _ (r .read-order-and-parts .ensures .1) (sizes-many _ _ _ _ (begin r .pre .0))
+sizes-front : (r : tie.After-read-order-and-parts) → take (begin r .args .p) (r .read-order-and-parts .last .1 .1 .1 .1 .1 .1 .0) ≡ file r .sizes
+sizes-front r = front-written _ _ _ _ (r .read-order-and-parts .ensures .1) (sizes-many _ _ _ _ _ (begin r .pre .0))
 
-parents-front : (r : tie.After-read-order-and-parts) → take (begin r .args .p) (r .read-order-and-parts .last .1 .1 .1 .1 .1 .1 .0) ≡ file r .parents
-parents-front r = front-written _ _ _ _ (r .read-order-and-parts .ensures .2) (parents-many _ _ _ _ (begin r .pre .0))
+parents-front : (r : tie.After-read-order-and-parts) → take (begin r .args .p) (r .read-order-and-parts .last .1 .1 .1 .1 .1 .1 .1 .0) ≡ file r .parents
+parents-front r = front-written _ _ _ _ (r .read-order-and-parts .ensures .2) (parents-many _ _ _ _ _ (begin r .pre .0))
 
 -- where the order and the parts were read
 abbrev ordered : tie.After-write-starts → tie.After-read-order-and-parts
@@ -57,7 +57,7 @@ ordered w = w .before .before .before .before .before
 starts-front : (w : tie.After-write-starts) → let r = ordered w in take (begin r .args .n + 1) (w .write-starts .last .1 .1 .0) ≡ file r .columnStarts
 starts-front w =
     let s = begin (ordered w) in
-    front-written _ _ _ _ (starts-written _ _ _ _ (s .pre .0) _ _ _ (s .pre .2) (w .write-starts .ensures)) (starts-many _ _ _ _ (s .pre .0))
+    front-written _ _ _ _ (starts-written _ _ _ _ _ (s .pre .0) _ _ _ (s .pre .2) (w .write-starts .ensures)) (starts-many _ _ _ _ _ (s .pre .0))
 
 -- where the column starts were written, seen from where all four fields are lent
 abbrev started : tie.After-columnStarts3 → tie.After-write-starts
@@ -66,22 +66,22 @@ started c = c .before .before .before .before .before
 slice-aggregate-decoded-refusal : tie.Need-slice-aggregate-decoded-refusal
 slice-aggregate-decoded-refusal c =
     let r = ordered (started (c .before)) in
-    sym (ap length (order-front r) ∙ order-many _ _ _ _ (begin r .pre .0))
+    sym (ap length (order-front r) ∙ order-many _ _ _ _ _ (begin r .pre .0))
 
 slice-aggregate-decoded-refusal-2 : tie.Need-slice-aggregate-decoded-refusal-2
 slice-aggregate-decoded-refusal-2 c =
     let r = ordered (started (c .before .before)) in
-    sym (ap length (sizes-front r) ∙ sizes-many _ _ _ _ (begin r .pre .0))
+    sym (ap length (sizes-front r) ∙ sizes-many _ _ _ _ _ (begin r .pre .0))
 
 slice-aggregate-decoded-refusal-3 : tie.Need-slice-aggregate-decoded-refusal-3
 slice-aggregate-decoded-refusal-3 c =
     let r = ordered (started (c .before .before .before)) in
-    sym (ap length (parents-front r) ∙ parents-many _ _ _ _ (begin r .pre .0))
+    sym (ap length (parents-front r) ∙ parents-many _ _ _ _ _ (begin r .pre .0))
 
 slice-aggregate-decoded-refusal-4 : tie.Need-slice-aggregate-decoded-refusal-4
 slice-aggregate-decoded-refusal-4 c =
     let w = started (c .before .before .before .before) in
-    sym (ap length (starts-front w) ∙ starts-many _ _ _ _ (begin (ordered w) .pre .0))
+    sym (ap length (starts-front w) ∙ starts-many _ _ _ _ _ (begin (ordered w) .pre .0))
 
 decoded-refusal-requires : tie.Need-decoded-refusal-requires
 decoded-refusal-requires c κs =

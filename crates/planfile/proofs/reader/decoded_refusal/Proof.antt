@@ -20,13 +20,13 @@ abbrev file : tie.Start → Contents
 file s = parse (s .args .bytes .now)
 
 -- its counts and its length
-known : (s : tie.Start) → Sizes (s .args .bytes .now) (s .args .n) (s .args .p) (s .args .s)
-known s = headed-sizes _ _ _ _ (s .pre .0)
+known : (s : tie.Start) → Sizes (s .args .bytes .now) (s .args .end) (s .args .n) (s .args .p) (s .args .s)
+known s = headed-sizes _ _ _ _ _ (s .pre .0)
 
 order-and-parts-refusal-requires : tie.Need-order-and-parts-refusal-requires
 order-and-parts-refusal-requires c κs =
     let s = c .before .before .before .before .before in
-    order-few _ _ _ _ (s .pre .0) _ _ _ _ (s .pre .1)
+    order-few _ _ _ _ _ (s .pre .0) _ _ _ _ (s .pre .1)
 
 -- ---- 15 and 16
 
@@ -39,7 +39,7 @@ begin e = start (e .before)
 
 -- they are the code's
 order : (o : tie.After-order-and-parts-refusal) → firstFault (orderAndPartsChecks (file (start o))) ≡ o .order-and-parts-refusal .result
-order o = let s = start o in sym (o .order-and-parts-refusal .ensures ∙ file-ordered _ _ _ _ (s .pre .0) _ _ _ _ (s .pre .1))
+order o = let s = start o in sym (o .order-and-parts-refusal .ensures ∙ file-ordered _ _ _ _ _ (s .pre .0) _ _ _ _ (s .pre .1))
 
 returns : tie.Need-returns
 returns c = let e = order (c .before) in sym (order-fault (file (start (c .before))) (λ z. c .if1 .taken (sym e ∙ z)) ∙ e)
@@ -56,14 +56,14 @@ mul-index c = omega (arith, known (begin c) .few)
 shared-slice-read-index : tie.Need-shared-slice-read-index
 shared-slice-read-index c =
     let s = begin (c .before) in
-    omega (arith, starts-long _ _ _ _ (s .pre .0) _ _ _ _ (s .pre .1))
+    omega (arith, starts-long _ _ _ _ _ (s .pre .0) _ _ _ _ (s .pre .1))
 
 returns-2 : tie.Need-returns-2
 returns-2 c =
     let i = c .before in
     let e = i .before .before in
     let s = begin e in
-    sym (fault-17 (file s) (ordered e) (rows-apart _ _ _ _ (s .pre .0) _ _ _ _ (s .pre .1) (λ z. c .if2 .taken (i .index .ensures ∙ z))))
+    sym (fault-17 (file s) (ordered e) (rows-apart _ _ _ _ _ (s .pre .0) _ _ _ _ (s .pre .1) (λ z. c .if2 .taken (i .index .ensures ∙ z))))
 
 -- the last start is s
 ends : (c : tie.Else2) → let a = begin (c .before .before .before) .args in getD (a .columnStarts .now) (a .n) 0 ≡ a .s
@@ -73,13 +73,13 @@ mul-at : tie.Need-mul-at
 mul-at c = omega (arith, known (begin (c .before .before .before)) .few)
 
 add-at : tie.Need-add-at
-add-at c = omega (arith, known (begin (c .before .before .before)) .few)
+add-at c = let k = known (begin (c .before .before .before)) in omega (arith, k .early, k .few)
 
 mul-at-2 : tie.Need-mul-at-2
 mul-at-2 c = let k = known (begin (c .before .before .before)) in omega (arith, k .few, k .parts)
 
 add-at-2 : tie.Need-add-at-2
-add-at-2 c = let k = known (begin (c .before .before .before)) in omega (arith, k .few, k .parts)
+add-at-2 c = let k = known (begin (c .before .before .before)) in omega (arith, k .early, k .few, k .parts)
 
 sub-rows : tie.Need-sub-rows
 sub-rows c = omega (arith, known (begin (c .before .before .before)) .long)
@@ -97,14 +97,14 @@ first e = e .before .before .before
 abbrev plan : tie.Start → Contents
 plan s =
     let a = s .args in
-    partsAndRows (a .n) (a .sizes .now) (a .parents .now) (a .columnStarts .now) (rowsIn (behind (a .bytes .now) (a .n) (a .p)))
+    partsAndRows (a .n) (a .sizes .now) (a .parents .now) (a .columnStarts .now) (rowsIn (behind (a .bytes .now) (a .end) (a .n) (a .p)))
 
 walk-encoded-requires : tie.Need-walk-encoded-requires
 walk-encoded-requires c κs =
     let e = c .before in
     let o = first e in
     let s = begin o in
-    (file-parts _ _ _ _ (s .pre .0) _ _ _ _ (s .pre .1) (ordered o), rows-started _ _ _ _ (s .pre .0) _ _ _ _ (s .pre .1) (ends e))
+    (file-parts _ _ _ _ _ (s .pre .0) _ _ _ _ (s .pre .1) (ordered o), rows-started _ _ _ _ _ (s .pre .0) _ _ _ _ (s .pre .1) (ends e))
 
 -- its answer is that of the two checks
 walk : (r : tie.After-refusal) → firstFault (walkChecks (file (begin (first (r .before .before .before))))) ≡ r .refusal .result
@@ -112,8 +112,8 @@ walk r =
     let w = r .before in
     let e = w .before .before in
     let s = begin (first e) in
-    let own = rows-started _ _ _ _ (s .pre .0) _ _ _ _ (s .pre .1) (ends e) in
-    sym (r .refusal .ensures ∙ answers-stay (plan s) _ _ (own .starts) (own .last) (w .walk-encoded .ensures) ∙ file-walked _ _ _ _ (s .pre .0) _ _ _ _ (s .pre .1))
+    let own = rows-started _ _ _ _ _ (s .pre .0) _ _ _ _ (s .pre .1) (ends e) in
+    sym (r .refusal .ensures ∙ answers-stay (plan s) _ _ (own .starts) (own .last) (w .walk-encoded .ensures) ∙ file-walked _ _ _ _ _ (s .pre .0) _ _ _ _ (s .pre .1))
 
 returns-3 : tie.Need-returns-3
 returns-3 c =
@@ -135,7 +135,7 @@ not-covered-encoded-requires c κs =
     let e = w .before .before in
     let s = begin (first e) in
     record {
-      started = rows-started _ _ _ _ (s .pre .0) _ _ _ _ (s .pre .1) (ends e);
+      started = rows-started _ _ _ _ _ (s .pre .0) _ _ _ _ (s .pre .1) (ends e);
       good = sym (carried-columns (plan s) _ _ (w .walk-encoded .ensures)) ∙ answer-ordered _ _ (sym (r .refusal .ensures) ∙ c .if3 .left);
     }
 
@@ -143,7 +143,7 @@ not-covered-encoded-requires c κs =
 covered : (v : tie.After-not-covered-encoded) → notCovered (file (begin (first (v .before .before .before .before .before)))) ≡ v .not-covered-encoded .result
 covered v =
     let s = begin (first (v .before .before .before .before .before)) in
-    sym (v .not-covered-encoded .ensures ∙ file-covered _ _ _ _ (s .pre .0) _ _ _ _ (s .pre .1))
+    sym (v .not-covered-encoded .ensures ∙ file-covered _ _ _ _ _ (s .pre .0) _ _ _ _ (s .pre .1))
 
 returns-4 : tie.Need-returns-4
 returns-4 c =

@@ -1,4 +1,4 @@
--- `planfile::reader::read` meets its contract: checks 10 to 14, then what is left of reading.
+-- `planfile::reader::read` meets its contract: checks 10 to 14 and 28, then what is left of reading.
 use borrow.Author.Needs.{needs}
 use Rattle.plan.specs.Planning.{buffers}
 use Rattle.planfile.proofs.Reading.{header-refused}

@@ -6,13 +6,14 @@ use lib.ListN.{length, getD}
 use borrow.Author.Needs.{needs}
 use Rattle.plan.specs.Refusals.{firstFault}
 use Rattle.plan.specs.Mesh.{badStarts}
-use Rattle.plan.specs.Planning.{Contents, contents}
+use Rattle.plan.specs.Planning.{Contents}
 use Rattle.plan.specs.File.{notCovered}
 use Rattle.plan.specs.RowFaults.{walkChecks}
 use Rattle.theory.proofs.RowFaults.{carried-columns, answers-stay, answer-ordered}
 use Rattle.filechecks.specs.Fields.{orderAndPartsChecks}
 use Rattle.filechecks.proofs.Fields.{order-checks}
 use Rattle.rowchecks.specs.Rows.{partsAndRows, Started}
+use Rattle.planfile.specs.Supplied.{listed}
 use Rattle.planfile.proofs.Passing.{order-fault, fault-17, walk-fault, fault-19, all-passed, starts-bad, last-bad, walk-check, covered-check, exact-few, passed-parts, passed-starts}
 use Rattle.planfile.proofs.slices.contents_refusal.Statement.{statement}
 use Rattle.planfile.proofs.slices.contents_refusal.Tie as tie
@@ -21,7 +22,7 @@ use Rattle.planfile.proofs.slices.contents_refusal.Tie as tie
 abbrev plan : tie.Start → Contents
 plan s =
     let a = s .args in
-    contents (a .n) (length (a .sizes .now)) (length (a .rows .now)) (a .order .now) (a .sizes .now) (a .parents .now) (a .columnStarts .now) (a .rows .now)
+    listed (a .n) (length (a .sizes .now)) (length (a .rows .now)) (a .order .now) (a .sizes .now) (a .parents .now) (a .columnStarts .now) (a .rows .now)
 
 -- its parts and rows
 abbrev laid : tie.Start → Contents

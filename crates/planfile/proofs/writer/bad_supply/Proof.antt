@@ -6,16 +6,17 @@ use native.Mathlib.Omega.{arith}
 use lib.ListN.{length}
 use borrow.Author.Tests.{lt-ltb, le-ltb}
 use borrow.Author.Needs.{needs}
-use Rattle.plan.specs.Planning.{Contents, contents}
+use Rattle.plan.specs.Planning.{Contents}
 use Rattle.plan.specs.File.{badHeader}
 use Rattle.plan.specs.Writing.{badSupply}
 use Rattle.filechecks.proofs.Fields.{header-counts}
+use Rattle.planfile.specs.Supplied.{listed}
 use Rattle.planfile.proofs.writer.bad_supply.Statement.{statement}
 use Rattle.planfile.proofs.writer.bad_supply.Tie as tie
 
 -- the plan
 abbrev plan : tie.Start → Contents
-plan s = let a = s .args in contents (a .n) (a .p) (a .s) (a .order .now) (a .sizes .now) (a .parents .now) (a .columnStarts .now) (a .rows .now)
+plan s = let a = s .args in listed (a .n) (a .p) (a .s) (a .order .now) (a .sizes .now) (a .parents .now) (a .columnStarts .now) (a .rows .now)
 
 -- the function's entry, seen from check 13 of a file
 abbrev start : tie.After-bad-header → tie.Start

@@ -1,49 +1,60 @@
--- `planfile::writer::write` meets its promise: check 13, then what is left of writing, of the slices' fronts.
+-- `planfile::writer::write` meets its promise: checks 28 and 13, then what is left of writing, of the slices' fronts.
 use mathlib.Core.Path.{_≡_, sym, _∙_}
-use mathlib.Core.Bool.{true, false}
+use mathlib.Core.Bool.{false}
 use mathlib.Core.List.{List}
 use Prim.Native.Nat.{ℕ}
 use native.Mathlib.Omega.{arith}
 use borrow.Author.Needs.{needs}
-use Rattle.plan.specs.Planning.{Contents, contents}
+use Rattle.plan.specs.Planning.{Contents, contents, badUnknowns}
 use Rattle.plan.specs.Writing.{badSupply, used}
 use Rattle.theory.proofs.Fitting.{counts-few}
 use Rattle.planfile.specs.Supplied.{Exact}
-use Rattle.planfile.proofs.WriteAnswers.{exact-used, exact-fronts, refused-supply, wrote-fronts}
+use Rattle.planfile.proofs.WriteAnswers.{supply-listed, exact-used, exact-fronts, refused-unknowns, refused-supply, wrote-fronts}
 use Rattle.planfile.proofs.writer.write.Statement.{statement}
 use Rattle.planfile.proofs.writer.write.Tie as tie
 
 -- the plan as lent, and the buffer as found
 abbrev plan : tie.Start → Contents
-plan s = let a = s .args in contents (a .n) (a .p) (a .s) (a .order .now) (a .sizes .now) (a .parents .now) (a .columnStarts .now) (a .rows .now)
+plan s = let a = s .args in contents (a .unknowns) (a .n) (a .p) (a .s) (a .order .now) (a .sizes .now) (a .parents .now) (a .columnStarts .now) (a .rows .now)
 
 abbrev found : tie.Start → List ℕ
 found s = s .args .bytes .now
 
+abbrev first : tie.After-bad-unknowns → tie.Start
+first c = c .before .before .before .before .before .before .before
+
+-- 28 found a fault
+returns : tie.Need-returns
+returns c = let k = c .before in let s = first k in refused-unknowns (plan s) (found s) (sym (k .bad-unknowns .ensures) ∙ c .if1 .taken)
+
+-- 28 found none
+few : (c : tie.Else1) → badUnknowns (plan (first (c .before)) .unknowns) ≡ false
+few c = sym (c .before .bad-unknowns .ensures) ∙ c .if1 .left
+
 abbrev start : tie.After-bad-supply → tie.Start
-start c = c .before .before .before .before .before .before .before
+start c = first (c .before .before)
 
 -- 13 found a fault
-bad : (c : tie.Then1) → badSupply (plan (start (c .before))) ≡ true
-bad c = sym (c .before .bad-supply .ensures) ∙ c .if1 .taken
-
-returns : tie.Need-returns
-returns c = let s = start (c .before) in refused-supply (plan s) (found s) (bad c)
-
--- 13 found none
-good : (c : tie.Else1) → badSupply (plan (start (c .before))) ≡ false
-good c = sym (c .before .bad-supply .ensures) ∙ c .if1 .left
-
--- so the slices' fronts are a whole plan that passed it
-exact : (c : tie.Else1) → Exact (used (plan (start (c .before))))
-exact c = exact-used (plan (start (c .before))) (good c)
-
 returns-2 : tie.Need-returns-2
 returns-2 c =
+    let k = c .before in
+    let s = start k in
+    refused-supply (plan s) (found s) (few (k .before)) (sym (supply-listed (plan s)) ∙ sym (k .bad-supply .ensures) ∙ c .if2 .taken)
+
+-- 13 found none
+good : (c : tie.Else2) → badSupply (plan (start (c .before))) ≡ false
+good c = sym (supply-listed (plan (start (c .before)))) ∙ sym (c .before .bad-supply .ensures) ∙ c .if2 .left
+
+-- so the slices' fronts are a whole plan that passed it
+exact : (c : tie.Else2) → Exact (used (plan (start (c .before))))
+exact c = exact-used (plan (start (c .before))) (good c)
+
+returns-3 : tie.Need-returns-3
+returns-3 c =
     let w = c .before .before in
     let e = w .before .before .before .before .before .before .before in
     let s = start (e .before) in
-    wrote-fronts (plan s) (found s) (w .write-exact .result) (w .write-exact .last .1 .1 .1 .1 .1 .1 .0) (good e) (w .write-exact .ensures)
+    wrote-fronts (plan s) (found s) (w .write-exact .result) (w .write-exact .last .1 .1 .1 .1 .1 .1 .1 .0) (few (e .before .before)) (good e) (w .write-exact .ensures)
 
 pub write-spec : {M : Type 1} → statement M
 unfolding used
@@ -52,12 +63,14 @@ write-spec =
     (tie.spec
     (λ c κs. search needs)
     returns
+    (λ c κs. search needs)
+    returns-2
     (λ c. omega (arith, counts-few (used (plan (start (c .before)))) (exact c .header) .0))
     (λ c. sym (exact (c .before) .whole .order))
     (λ c. sym (exact (c .before .before) .whole .sizes))
     (λ c. sym (exact (c .before .before .before) .whole .parents))
     (λ c. sym (exact (c .before .before .before .before) .whole .columnStarts))
     (λ c. sym (exact (c .before .before .before .before .before) .whole .rows))
-    (λ c κs. let e = c .before .before .before .before .before .before in exact-fronts (plan (start (e .before))) (good e))
+    (λ c κs. let e = c .before .before .before .before .before .before in (few (e .before .before), exact-fronts (plan (start (e .before))) (good e)))
     (λ c. search needs)
-    returns-2)
+    returns-3)

@@ -8,7 +8,7 @@ use borrow.Author.Needs.{needs}
 use Rattle.plan.specs.Lists.{written}
 use Rattle.plan.specs.Mesh.{maxNodes}
 use Rattle.plan.specs.Planning.{Contents, rowCounts, contents}
-use Rattle.plan.specs.File.{encode16s, lengthAt, fileLength, encodeParts, badHeader}
+use Rattle.plan.specs.File.{encode16s, nodesAt, lengthAt, lengthIn, fileLength, encodeParts, badHeader}
 use Rattle.theory.proofs.Written.{Reached, lentFrom, reached-long, reached-room, reached-more}
 use Rattle.theory.proofs.Coding.{encode16s-length}
 use Rattle.theory.proofs.FileFields.{parts-length, counts-length}
@@ -22,20 +22,20 @@ use Rattle.planfile.proofs.writer.write_plan.Tie as tie
 abbrev plan : tie.Start → Contents
 plan s =
     let a = s .args in
-    contents (a .n) (length (a .sizes .now)) (length (a .rows .now)) (a .order .now) (a .sizes .now) (a .parents .now) (a .columnStarts .now) (a .rows .now)
+    contents (a .unknowns) (a .n) (length (a .sizes .now)) (length (a .rows .now)) (a .order .now) (a .sizes .now) (a .parents .now) (a .columnStarts .now) (a .rows .now)
 
 abbrev found : tie.Start → List ℕ
 found s = s .args .bytes .now
 
 -- which has room for the file
-room : (s : tie.Start) → 17 + 4 * plan s .nodes + 4 * plan s .parts + 2 * plan s .slots ≤ length (found s)
-unfolding fileLength lengthAt
-room s = s .pre .1
+room : (s : tie.Start) → 19 + 4 * plan s .nodes + 4 * plan s .parts + 2 * plan s .slots ≤ length (found s)
+unfolding fileLength lengthIn nodesAt lengthAt
+room s = s .pre .1 .1
 
 -- ---- where the fields stand
 
 abbrev partsAt : tie.Start → ℕ
-partsAt s = 17 + 2 * plan s .nodes
+partsAt s = 19 + 2 * plan s .nodes
 
 abbrev countsAt : tie.Start → ℕ
 countsAt s = partsAt s + 4 * plan s .parts
@@ -45,7 +45,7 @@ rowsAt s = countsAt s + 2 * plan s .nodes
 
 -- numbers of 64 bits, since the counts are small
 small : (s : tie.Start) → (plan s .nodes ≤ maxNodes) × (plan s .parts ≤ maxNodes) × (plan s .slots ≤ 8386560)
-small s = counts-few (plan s) (s .pre .0 .0 .header)
+small s = counts-few (plan s) (s .pre .1 .0 .header)
 
 -- before the first call
 abbrev start : tie.After-slice-known → tie.Start
@@ -55,22 +55,22 @@ start c = c .before .before .before .before .before .before
 
 write-header-requires : tie.Need-write-header-requires
 unfolding badHeader
-write-header-requires c κs = let s = start (c .before) in (s .pre .0 .0 .header, omega (arith, room s))
+write-header-requires c κs = let s = start (c .before) in (s .pre .0 .0, s .pre .1 .0 .header, omega (arith, room s))
 
 abbrev start0 : tie.After-write-header → tie.Start
 start0 c = c .before .before .before .before .before .before .before .before
 
 abbrev header : tie.Start → List ℕ
-header s = headerOf (plan s .nodes) (plan s .parts) (plan s .slots)
+header s = headerOf (plan s .unknowns) (plan s .nodes) (plan s .parts) (plan s .slots)
 
 abbrev headed : tie.After-write-header → List ℕ
-headed c = c .write-header .last .1 .1 .1 .0
+headed c = c .write-header .last .1 .1 .1 .1 .0
 
-header-first : (c : tie.After-write-header) → let s = start0 c in Reached (found s) (header s) (headed c) 17
-header-first c = let s = start0 c in record { front = c .write-header .ensures; many = header-length (plan s .nodes) (plan s .parts) (plan s .slots) }
+header-first : (c : tie.After-write-header) → let s = start0 c in Reached (found s) (header s) (headed c) 19
+header-first c = let s = start0 c in record { front = c .write-header .ensures; many = header-length (plan s .unknowns) (plan s .nodes) (plan s .parts) (plan s .slots) }
 
 long0 : (c : tie.After-write-header) → length (headed c) ≡ length (found (start0 c))
-long0 c = let s = start0 c in reached-long (found s) (header s) (headed c) 17 (header-first c) (omega (arith, room s))
+long0 c = let s = start0 c in reached-long (found s) (header s) (headed c) 19 (header-first c) (omega (arith, room s))
 
 -- ---- the order behind it
 
@@ -78,7 +78,7 @@ write16s-requires : tie.Need-write16s-requires
 write16s-requires c κs =
     let w = c .before .before .before in
     let s = start0 w in
-    reached-room (found s) (header s) (headed w) 17 (header-first w) (2 * length (plan s .order)) (omega (arith, room s, s .pre .0 .0 .whole .order))
+    reached-room (found s) (header s) (headed w) 19 (header-first w) (2 * length (plan s .order)) (omega (arith, room s, s .pre .1 .0 .whole .order))
 
 abbrev call0 : tie.After-write16s → tie.After-write-header
 call0 c = c .before .before .before .before
@@ -87,7 +87,7 @@ abbrev start1 : tie.After-write16s → tie.Start
 start1 c = start0 (call0 c)
 
 abbrev ordered : tie.After-write16s → List ℕ
-ordered c = lentFrom 17 (headed (call0 c)) (c .write16s .last .1 .0)
+ordered c = lentFrom 19 (headed (call0 c)) (c .write16s .last .1 .0)
 
 abbrev upToOrder : tie.Start → List ℕ
 upToOrder s = header s ++ encode16s (plan s .order)
@@ -95,8 +95,8 @@ upToOrder s = header s ++ encode16s (plan s .order)
 order-behind : (c : tie.After-write16s) → let s = start1 c in Reached (found s) (upToOrder s) (ordered c) (partsAt s)
 order-behind c =
     let s = start1 c in
-    reached-more (found s) (header s) (headed (call0 c)) 17 (header-first (call0 c)) (encode16s (plan s .order)) (c .write16s .last .1 .0) (partsAt s) (c .write16s .ensures)
-    (omega (arith, encode16s-length (plan s .order), s .pre .0 .0 .whole .order))
+    reached-more (found s) (header s) (headed (call0 c)) 19 (header-first (call0 c)) (encode16s (plan s .order)) (c .write16s .last .1 .0) (partsAt s) (c .write16s .ensures)
+    (omega (arith, encode16s-length (plan s .order), s .pre .1 .0 .whole .order))
 
 long1 : (c : tie.After-write16s) → length (ordered c) ≡ length (found (start1 c))
 long1 c = let s = start1 c in reached-long (found s) (upToOrder s) (ordered c) (partsAt s) (order-behind c) (omega (arith, room s))
@@ -107,7 +107,7 @@ write-parts-requires : tie.Need-write-parts-requires
 write-parts-requires c κs =
     let w = c .before .before .before in
     let s = start1 w in
-    (s .pre .0 .0 .whole .parents, reached-room (found s) (upToOrder s) (ordered w) (partsAt s) (order-behind w) (4 * plan s .parts) (omega (arith, room s)))
+    (s .pre .1 .0 .whole .parents, reached-room (found s) (upToOrder s) (ordered w) (partsAt s) (order-behind w) (4 * plan s .parts) (omega (arith, room s)))
 
 abbrev call1 : tie.After-write-parts → tie.After-write16s
 call1 c = c .before .before .before .before
@@ -136,7 +136,7 @@ write-row-counts-requires : tie.Need-write-row-counts-requires
 write-row-counts-requires c κs =
     let w = c .before .before .before in
     let s = start2 w in
-    (s .pre .0 .0 .whole .columnStarts, s .pre .0 .1, reached-room (found s) (upToParts s) (parted w) (countsAt s) (parts-behind w) (2 * plan s .nodes) (omega (arith, room s)))
+    (s .pre .1 .0 .whole .columnStarts, s .pre .0 .1, reached-room (found s) (upToParts s) (parted w) (countsAt s) (parts-behind w) (2 * plan s .nodes) (omega (arith, room s)))
 
 abbrev call2 : tie.After-write-row-counts → tie.After-write-parts
 call2 c = c .before .before .before .before
