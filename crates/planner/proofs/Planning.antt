@@ -18,7 +18,7 @@ use Rattle.plan.specs.Choice.{georgeLiu}
 use Rattle.plan.specs.Dissection.{positions}
 use Rattle.plan.specs.Steps.{byNumber}
 use Rattle.plan.specs.Elimination.{column, columns, startsOf, multiplications}
-use Rattle.plan.specs.Planning.{Contents, Buffers, Capacity, Filled, Planned, rowCounts, planBy, planOf, buffersTooShort, rowsTooShort, planChecks, planning, handOut, capacity}
+use Rattle.plan.specs.Planning.{Contents, Buffers, Capacity, Filled, Planned, rowCounts, planBy, planOf, badUnknowns, buffersTooShort, rowsTooShort, planChecks, planning, handOut, capacity}
 use Rattle.theory.specs.Counting.{Order}
 use Rattle.theory.specs.Checked.{Checked}
 use Rattle.theory.proofs.Refusals.{no-fault, fault-here, no-fault-first, first-some, first-none}
@@ -39,12 +39,14 @@ use Rattle.dissection.proofs.Heads.{dissected-parts}
 
 -- ---- checks
 
--- what checks 1 to 8 tell where they find no fault
-pub early-passed : (m : Mesh) (room : Capacity) → firstFault (earlyChecks m room) ≡ 0 → Checked m × (buffersTooShort (m .nodes) room ≡ false)
-early-passed m room h =
+-- what checks 28 and 1 to 8 tell where they find no fault
+pub early-passed : (u : ℕ) (m : Mesh) (room : Capacity) → firstFault (earlyChecks u m room) ≡ 0
+    → Checked m × ((buffersTooShort (m .nodes) room ≡ false) × (badUnknowns u ≡ false))
+early-passed u m room h =
+    let c28 = no-fault 28 (badUnknowns u) _ (omega arith) h in
     let eighth : Checks = (8, buffersTooShort (m .nodes) room) ∷ [] in
-    let passes : firstFault (meshChecks m) ≡ 0 = no-fault-first (meshChecks m) eighth h in
-    (checked m passes, no-fault 8 (buffersTooShort (m .nodes) room) [] (omega arith) (sym (mesh-passed m eighth passes) ∙ h) .0)
+    let passes : firstFault (meshChecks m) ≡ 0 = no-fault-first (meshChecks m) eighth (c28 .1) in
+    (checked m passes, (no-fault 8 (buffersTooShort (m .nodes) room) [] (omega arith) (sym (mesh-passed m eighth passes) ∙ c28 .1) .0, c28 .0))
 
 -- ---- the order at the front of an array
 
@@ -92,10 +94,11 @@ pub parts-within : (m : Mesh) {left : ℕ} (held heads : List ℕ) (count : ℕ)
 parts-within m held heads count d = omega (arith, d .many, parts-few (adjacent m) (georgeLiu m) (georgeLiu-takes m) (m .nodes))
 
 -- the plan that the arrays give
-unfoldable pub heldPlan : Mesh → List ℕ → List ℕ → ℕ → Contents
-heldPlan m held heads count =
+unfoldable pub heldPlan : ℕ → Mesh → List ℕ → List ℕ → ℕ → Contents
+heldPlan u m held heads count =
     let cols : List (List ℕ) = columns m (take (m .nodes) held) in
     record {
+      unknowns = u;
       nodes = m .nodes;
       parts = count;
       slots = length (flatten cols);
@@ -107,16 +110,16 @@ heldPlan m held heads count =
     }
 
 -- it is the mesh's
-pub held-planned : (m : Mesh) → Checked m → {left : ℕ} (held heads : List ℕ) (count : ℕ) → Dissected m held heads left count → heldPlan m held heads count ≡ planOf m
+pub held-planned : (u : ℕ) (m : Mesh) → Checked m → {left : ℕ} (held heads : List ℕ) (count : ℕ) → Dissected m held heads left count → heldPlan u m held heads count ≡ planOf u m
 unfolding heldPlan planOf planBy
-held-planned m good held heads count d =
+held-planned u m good held heads count d =
     let f = dissected-parts m good held heads count d in
     rw (d .order, f .1, f .2, d .many)
 
 -- the row counts of a plan are the lengths of its columns
-pub row-counts : (m : Mesh) (held heads : List ℕ) (count : ℕ) → rowCounts (heldPlan m held heads count) ≡ map length (columns m (take (m .nodes) held))
+pub row-counts : (u : ℕ) (m : Mesh) (held heads : List ℕ) (count : ℕ) → rowCounts (heldPlan u m held heads count) ≡ map length (columns m (take (m .nodes) held))
 unfolding rowCounts heldPlan columns
-row-counts m held heads count =
+row-counts u m held heads count =
     let nodes : List ℕ = take (m .nodes) held in
     map-ext-upFrom (λ j. getD (startsOf (columns m nodes)) (j + 1) 0 - getD (startsOf (columns m nodes)) j 0) (λ j. length (column m nodes j)) (m .nodes) 0
     (λ j l h. column-counted m nodes j (omega arith))
@@ -125,58 +128,58 @@ row-counts m held heads count =
 -- ---- what is handed out
 
 -- the slots of the order's columns are the plan's
-pub held-slots : (m : Mesh) → Checked m → {left : ℕ} (held heads : List ℕ) (count : ℕ) → Dissected m held heads left count → length (flatten (columns m (take (m .nodes) held))) ≡ planOf m .slots
+pub held-slots : (u : ℕ) (m : Mesh) → Checked m → {left : ℕ} (held heads : List ℕ) (count : ℕ) → Dissected m held heads left count → length (flatten (columns m (take (m .nodes) held))) ≡ planOf u m .slots
 unfolding heldPlan
-held-slots m good held heads count d = ap (λ (c : Contents). c .slots) (held-planned m good held heads count d)
+held-slots u m good held heads count d = ap (λ (c : Contents). c .slots) (held-planned u m good held heads count d)
 
 -- and so are those that are counted
-pub counted-slots : (m : Mesh) → Checked m → {left : ℕ} (held heads : List ℕ) (count : ℕ) → Dissected m held heads left count → (counts : List ℕ)
-    → take (m .nodes) counts ≡ map length (columns m (take (m .nodes) held)) → total (take (m .nodes) counts) ≡ planOf m .slots
-counted-slots m good held heads count d counts same = ap total same ∙ total-lengths (columns m (take (m .nodes) held)) ∙ held-slots m good held heads count d
+pub counted-slots : (u : ℕ) (m : Mesh) → Checked m → {left : ℕ} (held heads : List ℕ) (count : ℕ) → Dissected m held heads left count → (counts : List ℕ)
+    → take (m .nodes) counts ≡ map length (columns m (take (m .nodes) held)) → total (take (m .nodes) counts) ≡ planOf u m .slots
+counted-slots u m good held heads count d counts same = ap total same ∙ total-lengths (columns m (take (m .nodes) held)) ∙ held-slots u m good held heads count d
 
 -- the answer is the plan's
-pub held-reply : (m : Mesh) (held heads : List ℕ) (count : ℕ) (counts : List ℕ) (slots products : ℕ) (p : Plan) → take (m .nodes) counts ≡ map length (columns m (take (m .nodes) held))
+pub held-reply : (u : ℕ) (m : Mesh) (held heads : List ℕ) (count : ℕ) (counts : List ℕ) (slots products : ℕ) (p : Plan) → take (m .nodes) counts ≡ map length (columns m (take (m .nodes) held))
     → slots ≡ total (take (m .nodes) counts) → products ≡ multiplications (take (m .nodes) counts)
-    → p ≡ record { nodes = m .nodes; parts = count; slots = slots; multiplications = products } → planReply (Accepted p) ≡ handOut 0 (heldPlan m held heads count) .reply
+    → p ≡ record { nodes = m .nodes; parts = count; slots = slots; unknowns = u; multiplications = products } → planReply (Accepted p) ≡ handOut 0 (heldPlan u m held heads count) .reply
 unfolding handOut
-held-reply m held heads count counts slots products p same s k e =
-    rw (e, s, k, same, total-lengths (columns m (take (m .nodes) held)), row-counts m held heads count) (unfold heldPlan in refl)
+held-reply u m held heads count counts slots products p same s k e =
+    rw (e, s, k, same, total-lengths (columns m (take (m .nodes) held)), row-counts u m held heads count) (unfold heldPlan in refl)
 
 -- where the slots find no room, check 9 refuses
-pub checked-refused : (m : Mesh) (found : Buffers) → length (found .rows) < planOf m .slots → FilledChecked m (Refused 9) found found
+pub checked-refused : (u : ℕ) (m : Mesh) (found : Buffers) → length (found .rows) < planOf u m .slots → FilledChecked u m (Refused 9) found found
 unfolding planningChecked rowsTooShort capacity
-checked-refused m found short =
-    rw (fault-here 9 (ltb (length (found .rows)) (planOf m .slots)) [] (lt-ltb (length (found .rows)) (planOf m .slots) short)) (filled-refused 9 (planOf m) found (λ e. omega arith))
+checked-refused u m found short =
+    rw (fault-here 9 (ltb (length (found .rows)) (planOf u m .slots)) [] (lt-ltb (length (found .rows)) (planOf u m .slots) short)) (filled-refused 9 (planOf u m) found (λ e. omega arith))
 
 -- and else the plan of the arrays is handed out
-pub checked-accepted : (m : Mesh) → Checked m → {end : ℕ} (held heads : List ℕ) (count : ℕ) → Dissected m held heads end count
-    → (answer : PlanAnswer) (found left : Buffers) → planOf m .slots ≤ length (found .rows) → Filled (handOut 0 (heldPlan m held heads count)) answer found left → FilledChecked m answer found left
+pub checked-accepted : (u : ℕ) (m : Mesh) → Checked m → {end : ℕ} (held heads : List ℕ) (count : ℕ) → Dissected m held heads end count
+    → (answer : PlanAnswer) (found left : Buffers) → planOf u m .slots ≤ length (found .rows) → Filled (handOut 0 (heldPlan u m held heads count)) answer found left → FilledChecked u m answer found left
 unfolding planningChecked rowsTooShort capacity firstFault
-checked-accepted m good held heads count d answer found left room h =
-    rw (le-ltb (length (found .rows)) (planOf m .slots) room, ← held-planned m good held heads count d) h
+checked-accepted u m good held heads count d answer found left room h =
+    rw (le-ltb (length (found .rows)) (planOf u m .slots) room, ← held-planned u m good held heads count d) h
 
 -- ---- planning
 
 -- an outcome of planning fulfils its promise
-promised : (m : Mesh) (answer : PlanAnswer) (found left : Buffers) → Filled (planning m (capacity found)) answer found left → Planned m answer found left
-promised m answer found left h = record {
+promised : (u : ℕ) (m : Mesh) (answer : PlanAnswer) (found left : Buffers) → Filled (planning u m (capacity found)) answer found left → Planned u m answer found left
+promised u m answer found left h = record {
   filled = h;
-  demand3 = handed-demand3 m (capacity found) answer found left h;
-  cliques = handed-cliques m (capacity found) answer found left h;
+  demand3 = handed-demand3 u m (capacity found) answer found left h;
+  cliques = handed-cliques u m (capacity found) answer found left h;
 }
 
--- what checks 1 to 8 refuse is refused
-pub planned-refused : (m : Mesh) (found : Buffers) (k : ℕ) → k ≡ firstFault (earlyChecks m (lengthsOf found)) → (k ≡ 0 → ⊥) → Planned m (Refused k) found found
+-- what checks 28 and 1 to 8 refuse is refused
+pub planned-refused : (u : ℕ) (m : Mesh) (found : Buffers) (k : ℕ) → k ≡ firstFault (earlyChecks u m (lengthsOf found)) → (k ≡ 0 → ⊥) → Planned u m (Refused k) found found
 unfolding planning planChecks buffersTooShort capacity
-planned-refused m found k e some =
-    let nine : Checks = (9, rowsTooShort (planOf m) (capacity found)) ∷ [] in
-    let first : firstFault (planChecks m (capacity found)) ≡ k = unfold meshChecks in first-some (earlyChecks m (lengthsOf found)) nine (λ z. some (e ∙ z)) ∙ sym e in
-    promised m (Refused k) found found (rw first (filled-refused k (planOf m) found some))
+planned-refused u m found k e some =
+    let nine : Checks = (9, rowsTooShort (planOf u m) (capacity found)) ∷ [] in
+    let first : firstFault (planChecks u m (capacity found)) ≡ k = unfold meshChecks in first-some (earlyChecks u m (lengthsOf found)) nine (λ z. some (e ∙ z)) ∙ sym e in
+    promised u m (Refused k) found found (rw first (filled-refused k (planOf u m) found some))
 
 -- and where they find no fault, check 9 is left
-pub planned-checked : (m : Mesh) (answer : PlanAnswer) (found left : Buffers) → firstFault (earlyChecks m (lengthsOf found)) ≡ 0 → FilledChecked m answer found left → Planned m answer found left
+pub planned-checked : (u : ℕ) (m : Mesh) (answer : PlanAnswer) (found left : Buffers) → firstFault (earlyChecks u m (lengthsOf found)) ≡ 0 → FilledChecked u m answer found left → Planned u m answer found left
 unfolding planning planChecks planningChecked buffersTooShort capacity
-planned-checked m answer found left e h =
-    let nine : Checks = (9, rowsTooShort (planOf m) (capacity found)) ∷ [] in
-    let first : firstFault (planChecks m (capacity found)) ≡ firstFault nine = unfold meshChecks in first-none (earlyChecks m (lengthsOf found)) nine refl e in
-    promised m answer found left (rw first h)
+planned-checked u m answer found left e h =
+    let nine : Checks = (9, rowsTooShort (planOf u m) (capacity found)) ∷ [] in
+    let first : firstFault (planChecks u m (capacity found)) ≡ firstFault nine = unfold meshChecks in first-none (earlyChecks u m (lengthsOf found)) nine refl e in
+    promised u m answer found left (rw first h)

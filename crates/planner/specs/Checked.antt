@@ -1,18 +1,19 @@
--- What planning owes once checks 1 to 8 are passed.
+-- What planning owes once checks 28 and 1 to 8 are passed.
 use mathlib.Core.List.{[], _∷_, _++_}
+use Prim.Native.Nat.{ℕ}
 use Rattle.plan.specs.declared.PlanAnswer.{PlanAnswer}
 use Rattle.plan.specs.Refusals.{Checks, firstFault}
 use Rattle.plan.specs.Mesh.{Mesh, meshChecks}
-use Rattle.plan.specs.Planning.{Buffers, Capacity, Outcome, Filled, planOf, buffersTooShort, rowsTooShort, capacity, handOut}
+use Rattle.plan.specs.Planning.{Buffers, Capacity, Outcome, Filled, planOf, badUnknowns, buffersTooShort, rowsTooShort, capacity, handOut}
 
--- checks 1 to 8
-abbrev pub earlyChecks : Mesh → Capacity → Checks
-earlyChecks m room = meshChecks m ++ ((8, buffersTooShort (m .nodes) room) ∷ [])
+-- checks 28 and 1 to 8
+abbrev pub earlyChecks : ℕ → Mesh → Capacity → Checks
+earlyChecks unknowns m room = (28, badUnknowns unknowns) ∷ (meshChecks m ++ ((8, buffersTooShort (m .nodes) room) ∷ []))
 
--- planning where checks 1 to 8 find no fault: check 9 is left
-unfoldable pub planningChecked : Mesh → Capacity → Outcome
-planningChecked m room = handOut (firstFault ((9, rowsTooShort (planOf m) room) ∷ [])) (planOf m)
+-- planning where they find no fault: check 9 is left
+unfoldable pub planningChecked : ℕ → Mesh → Capacity → Outcome
+planningChecked unknowns m room = handOut (firstFault ((9, rowsTooShort (planOf unknowns m) room) ∷ [])) (planOf unknowns m)
 
 -- an answer and buffers that agree with it
-abbrev pub FilledChecked : Mesh → PlanAnswer → Buffers → Buffers → Type 0
-FilledChecked m answer found left = Filled (planningChecked m (capacity found)) answer found left
+abbrev pub FilledChecked : ℕ → Mesh → PlanAnswer → Buffers → Buffers → Type 0
+FilledChecked unknowns m answer found left = Filled (planningChecked unknowns m (capacity found)) answer found left

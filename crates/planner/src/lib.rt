@@ -19,7 +19,7 @@ ghost use mathlib.Core.List.{map, flatten};
 ghost use Prim.Native.Nat.{_≤_, _<_};
 ghost use lib.ListN.{length, take};
 ghost use Rattle.plan.specs.Refusals.{firstFault};
-ghost use Rattle.plan.specs.Planning.{buffersTooShort, lengths, buffers, Planned};
+ghost use Rattle.plan.specs.Planning.{badUnknowns, buffersTooShort, lengths, buffers, Planned};
 ghost use Rattle.plan.specs.Lists.{written};
 ghost use Rattle.plan.specs.Mesh.{lent};
 ghost use Rattle.plan.specs.Dissection.{positions as positionsOf};
@@ -29,8 +29,9 @@ ghost use Rattle.theory.specs.Checked.{Checked};
 ghost use Rattle.layout.specs.Arrays.{Tree};
 ghost use Rattle.planner.specs.Checked.{earlyChecks, FilledChecked};
 
-// The first refusal of the checks of the mesh and of 8, 0 for none. O(n + 26 · entries).
+// The first refusal of check 28, of the checks of the mesh and of 8, 0 for none. O(n + 26 · entries).
 fn refusal(
+    unknowns: usize,
     n: usize,
     starts: &[u32],
     neighbours: &[u16],
@@ -40,8 +41,11 @@ fn refusal(
     parents: usize,
     columnStarts: usize,
 ) -> u32
-    ensures { λ r. ⌜ r ≡ firstFault (earlyChecks (lent n (now (starts .entry)) (now (neighbours .entry))) (lengths order positions sizes parents columnStarts 0)) ⌝ }
+    ensures { λ r. ⌜ r ≡ firstFault (earlyChecks unknowns (lent n (now (starts .entry)) (now (neighbours .entry))) (lengths order positions sizes parents columnStarts 0)) ⌝ }
 {
+    if Plan::bad_unknowns(unknowns) {
+        return 28;
+    }
     let fault = check(n, starts, neighbours);
     if fault != 0 {
         return fault;
@@ -109,6 +113,7 @@ fn lay_out(
 // The plan of a mesh that has passed all checks before 9, or refusal 9 once the slots are counted. Nothing is written before. O(dissection + slots +
 // entries + the ways up the elimination tree).
 fn plan_checked(
+    unknowns: usize,
     n: usize,
     starts: &[u32],
     neighbours: &[u16],
@@ -121,7 +126,8 @@ fn plan_checked(
 ) -> PlanAnswer
     requires { ⌜ Checked (lent n (now starts) (now neighbours)) ⌝ }
     requires { ⌜ buffersTooShort n (lengths (length (now order)) (length (now positions)) (length (now sizes)) (length (now parents)) (length (now columnStarts)) 0) ≡ false ⌝ }
-    ensures { λ r. ⌜ FilledChecked (lent n (now (starts .entry)) (now (neighbours .entry))) r
+    requires { ⌜ badUnknowns unknowns ≡ false ⌝ }
+    ensures { λ r. ⌜ FilledChecked unknowns (lent n (now (starts .entry)) (now (neighbours .entry))) r
         (buffers (now (order .entry)) (now (positions .entry)) (now (sizes .entry)) (now (parents .entry)) (now (columnStarts .entry)) (now (rows .entry)))
         (buffers (now (order .exit)) (now (positions .exit)) (now (sizes .exit)) (now (parents .exit)) (now (columnStarts .exit)) (now (rows .exit))) ⌝ }
 {
@@ -148,12 +154,19 @@ fn plan_checked(
         columnStarts,
         rows,
     );
-    PlanAnswer::Accepted(Plan::new(n as u32, count as u32, slots, totals.multiplications))
+    PlanAnswer::Accepted(Plan::new(
+        n as u32,
+        count as u32,
+        slots,
+        unknowns as u32,
+        totals.multiplications,
+    ))
 }
 
-// Planning: checks 1 to 6, 26, 7, 8 and 9 in this order, then the plan in the lent buffers. O(n + 26 · entries + dissection + slots + the ways up
+// Planning: checks 28, 1 to 6, 26, 7, 8 and 9 in this order, then the plan in the lent buffers. O(n + 26 · entries + dissection + slots + the ways up
 // the elimination tree).
 pub fn plan(
+    unknowns: usize,
     n: usize,
     starts: &[u32],
     neighbours: &[u16],
@@ -164,11 +177,12 @@ pub fn plan(
     columnStarts: &mut [u32],
     rows: &mut [u16],
 ) -> PlanAnswer
-    ensures { λ r. ⌜ Planned (lent n (now (starts .entry)) (now (neighbours .entry))) r
+    ensures { λ r. ⌜ Planned unknowns (lent n (now (starts .entry)) (now (neighbours .entry))) r
         (buffers (now (order .entry)) (now (positions .entry)) (now (sizes .entry)) (now (parents .entry)) (now (columnStarts .entry)) (now (rows .entry)))
         (buffers (now (order .exit)) (now (positions .exit)) (now (sizes .exit)) (now (parents .exit)) (now (columnStarts .exit)) (now (rows .exit))) ⌝ }
 {
     let fault = refusal(
+        unknowns,
         n,
         starts,
         neighbours,
@@ -182,6 +196,7 @@ pub fn plan(
         return PlanAnswer::Refused(fault);
     }
     plan_checked(
+        unknowns,
         n,
         starts,
         neighbours,

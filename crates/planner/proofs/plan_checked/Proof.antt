@@ -10,6 +10,7 @@ use Rattle.plan.specs.Mesh.{Mesh, lent}
 use Rattle.plan.specs.Elimination.{columns}
 use Rattle.plan.specs.Planning.{Buffers, planOf, handOut, fill, buffers}
 use Rattle.theory.specs.Checked.{Checked}
+use Rattle.theory.proofs.Fitting.{unknowns-limits}
 use Rattle.theory.proofs.Handed.{Room, enough-room, lengthsOf}
 use Rattle.dissection.specs.Blocks.{Dissected}
 use Rattle.dissection.proofs.Heads.{dissected-parts}
@@ -50,7 +51,7 @@ dissected d = d .dissect .ensures
 
 -- the buffers passed check 8
 room : (d : tie.After-dissect) → Room (mesh d .nodes) (lengthsOf (found d))
-room d = enough-room (mesh d .nodes) (lengthsOf (found d)) (start d .pre .1)
+room d = enough-room (mesh d .nodes) (lengthsOf (found d)) (start d .pre .1 .0)
 
 -- ---- the columns are counted
 
@@ -94,14 +95,14 @@ index-requires : tie.Need-index-requires
 index-requires c κs = search needs
 
 -- the slots are the plan's
-slots : (i : tie.After-index) → i .index .result ≡ planOf (mesh (divided (summed i))) .slots
+slots : (i : tie.After-index) → i .index .result ≡ planOf (start (divided (summed i)) .args .unknowns) (mesh (divided (summed i))) .slots
 slots i =
     let t = summed i in
     let d = divided t in
-    i .index .ensures ∙ t .sum .ensures .0 ∙ counted-slots (mesh d) (good d) (held d) (heads d) (count d) (dissected d) _ (counts t)
+    i .index .ensures ∙ t .sum .ensures .0 ∙ counted-slots (start d .args .unknowns) (mesh d) (good d) (held d) (heads d) (count d) (dissected d) _ (counts t)
 
 returns : tie.Need-returns
-returns c = let d = divided (summed (c .before)) in checked-refused (mesh d) (found d) (omega (arith, slots (c .before), c .if1 .taken))
+returns c = let d = divided (summed (c .before)) in checked-refused (start d .args .unknowns) (mesh d) (found d) (omega (arith, slots (c .before), c .if1 .taken))
 
 -- ---- the plan is written
 
@@ -136,7 +137,7 @@ lay-out-requires c κs =
     let t = total p in
     let d = divided t in
     let fit : length (flatten (columns (mesh d) (take (mesh d .nodes) (held d)))) ≤ length (found d .rows) =
-    omega (arith, held-slots (mesh d) (good d) (held d) (heads d) (count d) (dissected d), slots (e .before), e .if1 .left) in (
+    omega (arith, held-slots (start d .args .unknowns) (mesh d) (good d) (held d) (heads d) (count d) (dissected d), slots (e .before), e .if1 .left) in (
       (good d, held-long d, dissected-order (mesh d) (held d) (heads d) (count d) (dissected d), tree-long t, counted t .count-columns .ensures .1),
       ((counts-long t, counts t), (room d .positions, room d .columnStarts, fit)),
     )
@@ -147,6 +148,11 @@ cast-new c = omega (arith, good (divided (total (parted (c .before .before .befo
 cast-new-2 : tie.Need-cast-new-2
 cast-new-2 c = let d = divided (total (parted (c .before .before .before .before .before .before))) in omega (arith, good d .few, parts-within (mesh d) (held d) (heads d) (count d) (dissected d))
 
+cast-new-3 : tie.Need-cast-new-3
+cast-new-3 c =
+    let s = start (divided (total (parted (c .before .before .before .before .before .before)))) in
+    omega (arith, unknowns-limits (s .args .unknowns) (s .pre .1 .1))
+
 returns-2 : tie.Need-returns-2
 unfolding handOut fill heldPlan
 returns-2 c =
@@ -156,9 +162,9 @@ returns-2 c =
     let e = enough (p .before) in
     let t = total p in
     let d = divided t in
-    checked-accepted (mesh d) (good d) (held d) (heads d) (count d) (dissected d) (Accepted (c .new .result)) (found d) _ (omega (arith, slots (e .before), e .if1 .left))
+    checked-accepted (start d .args .unknowns) (mesh d) (good d) (held d) (heads d) (count d) (dissected d) (Accepted (c .new .result)) (found d) _ (omega (arith, slots (e .before), e .if1 .left))
     (record {
-      reply = held-reply (mesh d) (held d) (heads d) (count d) _ (t .sum .result .slots) (t .sum .result .multiplications) (c .new .result) (counts t) (t .sum .ensures .0) (t .sum .ensures .1) (c .new .ensures);
+      reply = held-reply (start d .args .unknowns) (mesh d) (held d) (heads d) (count d) _ (t .sum .result .slots) (t .sum .result .multiplications) (c .new .result) (counts t) (t .sum .ensures .0) (t .sum .ensures .1) (c .new .ensures);
       order = o .write-order .ensures;
       positions = l .lay-out .ensures .0;
       sizes = p .write-parts .ensures .0;
@@ -188,8 +194,9 @@ plan-checked-spec =
     lay-out-requires
     cast-new
     cast-new-2
+    cast-new-3
     (λ c κs. search needs)
-    (λ c. search needs)
+    (λ c. ordered (parted (c .before .before .before .before .before .before .before) .before) .write-order .kept .1 .1 .0)
     (λ c. search needs)
     (λ c. search needs)
     (λ c. search needs)
