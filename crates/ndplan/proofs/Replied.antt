@@ -23,7 +23,7 @@ use Rattle.ndplan.specs.Replies.{ndpPlan, ndpWritten, ndpMesh, planAnswe
 handed-out : (fault : ℕ) (c : Contents) → refused 0 ≡ handOut fault c .reply → ⊥
 unfolding handOut
 handed-out zero c e =
-    let z : _≡_ {A = ℕ} 0 4 = ap (λ (r : Reply). length (r .values)) e in
+    let z : _≡_ {A = ℕ} 0 5 = ap (λ (r : Reply). length (r .values)) e in
     absurd (omega arith)
 handed-out (suc k) c e =
     let z : _≡_ {A = ℕ} 0 (suc k) = ap (λ (r : Reply). r .number) e in
@@ -65,7 +65,7 @@ mesh-told fault m (mesh.Accepted c) h = refl
 mesh-told fault m (mesh.Refused zero) h = absurd (mesh-out fault m h)
 mesh-told fault m (mesh.Refused (suc k)) h = rw (ne-eqb (suc k) 0 (λ e. omega arith))
 
-pub planned-told : {m : Mesh} (answer : PlanAnswer) {found left : Buffers} → Planned m answer found left → planAnswerOf (ndpPlan (planReply answer)) ≡ answer
+pub planned-told : {u : ℕ} {m : Mesh} (answer : PlanAnswer) {found left : Buffers} → Planned u m answer found left → planAnswerOf (ndpPlan (planReply answer)) ≡ answer
 unfolding planning
 planned-told answer h = plan-told _ _ answer (h .filled .reply)
 

@@ -20,7 +20,7 @@ use Rattle.ndplan.specs.declared.replies.NdpRows.{NdpRows}
 use Rattle.ndplan.specs.declared.replies.NdpPair.{NdpPair}
 use Rattle.ndplan.specs.declared.replies.NdpMesh.{NdpMesh}
 
--- The number of the refusal, then the values in their order. A refusal has no values, so that every other field is 0, as is the slot of "diagonal"
+-- The number of the refusal, and the values by their place in the reply. A refusal has no values, so that every other field is 0, as is the slot of "diagonal"
 -- and "no slot".
 abbrev pub ndpPlan : Reply → NdpPlan
 ndpPlan r = record {
@@ -28,6 +28,7 @@ ndpPlan r = record {
   nodes = getD (r .values) 0 0;
   parts = getD (r .values) 1 0;
   slots = getD (r .values) 2 0;
+  unknowns = getD (r .values) 4 0;
   multiplications = getD (r .values) 3 0;
 }
 
@@ -59,7 +60,7 @@ familyNumber Question = 4
 abbrev pub planAnswerOf : NdpPlan → PlanAnswer
 planAnswerOf r =
     cond (eqb (r .refusal) 0)
-    (plan.Accepted (record { nodes = r .nodes; parts = r .parts; slots = r .slots; multiplications = r .multiplications }))
+    (plan.Accepted (record { nodes = r .nodes; parts = r .parts; slots = r .slots; unknowns = r .unknowns; multiplications = r .multiplications }))
     (plan.Refused (r .refusal))
 
 abbrev pub writeAnswerOf : NdpWritten → WriteAnswer

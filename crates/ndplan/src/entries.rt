@@ -32,6 +32,7 @@ ghost use Rattle.ndplan.specs.Replies.{planAnswerOf, writeAnswerOf, mesh
 // Planning, as planner::plan does it, at its cost.
 #[no_mangle]
 pub extern "C" fn ndp_plan(
+    unknowns: usize,
     n: usize,
     starts: &[u32],
     neighbours: &[u16],
@@ -42,12 +43,13 @@ pub extern "C" fn ndp_plan(
     columnStarts: &mut [u32],
     rows: &mut [u16],
 ) -> NdpPlan
-    ensures { λ r. ⌜ Planned (lent n (now (starts .entry)) (now (neighbours .entry))) (planAnswerOf r)
+    ensures { λ r. ⌜ Planned unknowns (lent n (now (starts .entry)) (now (neighbours .entry))) (planAnswerOf r)
         (buffers (now (order .entry)) (now (positions .entry)) (now (sizes .entry)) (now (parents .entry)) (now (columnStarts .entry)) (now (rows .entry)))
         (buffers (now (order .exit)) (now (positions .exit)) (now (sizes .exit)) (now (parents .exit)) (now (columnStarts .exit)) (now (rows .exit)))
         × (r ≡ ndpPlan (planReply (planAnswerOf r))) ⌝ }
 {
     plan_reply(plan(
+        unknowns,
         n,
         starts,
         neighbours,
@@ -82,6 +84,7 @@ pub extern "C" fn ndp_read(
 // Writing, as planfile::write does it, at its cost.
 #[no_mangle]
 pub extern "C" fn ndp_write(
+    unknowns: usize,
     n: usize,
     p: usize,
     s: usize,
@@ -92,10 +95,21 @@ pub extern "C" fn ndp_write(
     rows: &[u16],
     file: &mut [u8],
 ) -> NdpWritten
-    ensures { λ r. ⌜ Wrote (contents n p s (now (order .entry)) (now (sizes .entry)) (now (parents .entry)) (now (columnStarts .entry)) (now (rows .entry))) (writeAnswerOf r) (now (file .entry)) (now (file .exit))
+    ensures { λ r. ⌜ Wrote (contents unknowns n p s (now (order .entry)) (now (sizes .entry)) (now (parents .entry)) (now (columnStarts .entry)) (now (rows .entry))) (writeAnswerOf r) (now (file .entry)) (now (file .exit))
         × (r ≡ ndpWritten (writeReply (writeAnswerOf r))) ⌝ }
 {
-    write_reply(write(n, p, s, order, sizes, parents, columnStarts, rows, file))
+    write_reply(write(
+        unknowns,
+        n,
+        p,
+        s,
+        order,
+        sizes,
+        parents,
+        columnStarts,
+        rows,
+        file,
+    ))
 }
 
 // The first question, as layout::slot_of_pair answers it. O(n + slots).

@@ -10,13 +10,14 @@ ghost use mathlib.Core.Path.{_≡_};
 ghost use Rattle.plan.specs.Answers.{planReply, writeReply, pairReply, slotReply, meshReply};
 ghost use Rattle.ndplan.specs.Replies.{ndpPlan, ndpWritten, ndpSlot, ndpPair, ndpMesh, familyNumber};
 
-// What planning and reading answer: the refusal's number, 0 for none, and the counts of the plan.
+// What planning and reading answer: the refusal's number, 0 for none, the counts of the plan, and its unknowns for each node.
 #[repr(C)]
 pub struct NdpPlan {
     pub refusal: u32,
     pub nodes: u32,
     pub parts: u32,
     pub slots: u32,
+    pub unknowns: u32,
     pub multiplications: u64,
 }
 
@@ -70,6 +71,7 @@ pub(crate) fn plan_reply(answer: PlanAnswer) -> NdpPlan
             nodes: p.nodes,
             parts: p.parts,
             slots: p.slots,
+            unknowns: p.unknowns,
             multiplications: p.multiplications,
         },
         PlanAnswer::Refused(k) => NdpPlan {
@@ -77,6 +79,7 @@ pub(crate) fn plan_reply(answer: PlanAnswer) -> NdpPlan
             nodes: 0,
             parts: 0,
             slots: 0,
+            unknowns: 0,
             multiplications: 0,
         },
     }

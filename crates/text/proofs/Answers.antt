@@ -15,8 +15,8 @@ use Rattle.plan.specs.Refusals.{Checks, firstFault}
 use Rattle.plan.specs.Answers.{Reply}
 use Rattle.plan.specs.Mesh.{Mesh, meshChecks}
 use Rattle.plan.specs.Elimination.{columns}
-use Rattle.plan.specs.Planning.{planBy, planOf, Buffers, Capacity, capacity, buffersTooShort, rowsTooShort, planChecks, handOut, planning, Filled, Planned}
-use Rattle.plan.specs.Listing.{maxListedNodes, inputMesh, badInput, listingChecks, headLine, positionLine, refusalLine, print, listing}
+use Rattle.plan.specs.Planning.{planBy, planOf, Buffers, Capacity, capacity, badUnknowns, buffersTooShort, rowsTooShort, planChecks, handOut, planning, Filled, Planned}
+use Rattle.plan.specs.Listing.{maxListedNodes, inputMesh, badInput, listingChecks, headLine, positionLine, refusalLine, print, listedPlan, listing}
 use Rattle.theory.proofs.Bools.{tested}
 use Rattle.theory.proofs.Written.{front-written}
 use Rattle.theory.proofs.Refusals.{first-nil, fault-here, fault-later, none-behind, fault-below}
@@ -64,24 +64,25 @@ module _ (m : Mesh) (few : m .nodes ≤ maxListedNodes) where
       (le-ltb (room .columnStarts) (m .nodes + 1) (omega (arith, r .columnStarts)))
 
   -- and so are the rows
-  rows-enough : (room : Capacity) → Roomy room → rowsTooShort (planOf m) room ≡ false
+  rows-enough : (room : Capacity) → Roomy room → rowsTooShort (listedPlan m) room ≡ false
   unfolding rowsTooShort
-  rows-enough room r = le-ltb (room .rows) (planOf m .slots) (omega (arith, r .rows, slots-at-most m few))
+  rows-enough room r = le-ltb (room .rows) (listedPlan m .slots) (omega (arith, r .rows, slots-at-most m few))
 
   -- so planning's first fault is the mesh's
-  same-fault : (room : Capacity) → Roomy room → firstFault (planChecks m room) ≡ firstFault (meshChecks m)
-  unfolding planChecks
+  same-fault : (room : Capacity) → Roomy room → firstFault (planChecks 1 m room) ≡ firstFault (meshChecks m)
+  unfolding planChecks badUnknowns
   same-fault room r =
-      let nine : Checks = (9, rowsTooShort (planOf m) room) ∷ [] in
-      none-behind (meshChecks m) ((8, buffersTooShort (m .nodes) room) ∷ nine)
-      (fault-later 8 (buffersTooShort (m .nodes) room) nine (long-enough room r) ∙ fault-later 9 (rowsTooShort (planOf m) room) [] (rows-enough room r) ∙ first-nil)
+      let nine : Checks = (9, rowsTooShort (listedPlan m) room) ∷ [] in
+      fault-later 28 (badUnknowns 1) _ refl
+      ∙ none-behind (meshChecks m) ((8, buffersTooShort (m .nodes) room) ∷ nine)
+      (fault-later 8 (buffersTooShort (m .nodes) room) nine (long-enough room r) ∙ fault-later 9 (rowsTooShort (listedPlan m) room) [] (rows-enough room r) ∙ first-nil)
 
   -- the text fits
   pub mesh-fits : length (meshText m) ≤ longest
   unfolding meshText
   mesh-fits = go (firstFault (meshChecks m)) (mesh-fault m)
     where
-      go : (k : ℕ) → k < 100 → length (print k (planOf m)) ≤ longest
+      go : (k : ℕ) → k < 100 → length (print k (listedPlan m)) ≤ longest
       go zero h = plan-fits m few
       go (suc k) h = unfold print in omega (arith, refusal-fits (suc k) h)
 
@@ -99,63 +100,63 @@ within-longer starts entries more rest j w =
     }
 
 -- each column of a plan lies within the rows
-column-within : (m : Mesh) (j : ℕ) → j < m .nodes → ListWithin (planOf m .columnStarts) (planOf m .rows) j
+column-within : (m : Mesh) (j : ℕ) → j < m .nodes → ListWithin (listedPlan m .columnStarts) (listedPlan m .rows) j
 unfolding planOf planBy
 column-within m j h =
-    let last : getD (planOf m .columnStarts) (m .nodes) 0 ≡ length (planOf m .rows) = simp append-nil at (slots-last m (planOf m .order) []) in
-    good-starts-within (m .nodes) (planOf m .columnStarts) (planOf m .rows) (columns-starts m (planOf m .order)) (omega (arith, last)) j h
+    let last : getD (listedPlan m .columnStarts) (m .nodes) 0 ≡ length (listedPlan m .rows) = simp append-nil at (slots-last m (listedPlan m .order) []) in
+    good-starts-within (m .nodes) (listedPlan m .columnStarts) (listedPlan m .rows) (columns-starts m (listedPlan m .order)) (omega (arith, last)) j h
 
-module _ (m : Mesh) (p : Plan) (found left : Buffers) (h : Holds (planOf m) p found left) where
+module _ (m : Mesh) (p : Plan) (found left : Buffers) (h : Holds (listedPlan m) p found left) where
   -- the answer shows as many nodes as the mesh has
   nodes : p .nodes ≡ m .nodes
-  nodes = h .nodes ∙ planned-nodes m
+  nodes = h .nodes ∙ planned-nodes 1 m
 
   -- the order has a node for each position
-  many : length (planOf m .order) ≡ m .nodes
-  many = order-length (m .nodes) (planOf m .order) (planned-once m)
+  many : length (listedPlan m .order) ≡ m .nodes
+  many = order-length (m .nodes) (listedPlan m .order) (planned-once 1 m)
 
   -- the order and the sizes stand at the front
-  order-front : take (p .nodes) (left .order) ≡ planOf m .order
-  order-front = front-written (p .nodes) (planOf m .order) (found .order) (left .order) (h .order) (many ∙ sym nodes)
+  order-front : take (p .nodes) (left .order) ≡ listedPlan m .order
+  order-front = front-written (p .nodes) (listedPlan m .order) (found .order) (left .order) (h .order) (many ∙ sym nodes)
 
-  sizes-front : take (p .parts) (left .sizes) ≡ planOf m .sizes
-  sizes-front = front-written (p .parts) (planOf m .sizes) (found .sizes) (left .sizes) (h .sizes) (planned-sizes m ∙ sym (h .parts))
+  sizes-front : take (p .parts) (left .sizes) ≡ listedPlan m .sizes
+  sizes-front = front-written (p .parts) (listedPlan m .sizes) (found .sizes) (left .sizes) (h .sizes) (planned-sizes 1 m ∙ sym (h .parts))
 
   -- and so do the columns
-  column-front : (j : ℕ) → j < m .nodes → listAt (left .columnStarts) (left .rows) j ≡ listAt (planOf m .columnStarts) (planOf m .rows) j
+  column-front : (j : ℕ) → j < m .nodes → listAt (left .columnStarts) (left .rows) j ≡ listAt (listedPlan m .columnStarts) (listedPlan m .rows) j
   unfolding planOf planBy
   column-front j l =
       rw (h .columnStarts, h .rows)
-      (column-listed m (planOf m .order) (drop (length (planOf m .columnStarts)) (found .columnStarts)) (drop (length (planOf m .rows)) (found .rows)) j l
-      ∙ sym (column-at m (planOf m .order) j l))
+      (column-listed m (listedPlan m .order) (drop (length (listedPlan m .columnStarts)) (found .columnStarts)) (drop (length (listedPlan m .rows)) (found .rows)) j l
+      ∙ sym (column-at m (listedPlan m .order) j l))
 
   -- the buffers hold the plan
   plan-within : PlanWithin (p .nodes) (p .parts) (left .order) (left .sizes) (left .columnStarts) (left .rows)
   plan-within =
       record {
-        nodes = omega (arith, nodes, many, ap length (h .order), length-append (planOf m .order) (drop (length (planOf m .order)) (found .order)));
-        parts = omega (arith, h .parts, planned-sizes m, ap length (h .sizes), length-append (planOf m .sizes) (drop (length (planOf m .sizes)) (found .sizes)));
-        columns = λ j l. rw (h .columnStarts, h .rows) (within-longer (planOf m .columnStarts) (planOf m .rows) _ _ j (column-within m j (omega (arith, nodes))));
+        nodes = omega (arith, nodes, many, ap length (h .order), length-append (listedPlan m .order) (drop (length (listedPlan m .order)) (found .order)));
+        parts = omega (arith, h .parts, planned-sizes 1 m, ap length (h .sizes), length-append (listedPlan m .sizes) (drop (length (listedPlan m .sizes)) (found .sizes)));
+        columns = λ j l. rw (h .columnStarts, h .rows) (within-longer (listedPlan m .columnStarts) (listedPlan m .rows) _ _ j (column-within m j (omega (arith, nodes))));
       }
 
   -- its lines are those of the plan of the mesh
-  lines-same : linesOf (planOf m .order) (planOf m .sizes) (left .columnStarts) (left .rows) ≡ flatten (map (positionLine (planOf m)) (below (m .nodes)))
+  lines-same : linesOf (listedPlan m .order) (listedPlan m .sizes) (left .columnStarts) (left .rows) ≡ flatten (map (positionLine (listedPlan m)) (below (m .nodes)))
   unfolding positionLine
   lines-same =
       rw many
-      (ap flatten (map-ext-upFrom (positionLine (shown 0 0 0 (planOf m .order) (planOf m .sizes) (left .columnStarts) (left .rows))) (positionLine (planOf m)) (m .nodes) 0
+      (ap flatten (map-ext-upFrom (positionLine (shown 0 0 0 (listedPlan m .order) (listedPlan m .sizes) (left .columnStarts) (left .rows))) (positionLine (listedPlan m)) (m .nodes) 0
       (λ j l u. rw (column-front j (omega arith)))))
 
   -- and so is its first line
-  head-same : headOf (p .nodes) (p .parts) (p .slots) ≡ headLine (planOf m)
-  head-same = rw (h .nodes, h .parts, h .slots) (sym (head-counts (planOf m)))
+  head-same : headOf (p .nodes) (p .parts) (p .slots) ≡ headLine (listedPlan m)
+  head-same = rw (h .nodes, h .parts, h .slots) (sym (head-counts (listedPlan m)))
 
   -- so it is listed as that plan
-  plan-text : print 0 (lentPlan (p .nodes) (p .parts) (p .slots) (left .order) (left .sizes) (left .columnStarts) (left .rows)) ≡ print 0 (planOf m)
+  plan-text : print 0 (lentPlan (p .nodes) (p .parts) (p .slots) (left .order) (left .sizes) (left .columnStarts) (left .rows)) ≡ print 0 (listedPlan m)
   unfolding print
   plan-text =
       plan-parts (p .nodes) (p .parts) (p .slots) (left .order) (left .sizes) (left .columnStarts) (left .rows) (plan-within .nodes)
-      ∙ rw (order-front, sizes-front, lines-same, head-same) (ap (λ (n : ℕ). headLine (planOf m) ++ flatten (map (positionLine (planOf m)) (below n))) (sym (planned-nodes m)))
+      ∙ rw (order-front, sizes-front, lines-same, head-same) (ap (λ (n : ℕ). headLine (listedPlan m) ++ flatten (map (positionLine (listedPlan m)) (below n))) (sym (planned-nodes 1 m)))
 
 -- ---- an answer
 
@@ -165,25 +166,25 @@ pub record Listed (answer : PlanAnswer) (left : Buffers) (text : List ℕ) : Typ
   pub held : AnswerWithin answer (left .order) (left .sizes) (left .columnStarts) (left .rows)
 
 -- a plan
-accepted-listed : (m : Mesh) (answer : PlanAnswer) (found left : Buffers) → Filled (handOut 0 (planOf m)) answer found left → Listed answer left (print 0 (planOf m))
+accepted-listed : (m : Mesh) (answer : PlanAnswer) (found left : Buffers) → Filled (handOut 0 (listedPlan m)) answer found left → Listed answer left (print 0 (listedPlan m))
 unfolding answerText AnswerWithin handOut
-accepted-listed m (Accepted p) found left h = let held = accepted-holds (planOf m) p found left h in record { same = plan-text m p found left held; held = plan-within m p found left held }
+accepted-listed m (Accepted p) found left h = let held = accepted-holds (listedPlan m) p found left h in record { same = plan-text m p found left held; held = plan-within m p found left held }
 accepted-listed m (Refused j) found left h = absurd (omega (arith, ap (λ (r : Reply). length (r .values)) (h .reply)))
 
 -- a refusal
-refused-listed : (k : ℕ) (m : Mesh) (answer : PlanAnswer) (found left : Buffers) → Filled (handOut (suc k) (planOf m)) answer found left → Listed answer left (print (suc k) (planOf m))
+refused-listed : (k : ℕ) (m : Mesh) (answer : PlanAnswer) (found left : Buffers) → Filled (handOut (suc k) (listedPlan m)) answer found left → Listed answer left (print (suc k) (listedPlan m))
 unfolding handOut answerText AnswerWithin print
 refused-listed k m (Accepted p) found left h = absurd (omega (arith, ap (λ (r : Reply). r .number) (h .reply)))
 refused-listed k m (Refused j) found left h = record { same = ap refusalLine (ap (λ (r : Reply). r .number) (h .reply)); held = tt }
 
 -- planning's answer, where the buffers are long enough
-pub planned-listed : (m : Mesh) → m .nodes ≤ maxListedNodes → (answer : PlanAnswer) (found left : Buffers) → Roomy (capacity found) → Planned m answer found left
+pub planned-listed : (m : Mesh) → m .nodes ≤ maxListedNodes → (answer : PlanAnswer) (found left : Buffers) → Roomy (capacity found) → Planned 1 m answer found left
     → Listed answer left (meshText m)
 unfolding planning meshText
 planned-listed m few answer found left room h =
-    go (firstFault (meshChecks m)) (subst (λ (k : ℕ). Filled (handOut k (planOf m)) answer found left) (same-fault m few (capacity found) room) (h .filled))
+    go (firstFault (meshChecks m)) (subst (λ (k : ℕ). Filled (handOut k (listedPlan m)) answer found left) (same-fault m few (capacity found) room) (h .filled))
   where
-    go : (k : ℕ) → Filled (handOut k (planOf m)) answer found left → Listed answer left (print k (planOf m))
+    go : (k : ℕ) → Filled (handOut k (listedPlan m)) answer found left → Listed answer left (print k (listedPlan m))
     go zero f = accepted-listed m answer found left f
     go (suc k) f = refused-listed k m answer found left f
 
@@ -192,12 +193,12 @@ planned-listed m few answer found left room h =
 -- input that fails check 20 is refused
 pub listing-refused : (bytes : List ℕ) → badInput bytes ≡ true → listing bytes ≡ refusalLine 20
 unfolding listing listingChecks print
-listing-refused bytes h = ap (λ (k : ℕ). print k (planOf (inputMesh bytes))) (fault-here 20 (badInput bytes) (meshChecks (inputMesh bytes)) h)
+listing-refused bytes h = ap (λ (k : ℕ). print k (listedPlan (inputMesh bytes))) (fault-here 20 (badInput bytes) (meshChecks (inputMesh bytes)) h)
 
 -- other input is listed by the mesh that it holds
 pub listing-mesh : (bytes : List ℕ) → badInput bytes ≡ false → listing bytes ≡ meshText (inputMesh bytes)
 unfolding listing listingChecks meshText
-listing-mesh bytes h = ap (λ (k : ℕ). print k (planOf (inputMesh bytes))) (fault-later 20 (badInput bytes) (meshChecks (inputMesh bytes)) h)
+listing-mesh bytes h = ap (λ (k : ℕ). print k (listedPlan (inputMesh bytes))) (fault-later 20 (badInput bytes) (meshChecks (inputMesh bytes)) h)
 
 -- every listing fits
 pub listing-fits : (bytes : List ℕ) → length (listing bytes) ≤ longest

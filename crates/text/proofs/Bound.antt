@@ -11,7 +11,7 @@ use Rattle.plan.specs.Mesh.{Mesh}
 use Rattle.plan.specs.Elimination.{column, columns}
 use Rattle.plan.specs.Parts.{partOf}
 use Rattle.plan.specs.Planning.{planBy, planOf}
-use Rattle.plan.specs.Listing.{maxListedNodes, headLine, lineOf, positionLine, refusalLine, print}
+use Rattle.plan.specs.Listing.{maxListedNodes, headLine, lineOf, positionLine, refusalLine, print, listedPlan}
 use Rattle.theory.specs.Rows.{isRow}
 use Rattle.theory.proofs.Lists.{isIn-head, isIn-tail}
 use Rattle.theory.proofs.Ranges.{isIn-below, length-upFrom}
@@ -77,62 +77,62 @@ head-few n p s hn hp hs =
 module _ (m : Mesh) (few : m .nodes ≤ maxListedNodes) where
   -- its column j
   abbrev rows : ℕ → List ℕ
-  rows j = column m (planOf m .order) j
+  rows j = column m (listedPlan m .order) j
 
   -- found by its starts
-  column-listed-at : (j : ℕ) → j < m .nodes → listAt (planOf m .columnStarts) (planOf m .rows) j ≡ rows j
+  column-listed-at : (j : ℕ) → j < m .nodes → listAt (listedPlan m .columnStarts) (listedPlan m .rows) j ≡ rows j
   unfolding planOf planBy
-  column-listed-at j h = column-at m (planOf m .order) j h
+  column-listed-at j h = column-at m (listedPlan m .order) j h
 
   -- its rows are positions
   row-inside : (i j : ℕ) → isIn i (rows j) ≡ true → i < m .nodes
   unfolding isRow
-  row-inside i j h = row-range m (planOf m .order) i j h .1
+  row-inside i j h = row-range m (listedPlan m .order) i j h .1
 
   -- a position's part is less than n
-  part-inside : (j : ℕ) → j < m .nodes → partOf (planOf m .sizes) j < m .nodes
-  part-inside j h = omega (arith, part-lt (planOf m .sizes) j (omega (arith, planned-tree m .whole)), planned-sizes m, planned-few m)
+  part-inside : (j : ℕ) → j < m .nodes → partOf (listedPlan m .sizes) j < m .nodes
+  part-inside j h = omega (arith, part-lt (listedPlan m .sizes) j (omega (arith, planned-tree 1 m .whole)), planned-sizes 1 m, planned-few 1 m)
 
   -- its slots: no more than pairs of positions
-  slots-within : planOf m .slots ≤ m .nodes * (m .nodes - 1) / 2
+  slots-within : listedPlan m .slots ≤ m .nodes * (m .nodes - 1) / 2
   unfolding planOf planBy
-  slots-within = slots-few m (planOf m .order)
+  slots-within = slots-few m (listedPlan m .order)
 
   -- they are the rows of all columns
-  slots-listed : planOf m .slots ≡ length (texts rows (below (m .nodes)))
+  slots-listed : listedPlan m .slots ≡ length (texts rows (below (m .nodes)))
   unfolding planOf planBy columns
   slots-listed = refl
 
   -- 256 · 255 / 2 of them at most
-  pub slots-at-most : planOf m .slots ≤ maxListedSlots
+  pub slots-at-most : listedPlan m .slots ≤ maxListedSlots
   slots-at-most =
       let fewer : m .nodes - 1 ≤ 255 = omega arith in
       let pairs : m .nodes * (m .nodes - 1) ≤ 256 * 255 = mul-le-mul few fewer in
       omega (arith, slots-within)
 
   -- a position's line
-  line : (j : ℕ) → isIn j (below (m .nodes)) ≡ true → length (positionLine (planOf m) j) ≤ 12 + 4 * length (rows j)
+  line : (j : ℕ) → isIn j (below (m .nodes)) ≡ true → length (positionLine (listedPlan m) j) ≤ 12 + 4 * length (rows j)
   unfolding positionLine
   line j i =
       let h : j < m .nodes = isIn-below (m .nodes) j i in
       rw (column-listed-at j h)
-      (line-few j (getD (planOf m .order) j 0) (partOf (planOf m .sizes) j) (rows j)
+      (line-few j (getD (listedPlan m .order) j 0) (partOf (listedPlan m .sizes) j) (rows j)
       (omega arith)
-      (omega (arith, order-inside (m .nodes) (planOf m .order) (planned-once m) j h))
+      (omega (arith, order-inside (m .nodes) (listedPlan m .order) (planned-once 1 m) j h))
       (omega (arith, part-inside j h))
       (λ r t. omega (arith, row-inside r j t)))
 
   -- the whole text
-  pub plan-fits : length (print 0 (planOf m)) ≤ longest
+  pub plan-fits : length (print 0 (listedPlan m)) ≤ longest
   unfolding print
   plan-fits =
       omega (
         arith,
-        length-append (headLine (planOf m)) (texts (positionLine (planOf m)) (below (planOf m .nodes))),
-        ap length (head-counts (planOf m)),
-        head-few (planOf m .nodes) (planOf m .parts) (planOf m .slots) (omega (arith, planned-nodes m)) (omega (arith, planned-few m)) (omega (arith, slots-at-most)),
-        ap (λ (n : ℕ). length (texts (positionLine (planOf m)) (below n))) (planned-nodes m),
-        lines-few (positionLine (planOf m)) rows (below (m .nodes)) line,
+        length-append (headLine (listedPlan m)) (texts (positionLine (listedPlan m)) (below (listedPlan m .nodes))),
+        ap length (head-counts (listedPlan m)),
+        head-few (listedPlan m .nodes) (listedPlan m .parts) (listedPlan m .slots) (omega (arith, planned-nodes 1 m)) (omega (arith, planned-few 1 m)) (omega (arith, slots-at-most)),
+        ap (λ (n : ℕ). length (texts (positionLine (listedPlan m)) (below n))) (planned-nodes 1 m),
+        lines-few (positionLine (listedPlan m)) rows (below (m .nodes)) line,
         length-upFrom (m .nodes) 0,
         slots-listed,
         slots-at-most,

@@ -7,17 +7,18 @@ use Rattle.plan.specs.declared.PlanAnswer.the-variants.{Accepted, Refused}
 use Rattle.plan.specs.Lists.{below}
 use Rattle.plan.specs.Refusals.{firstFault}
 use Rattle.plan.specs.Mesh.{Mesh, meshChecks}
-use Rattle.plan.specs.Planning.{Contents, planOf}
-use Rattle.plan.specs.Listing.{spaced, headLine, positionLine, refusalLine, print}
+use Rattle.plan.specs.Planning.{Contents}
+use Rattle.plan.specs.Listing.{spaced, headLine, positionLine, refusalLine, print, listedPlan}
 use Rattle.mesh.specs.Lists.{ListWithin}
 
 -- a word, and a number behind a space
 abbrev pub labelled : List ℕ → ℕ → List ℕ
 labelled word x = word ++ spaced (x ∷ [])
 
--- a plan by what the listing shows of it: all but the parents
+-- a plan by what the listing shows of it: all but the unknowns and the parents
 abbrev pub shown : ℕ → ℕ → ℕ → List ℕ → List ℕ → List ℕ → List ℕ → Contents
 shown nodes parts slots order sizes columnStarts rows = record {
+  unknowns = 1;
   nodes = nodes;
   parts = parts;
   slots = slots;
@@ -58,4 +59,4 @@ AnswerWithin (Refused k) order sizes columnStarts rows = Unit {0}
 
 -- the listing of a mesh: its plan, or the number of its first fault
 unfoldable pub meshText : Mesh → List ℕ
-meshText m = print (firstFault (meshChecks m)) (planOf m)
+meshText m = print (firstFault (meshChecks m)) (listedPlan m)

@@ -23,6 +23,8 @@ ghost use Rattle.text.specs.Put.{Put};
 ghost use Rattle.text.specs.Lines.{meshText};
 ghost use Rattle.text.specs.Room.{maxListedSlots, longest, blank};
 
+// the unknowns for each node that the plan of a listing is for
+const LISTED_UNKNOWNS: usize = 1;
 // the most slots of a mesh that is listed: 256 · 255 / 2
 const LISTED_SLOTS: usize = 32640;
 // How many bytes the text has room for. No listing is longer: the first line has at most 32 bytes, each of 256 lines at most 12 besides its rows, and
@@ -82,6 +84,7 @@ fn put_mesh(out: &mut [u8], n: usize, starts: &[u32], neighbours: &[u16]) -> usi
     let mut columnStarts = start_zeros();
     let mut rows = row_zeros();
     let answer = planner::plan(
+        LISTED_UNKNOWNS,
         n,
         starts,
         neighbours,

@@ -38,7 +38,7 @@ found c =
 -- and as planning leaves them
 abbrev left : tie.After-plan → Buffers
 left c =
-    let l = c .plan .last .1 .1 .1 in
+    let l = c .plan .last .1 .1 .1 .1 in
     record { order = l .0; positions = l .1 .0; sizes = l .1 .1 .0; parents = l .1 .1 .1 .0; columnStarts = l .1 .1 .1 .1 .0; rows = l .1 .1 .1 .1 .1 .0 }
 
 roomy : (c : tie.After-plan) → Roomy (capacity (found c))
