@@ -8,7 +8,9 @@
 #include <string.h>
 #include <time.h>
 
-enum { NODES = NDP_MAX_NODES, ENTRIES = NDP_MAX_ENTRIES, SLOTS = NDP_MAX_SLOTS, FILE_BYTES = 17 + 8 * NODES + 2 * SLOTS };
+enum { NODES = NDP_MAX_NODES, ENTRIES = NDP_MAX_ENTRIES, SLOTS = NDP_MAX_SLOTS, FILE_BYTES = NDP_FILE_LENGTH(NODES, NODES, SLOTS) };
+/* The unknowns for each node in every plan; no time depends on them. */
+enum { UNKNOWNS = NDP_MAX_UNKNOWNS };
 /* Every slice has GUARD entries more than the largest plan or mesh needs, and before a comparison every byte is FILL. */
 enum { GUARD = 8, FILL = 0xA5 };
 /* Questions for one timing, so that small layouts take long enough for the clock. */
@@ -68,11 +70,11 @@ static size_t asked_slots[QUESTIONS];
 
 static void plan_with(Program *p, size_t order_length, size_t rows_length) {
     Memory *m = p->memory;
-    p->reply = p->plan(mesh.nodes, mesh.starts, mesh.nodes + 1, mesh.neighbours, mesh.entries, m->order, order_length, m->positions, NODES + GUARD,
-                       m->sizes, NODES + GUARD, m->parents, NODES + GUARD, m->column_starts, NODES + 1 + GUARD, m->rows, rows_length);
+    p->reply = p->plan(UNKNOWNS, mesh.nodes, mesh.starts, mesh.nodes + 1, mesh.neighbours, mesh.entries, m->order, order_length, m->positions,
+                       NODES + GUARD, m->sizes, NODES + GUARD, m->parents, NODES + GUARD, m->column_starts, NODES + 1 + GUARD, m->rows, rows_length);
 }
 
-/* Up to refusal 8, which follows checks 1 to 7. */
+/* Up to refusal 8, which follows the checks of the unknowns and of the mesh. */
 static void up_to_check(Program *p) { plan_with(p, 0, SLOTS + GUARD); }
 
 static void up_to_order(Program *p) { p->parts = p->stage_order(mesh.nodes, mesh.starts, mesh.nodes + 1, mesh.neighbours, mesh.entries); }
@@ -84,8 +86,8 @@ static void whole_plan(Program *p) { plan_with(p, NODES + GUARD, SLOTS + GUARD);
 
 static void write_file(Program *p) {
     Memory *m = p->memory;
-    p->written = p->write(plan.nodes, plan.parts, plan.slots, m->order, NODES + GUARD, m->sizes, NODES + GUARD, m->parents, NODES + GUARD,
-                          m->column_starts, NODES + 1 + GUARD, m->rows, SLOTS + GUARD, m->file, FILE_BYTES + GUARD);
+    p->written = p->write(plan.unknowns, plan.nodes, plan.parts, plan.slots, m->order, NODES + GUARD, m->sizes, NODES + GUARD, m->parents,
+                          NODES + GUARD, m->column_starts, NODES + 1 + GUARD, m->rows, SLOTS + GUARD, m->file, FILE_BYTES + GUARD);
 }
 
 static void read_file(Program *p) {
@@ -135,7 +137,8 @@ static void run_both(int operation) {
 static int same_memory(void) { return memcmp(&plain_memory, &proved_memory, sizeof plain_memory) == 0; }
 
 static int same_plans(NdpPlan a, NdpPlan b) {
-    return a.refusal == b.refusal && a.nodes == b.nodes && a.parts == b.parts && a.slots == b.slots && a.multiplications == b.multiplications;
+    return a.refusal == b.refusal && a.nodes == b.nodes && a.parts == b.parts && a.slots == b.slots && a.unknowns == b.unknowns &&
+           a.multiplications == b.multiplications;
 }
 
 /* Whether nothing is written past the entries that the plan uses, `column_starts` of the column starts. A refusal's reply uses none. */
@@ -151,7 +154,7 @@ static int guards_kept(const Memory *m, NdpPlan used, size_t column_starts) {
 
 /* Up to the checks planning refuses with 8, and up to the count with 9, since every mesh here has slots; everything is left as it was. */
 static int compare_refusal(int operation, uint32_t number) {
-    NdpPlan refusal = {number, 0, 0, 0, 0};
+    NdpPlan refusal = {.refusal = number};
     fill_results();
     run_both(operation);
     return same_plans(programs[PLAIN].reply, refusal) && same_plans(programs[PROVED].reply, refusal) && guards_kept(&plain_memory, refusal, 0) &&
@@ -335,7 +338,7 @@ static void measure_others(void) {
 static void measure_largest_plan(void) {
     Memory *m = &plain_memory;
     fill_results();
-    plan = (NdpPlan){0, NODES, 1, 0, 0};
+    plan = (NdpPlan){.nodes = NODES, .parts = 1, .unknowns = UNKNOWNS};
     for (size_t i = 0; i < NODES; i++) m->order[i] = m->positions[i] = i;
     m->sizes[0] = NODES;
     m->parents[0] = NDP_NO_PARENT;

@@ -12,6 +12,8 @@ size_t stage_order(size_t n, const uint32_t *starts, size_t starts_length, const
 __typeof__(ndp_plan) plain_plan;
 __typeof__(stage_order) plain_stage_order;
 __typeof__(ndp_read) plain_read;
+/* The reader of a workshop that never updates, which knows version 1 of the file only. Of a file that it accepts the reply's unknowns are 1. */
+__typeof__(ndp_read) plain_read_version_1;
 __typeof__(ndp_write) plain_write;
 __typeof__(ndp_slot) plain_slot;
 __typeof__(ndp_rows) plain_rows;

@@ -3,16 +3,19 @@
 #include "plain.h"
 #include <string.h>
 
-enum { NODES = NDP_MAX_NODES, NONE = NDP_NO_PARENT, HEADER = 17 };
+enum { NODES = NDP_MAX_NODES, NONE = NDP_NO_PARENT };
 
-/* A plan of n nodes, p parts and s slots. */
+/* A plan of n nodes, p parts and s slots, with its unknowns for each node. */
 typedef struct {
-    size_t n, p, s;
+    size_t unknowns, n, p, s;
     const uint16_t *order, *sizes, *parents, *rows;
     const uint32_t *column_starts;
 } Plan;
 
 /* ---- checks that the reader, the writer and the questions share */
+
+/* 28: the number of unknowns for each node is 1 to 6. */
+static int unknowns_fit(size_t unknowns) { return 1 <= unknowns && unknowns <= NDP_MAX_UNKNOWNS; }
 
 /* 13, as far as the numbers tell. */
 static int counts_fit(size_t n, size_t p, size_t s) {
@@ -206,25 +209,42 @@ static void put_list(uint8_t *at, const uint16_t *list, size_t count) {
 static uint16_t file_order[NODES], file_sizes[NODES], file_parents[NODES], file_rows[NDP_MAX_SLOTS];
 static uint32_t file_starts[NODES + 1];
 
-/* Checks 10 to 14. */
-static uint32_t check_header(const uint8_t *file, size_t length) {
-    if (length < HEADER) return 10;
-    if (memcmp(file, "NDP", 3) != 0) return 11;
-    if (get16(file + 3) != 1) return 12;
-    size_t n = get32(file + 5), p = get32(file + 9), s = get32(file + 13);
-    if (!counts_fit(n, p, s)) return 13;
-    return length == HEADER + 4 * n + 4 * p + 2 * s ? 0 : 14;
+/* What stands before the order, and where that begins. */
+typedef struct {
+    size_t unknowns, n, p, s;
+    const uint8_t *order;
+} Header;
+
+/* The header in a file of version 1, which says nothing of the unknowns and means one, or of version 2, in which they stand before n. */
+static Header decode_header(const uint8_t *file, uint16_t version) {
+    const uint8_t *counts = file + (version == 1 ? 5 : 7);
+    return (Header){version == 1 ? 1 : get16(file + 5), get32(counts), get32(counts + 4), get32(counts + 8), counts + 12};
 }
 
-/* The plan in a file that has passed check 14. */
-static Plan decode(const uint8_t *file) {
-    size_t n = get32(file + 5), p = get32(file + 9), s = get32(file + 13);
-    const uint8_t *order = file + HEADER, *parts = order + 2 * n, *counts = parts + 4 * p, *rows = counts + 2 * n;
+/* Checks 10 to 12, 10 again for the bytes of the version's header, 28, 13 and 14, by a reader of the versions 1 to `newest`. The header is told where
+ * the file is long enough for it. */
+static uint32_t check_header(const uint8_t *file, size_t length, uint16_t newest, Header *header) {
+    if (length < 17) return 10;
+    if (memcmp(file, "NDP", 3) != 0) return 11;
+    uint16_t version = get16(file + 3);
+    if (version < 1 || version > newest) return 12;
+    if (version == 2 && length < 19) return 10;
+    *header = decode_header(file, version);
+    if (!unknowns_fit(header->unknowns)) return 28;
+    if (!counts_fit(header->n, header->p, header->s)) return 13;
+    size_t before = header->order - file;
+    return length == before + 4 * header->n + 4 * header->p + 2 * header->s ? 0 : 14;
+}
+
+/* The plan behind the header in a file that has passed check 14. */
+static Plan decode(const Header *header) {
+    size_t n = header->n, p = header->p, s = header->s;
+    const uint8_t *order = header->order, *parts = order + 2 * n, *counts = parts + 4 * p, *rows = counts + 2 * n;
     get_list(file_order, order, n);
     for (size_t q = 0; q < p; q++) { file_sizes[q] = get16(parts + 4 * q); file_parents[q] = get16(parts + 4 * q + 2); }
     for (size_t j = 0; j < n; j++) file_starts[j + 1] = file_starts[j] + get16(counts + 2 * j);
     get_list(file_rows, rows, s);
-    return (Plan){n, p, s, file_order, file_sizes, file_parents, file_rows, file_starts};
+    return (Plan){header->unknowns, n, p, s, file_order, file_sizes, file_parents, file_rows, file_starts};
 }
 
 static uint64_t multiplications(const Plan *plan) {
@@ -236,53 +256,71 @@ static uint64_t multiplications(const Plan *plan) {
     return sum;
 }
 
-NdpPlan plain_read(const uint8_t *file, size_t file_length, uint16_t *order, size_t order_length, uint16_t *positions, size_t positions_length,
-                   uint16_t *sizes, size_t sizes_length, uint16_t *parents, size_t parents_length,
-                   uint32_t *column_starts, size_t column_starts_length, uint16_t *rows, size_t rows_length) {
-    NdpPlan reply = {0, 0, 0, 0, 0};
-    reply.refusal = check_header(file, file_length);
-    if (reply.refusal) return reply;
-    Plan plan = decode(file);
+/* Reads a file of the versions 1 to `newest`. */
+static NdpPlan read_versions(uint16_t newest, const uint8_t *file, size_t file_length, uint16_t *order, size_t order_length, uint16_t *positions,
+                             size_t positions_length, uint16_t *sizes, size_t sizes_length, uint16_t *parents, size_t parents_length,
+                             uint32_t *column_starts, size_t column_starts_length, uint16_t *rows, size_t rows_length) {
+    Header header;
+    uint32_t refusal = check_header(file, file_length, newest, &header);
+    if (refusal) return (NdpPlan){.refusal = refusal};
+    Plan plan = decode(&header);
     size_t n = plan.n, p = plan.p, s = plan.s;
-    reply.refusal = check_contents(&plan);
-    if (reply.refusal) return reply;
-    if (order_length < n || positions_length < n || sizes_length < n || parents_length < n || column_starts_length < n + 1) reply.refusal = 8;
-    else if (rows_length < s) reply.refusal = 9;
-    if (reply.refusal) return reply;
+    refusal = check_contents(&plan);
+    if (refusal) return (NdpPlan){.refusal = refusal};
+    if (order_length < n || positions_length < n || sizes_length < n || parents_length < n || column_starts_length < n + 1) refusal = 8;
+    else if (rows_length < s) refusal = 9;
+    if (refusal) return (NdpPlan){.refusal = refusal};
     memcpy(order, plan.order, n * sizeof *order);
     for (size_t i = 0; i < n; i++) positions[order[i]] = i;
     memcpy(sizes, plan.sizes, p * sizeof *sizes);
     memcpy(parents, plan.parents, p * sizeof *parents);
     memcpy(column_starts, plan.column_starts, (n + 1) * sizeof *column_starts);
     memcpy(rows, plan.rows, s * sizeof *rows);
-    return (NdpPlan){0, n, p, s, multiplications(&plan)};
+    return (NdpPlan){0, n, p, s, plan.unknowns, multiplications(&plan)};
+}
+
+NdpPlan plain_read(const uint8_t *file, size_t file_length, uint16_t *order, size_t order_length, uint16_t *positions, size_t positions_length,
+                   uint16_t *sizes, size_t sizes_length, uint16_t *parents, size_t parents_length,
+                   uint32_t *column_starts, size_t column_starts_length, uint16_t *rows, size_t rows_length) {
+    return read_versions(2, file, file_length, order, order_length, positions, positions_length, sizes, sizes_length, parents, parents_length,
+                         column_starts, column_starts_length, rows, rows_length);
+}
+
+NdpPlan plain_read_version_1(const uint8_t *file, size_t file_length, uint16_t *order, size_t order_length, uint16_t *positions,
+                             size_t positions_length, uint16_t *sizes, size_t sizes_length, uint16_t *parents, size_t parents_length,
+                             uint32_t *column_starts, size_t column_starts_length, uint16_t *rows, size_t rows_length) {
+    return read_versions(1, file, file_length, order, order_length, positions, positions_length, sizes, sizes_length, parents, parents_length,
+                         column_starts, column_starts_length, rows, rows_length);
 }
 
 /* ---- writing */
 
+/* The file of a plan, in version 2. */
 static void encode(const Plan *plan, uint8_t *file) {
     size_t n = plan->n, p = plan->p, s = plan->s;
-    uint8_t *order = file + HEADER, *parts = order + 2 * n, *counts = parts + 4 * p, *rows = counts + 2 * n;
+    uint8_t *order = file + NDP_FILE_HEADER, *parts = order + 2 * n, *counts = parts + 4 * p, *rows = counts + 2 * n;
     memcpy(file, "NDP", 3);
-    put16(file + 3, 1);
-    put32(file + 5, n);
-    put32(file + 9, p);
-    put32(file + 13, s);
+    put16(file + 3, NDP_FILE_VERSION);
+    put16(file + 5, plan->unknowns);
+    put32(file + 7, n);
+    put32(file + 11, p);
+    put32(file + 15, s);
     put_list(order, plan->order, n);
     for (size_t q = 0; q < p; q++) { put16(parts + 4 * q, plan->sizes[q]); put16(parts + 4 * q + 2, plan->parents[q]); }
     for (size_t j = 0; j < n; j++) put16(counts + 2 * j, plan->column_starts[j + 1] - plan->column_starts[j]);
     put_list(rows, plan->rows, s);
 }
 
-NdpWritten plain_write(size_t n, size_t p, size_t s, const uint16_t *order, size_t order_length, const uint16_t *sizes, size_t sizes_length,
-                       const uint16_t *parents, size_t parents_length, const uint32_t *column_starts, size_t column_starts_length,
-                       const uint16_t *rows, size_t rows_length, uint8_t *file, size_t file_length) {
-    Plan plan = {n, p, s, order, sizes, parents, rows, column_starts};
+NdpWritten plain_write(size_t unknowns, size_t n, size_t p, size_t s, const uint16_t *order, size_t order_length, const uint16_t *sizes,
+                       size_t sizes_length, const uint16_t *parents, size_t parents_length, const uint32_t *column_starts,
+                       size_t column_starts_length, const uint16_t *rows, size_t rows_length, uint8_t *file, size_t file_length) {
+    Plan plan = {unknowns, n, p, s, order, sizes, parents, rows, column_starts};
+    if (!unknowns_fit(unknowns)) return (NdpWritten){28, 0};
     if (!counts_fit(n, p, s)) return (NdpWritten){13, 0};
     if (order_length < n || sizes_length < p || parents_length < p || column_starts_length < n + 1 || rows_length < s) return (NdpWritten){13, 0};
     uint32_t refusal = check_contents(&plan);
     if (refusal) return (NdpWritten){refusal, 0};
-    size_t length = HEADER + 4 * n + 4 * p + 2 * s;
+    size_t length = NDP_FILE_LENGTH(n, p, s);
     if (file_length < length) return (NdpWritten){8, 0};
     encode(&plan, file);
     return (NdpWritten){0, length};

@@ -8,7 +8,8 @@
  * NDP_MAX_NEIGHBOURS neighbours, and may have none.
  *
  * THE PLAN of n nodes, p parts and s slots stands at the front of six buffers; p is 1 to n, and s is n (n - 1) / 2 at most. Positions, rows and
- * columns are places in the order of elimination, 0 to n - 1, and not numbers of nodes.
+ * columns are places in the order of elimination, 0 to n - 1, and not numbers of nodes. The plan also carries the number of unknowns for each node, 1
+ * to NDP_MAX_UNKNOWNS; order, slots and multiplications do not depend on it, since the layout is that of nodes.
  *   order          n entries      order[i] is the node at position i.
  *   positions      n entries      positions[v] is the position of node v.
  *   sizes          p entries      sizes[q] is the number of nodes of part q, at least 1; together they are n. Parts take the positions in turn:
@@ -20,11 +21,15 @@
  *                                 ascending, above j and below n.
  * Slots are numbered from 0, column after column: slot k is the factor's entry in row rows[k] of the column j with column_starts[j] <= k and
  * k < column_starts[j + 1]; ndp_pair finds the two. The diagonal has no slot; every other entry without one is zero in the factor. The stiffness
- * between two nodes v and w goes to the slot of positions[v] and positions[w], in the column of the smaller. So a solver keeps s numbers for the
- * slots and n for the diagonal.
+ * between two nodes v and w goes to the slot of positions[v] and positions[w], in the column of the smaller. So with one unknown for each node
+ * a solver keeps s numbers for the slots and n for the diagonal.
  *
- * THE FILE, little-endian: bytes 0 to 2 are the letters NDP, 3 and 4 the version, 5 to 8 n, 9 to 12 p, 13 to 16 s. Numbers of 2 bytes follow: the
- * order, n of them; a size and a parent for each of the p parts; the number of rows for each of the n columns; the s rows.
+ * THE FILE, little-endian: bytes 0 to 2 are the letters NDP, 3 and 4 the version. Version 1 is for one unknown for each node, which is not written:
+ * bytes 5 to 8 are n, 9 to 12 p, 13 to 16 s. In version 2 bytes 5 and 6 are the unknowns for each node, and everything after stands two bytes
+ * further on: 7 to 10 are n, 11 to 14 p, 15 to 18 s. Numbers of 2 bytes follow in both: the order, n of them; a size and a parent for each of the p
+ * parts; the number of rows for each of the n columns; the s rows. This library reads versions 1 and 2 and writes version 2 only: a version 2 file
+ * that was read is written back byte for byte, a version 1 file as the version 2 file of the same plan. A library that knows version 1 only answers
+ * 12 to every version 2 file of 17 bytes or more.
  *
  * THE TEXT is a Matrix Market text of the coordinate pattern symmetric kind. Its first line is %%MatrixMarket matrix coordinate pattern symmetric,
  * the five words in any letter case. Lines that begin with % may follow. Then comes the size line: rows, columns, which are as many, and pairs; then
@@ -41,8 +46,9 @@
  * less than 80 KB.
  *
  * REFUSALS. A reply has the number of the first check that fails, or 0; ndp_refusal_text, at the end, says what each number means. Planning checks
- * 1 to 6, 26, then 7 to 9, reading 10 to 19, then 8 and 9, writing 13, 15 to 19, then 8, a question 1, 22, then 21 where it names positions and 27
- * where it names a slot, reading a text 23 to 25, 1, 3, 26, then 8, in this order. Each check covers the whole input before the next begins. */
+ * 28, 1 to 6, 26, then 7 to 9, reading 10 to 12, 10 for the length that version 2 needs, 28, 13 to 19, then 8 and 9, writing 28, 13, 15 to 19, then
+ * 8, a question 1, 22, then 21 where it names positions and 27 where it names a slot, reading a text 23 to 25, 1, 3, 26, then 8, in this order. Each
+ * check covers the whole input before the next begins. */
 #ifndef NDPLAN_H
 #define NDPLAN_H
 #include <stddef.h>
@@ -52,22 +58,25 @@
 extern "C" {
 #endif
 
-/* The most nodes and neighbour entries of a mesh, the most neighbours of a node, the most slots of a plan, and the parent of a part that has none. */
+/* The most nodes and neighbour entries of a mesh, the most neighbours of a node, the most unknowns for each node and slots of a plan, and the parent
+ * of a part that has none. */
 #define NDP_MAX_NODES 4096
 #define NDP_MAX_ENTRIES 65536
 #define NDP_MAX_NEIGHBOURS 26
+#define NDP_MAX_UNKNOWNS 6
 #define NDP_MAX_SLOTS 8386560
 #define NDP_NO_PARENT 65535
 
-/* The version of the files that are written and read, the bytes before a file's order, and the bytes of a whole file. */
-#define NDP_FILE_VERSION 1
-#define NDP_FILE_HEADER 17
+/* The version of the files that are written, the bytes before such a file's order, and the bytes of a whole one. A version 1 file, which is read too,
+ * is 2 bytes shorter. */
+#define NDP_FILE_VERSION 2
+#define NDP_FILE_HEADER 19
 #define NDP_FILE_LENGTH(n, p, s) (NDP_FILE_HEADER + 4 * (size_t)(n) + 4 * (size_t)(p) + 2 * (size_t)(s))
 
-/* Planning and reading: n, p and s, and the multiplications of a factorization: the sum over the columns of c (c + 3) / 2, c being the number of
- * the column's rows. */
+/* Planning and reading: n, p and s, the unknowns for each node, and the multiplications of a factorization: the sum over the columns of
+ * c (c + 3) / 2, c being the number of the column's rows. */
 typedef struct {
-    uint32_t refusal, nodes, parts, slots;
+    uint32_t refusal, nodes, parts, slots, unknowns;
     uint64_t multiplications;
 } NdpPlan;
 
@@ -98,25 +107,27 @@ typedef struct {
     uint32_t refusal, nodes, entries;
 } NdpMesh;
 
-/* Plans a mesh of n nodes. `order`, `positions`, `sizes` and `parents` need room for n entries each, though only p of the sizes and parents are
- * written, `column_starts` for n + 1, and `rows` for as many as there are slots; n (n - 1) / 2 always suffice, and a refusal 9 does not tell how many
- * are needed. In the plan of a mesh the nodes of a part that is no part's parent are all neighbours of one another.
- * Refuses with 1 to 6, 26, and 7 to 9. */
-NdpPlan ndp_plan(size_t n, const uint32_t *starts, size_t starts_length, const uint16_t *neighbours, size_t neighbours_length,
+/* Plans a mesh of n nodes with so many unknowns each. `order`, `positions`, `sizes` and `parents` need room for n entries each, though only p of the
+ * sizes and parents are written, `column_starts` for n + 1, and `rows` for as many as there are slots; n (n - 1) / 2 always suffice, and a refusal 9
+ * does not tell how many are needed. In the plan of a mesh the nodes of a part that is no part's parent are all neighbours of one another.
+ * Refuses with 28, 1 to 6, 26, and 7 to 9. */
+NdpPlan ndp_plan(size_t unknowns, size_t n, const uint32_t *starts, size_t starts_length, const uint16_t *neighbours, size_t neighbours_length,
                  uint16_t *order, size_t order_length, uint16_t *positions, size_t positions_length, uint16_t *sizes, size_t sizes_length,
                  uint16_t *parents, size_t parents_length, uint32_t *column_starts, size_t column_starts_length, uint16_t *rows, size_t rows_length);
 
-/* Reads a plan file into buffers such as ndp_plan's. The file is `file_length` bytes long: bytes behind the plan are refused. Room for NDP_MAX_NODES
- * and NDP_MAX_SLOTS always suffices. Refuses with 10 to 19, 8 and 9; another version than NDP_FILE_VERSION is 12. */
+/* Reads a plan file of version 1 or 2 into buffers such as ndp_plan's. The file is `file_length` bytes long: bytes behind the plan are refused. Room
+ * for NDP_MAX_NODES and NDP_MAX_SLOTS always suffices. A version 1 file is read as a plan of one unknown for each node. Refuses with 10 to 12, 28,
+ * 13 to 19, 8 and 9. */
 NdpPlan ndp_read(const uint8_t *file, size_t file_length, uint16_t *order, size_t order_length, uint16_t *positions, size_t positions_length,
                  uint16_t *sizes, size_t sizes_length, uint16_t *parents, size_t parents_length, uint32_t *column_starts, size_t column_starts_length,
                  uint16_t *rows, size_t rows_length);
 
-/* Writes the plan of n nodes, p parts and s slots to the front of `file`, NDP_FILE_LENGTH(n, p, s) bytes. `order` has n entries, `sizes` and
- * `parents` p each, `column_starts` n + 1 and `rows` s; they may be longer. Refuses with 13, 15 to 19, and 8 where `file` is too short. */
-NdpWritten ndp_write(size_t n, size_t p, size_t s, const uint16_t *order, size_t order_length, const uint16_t *sizes, size_t sizes_length,
-                     const uint16_t *parents, size_t parents_length, const uint32_t *column_starts, size_t column_starts_length, const uint16_t *rows,
-                     size_t rows_length, uint8_t *file, size_t file_length);
+/* Writes the plan of n nodes with so many unknowns each, p parts and s slots to the front of `file`, NDP_FILE_LENGTH(n, p, s) bytes, in version
+ * NDP_FILE_VERSION. `order` has n entries, `sizes` and `parents` p each, `column_starts` n + 1 and `rows` s; they may be longer.
+ * Refuses with 28, 13, 15 to 19, and 8 where `file` is too short. */
+NdpWritten ndp_write(size_t unknowns, size_t n, size_t p, size_t s, const uint16_t *order, size_t order_length, const uint16_t *sizes,
+                     size_t sizes_length, const uint16_t *parents, size_t parents_length, const uint32_t *column_starts, size_t column_starts_length,
+                     const uint16_t *rows, size_t rows_length, uint8_t *file, size_t file_length);
 
 /* The slot of positions a and b, in either order. `column_starts_length` is n + 1, and no more; `rows` may be longer than the slots.
  * Refuses with 1, 22 and 21. It looks at the whole layout each time, as ndp_rows does. */
@@ -155,11 +166,11 @@ static inline const char *ndp_refusal_text(uint32_t number) {
         /*  7 */ "an edge is listed by one of its two nodes only",
         /*  8 */ "a result buffer other than the rows is too short",
         /*  9 */ "the rows buffer is shorter than the slots",
-        /* 10 */ "the file has fewer than 17 bytes",
+        /* 10 */ "the file has fewer than 17 bytes, or fewer than 19 in version 2",
         /* 11 */ "the file does not begin with the letters NDP",
-        /* 12 */ "the file's version is not 1",
+        /* 12 */ "the file's version is neither 1 nor 2",
         /* 13 */ "the nodes n are not 1 to 4096, the parts not 1 to n, the slots above n(n - 1)/2, or a list to be written is too short for these",
-        /* 14 */ "the file's length is not 17 + 4 nodes + 4 parts + 2 slots",
+        /* 14 */ "the file's length is not 17 + 4 nodes + 4 parts + 2 slots in version 1, or 19 + 4 nodes + 4 parts + 2 slots in version 2",
         /* 15 */ "the order does not hold each node once",
         /* 16 */ "a part's size is 0, the sizes do not sum to the nodes, or a parent is neither 65535 (none) nor the number of a later part",
         /* 17 */ "the column starts or row counts do not fit the slots, or a column's rows are not strictly ascending, above it and below the nodes",
@@ -173,6 +184,7 @@ static inline const char *ndp_refusal_text(uint32_t number) {
         /* 25 */ "a pair is given again, diagonal ones too",
         /* 26 */ "a list is longer than 26 entries",
         /* 27 */ "a slot number is not below the number of slots",
+        /* 28 */ "the number of unknowns for each node is not 1 to 6",
     };
     return number < sizeof texts / sizeof *texts ? texts[number] : "unknown refusal";
 }

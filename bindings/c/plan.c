@@ -5,6 +5,8 @@
 
 /* Room for every mesh and every plan, and for a text of some size. */
 enum { NODES = NDP_MAX_NODES, ENTRIES = NDP_MAX_ENTRIES, SLOTS = NDP_MAX_SLOTS, BYTES = NDP_FILE_LENGTH(NODES, NODES, SLOTS), TEXT_BYTES = 1 << 22 };
+/* The unknowns for each node; a sole that needs more gives another number, NDP_MAX_UNKNOWNS at most. */
+enum { UNKNOWNS = 1 };
 static uint8_t text[TEXT_BYTES], file[BYTES];
 static uint32_t starts[NODES + 1], column_starts[NODES + 1];
 static uint16_t neighbours[ENTRIES], order[NODES], positions[NODES], sizes[NODES], parents[NODES], rows[SLOTS];
@@ -30,8 +32,8 @@ static NdpPlan read_plan(size_t length) {
 /* Writes the plan in the buffers to `file`, reads it back, and asks about it. Then shows what a file of a newer version gives. */
 static int write_and_ask(NdpPlan plan) {
     uint32_t n = plan.nodes;
-    NdpWritten written =
-        ndp_write(n, plan.parts, plan.slots, order, NODES, sizes, NODES, parents, NODES, column_starts, NODES + 1, rows, SLOTS, file, BYTES);
+    NdpWritten written = ndp_write(plan.unknowns, n, plan.parts, plan.slots, order, NODES, sizes, NODES, parents, NODES, column_starts, NODES + 1,
+                                   rows, SLOTS, file, BYTES);
     if (written.refusal) return refused(written.refusal);
     printf("written: %u bytes\n", (unsigned)written.length);
 
@@ -69,7 +71,7 @@ int main(int count, char **arguments) {
     printf("text: %u nodes, %u neighbour entries\n", mesh.nodes, mesh.entries);
 
     uint32_t n = mesh.nodes;
-    NdpPlan plan = ndp_plan(n, starts, n + 1, neighbours, mesh.entries, order, NODES, positions, NODES, sizes, NODES, parents, NODES,
+    NdpPlan plan = ndp_plan(UNKNOWNS, n, starts, n + 1, neighbours, mesh.entries, order, NODES, positions, NODES, sizes, NODES, parents, NODES,
                             column_starts, NODES + 1, rows, SLOTS);
     if (plan.refusal) return refused(plan.refusal);
     printf("planned: %u nodes, %u parts, %u slots, order", plan.nodes, plan.parts, plan.slots);
