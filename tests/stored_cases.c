@@ -39,7 +39,7 @@ static void print_last(const uint16_t *entries, size_t length, size_t last) {
 
 static void print_results(NdpPlan reply, Lengths l, size_t last) {
     if (reply.refusal) printf("refused %u\n", reply.refusal);
-    else printf("accepted %u %u %u %llu\n", reply.nodes, reply.parts, reply.slots, (unsigned long long)reply.multiplications);
+    else printf("accepted %u %u %u %llu %u\n", reply.nodes, reply.parts, reply.slots, (unsigned long long)reply.multiplications, reply.unknowns);
     print_last(order, l.order, last);
     print_last(positions, l.positions, last);
     print_last(sizes, l.sizes, last);
@@ -51,17 +51,22 @@ static void print_results(NdpPlan reply, Lengths l, size_t last) {
 
 /* ---- meshes */
 
-static void plan_lent(int title, size_t n, List32 starts, List16 neighbours, Lengths l, size_t last) {
+static void plan_lent(int title, size_t unknowns, size_t n, List32 starts, List16 neighbours, Lengths l, size_t last) {
     printf("case %d\n", title);
     fill_results();
-    NdpPlan reply = plain_plan(n, starts.at, starts.length, neighbours.at, neighbours.length, order, l.order, positions, l.positions, sizes, l.sizes,
-                               parents, l.parents, column_starts, l.column_starts, rows, l.rows);
+    NdpPlan reply = plain_plan(unknowns, n, starts.at, starts.length, neighbours.at, neighbours.length, order, l.order, positions, l.positions,
+                               sizes, l.sizes, parents, l.parents, column_starts, l.column_starts, rows, l.rows);
     print_results(reply, l, last);
 }
 
-/* Any lists of n nodes, planned into buffers of this length, one more for the column starts, and rows of their length. */
+/* Any lists of n nodes with so many unknowns each, planned into buffers of this length, one more for the column starts, and rows of their length. */
+static void plan_unknowns(int title, size_t unknowns, size_t n, List32 starts, List16 neighbours, size_t length, size_t slots) {
+    plan_lent(title, unknowns, n, starts, neighbours, (Lengths){length, length, length, length, length + 1, slots}, ALL);
+}
+
+/* Such lists with one unknown for each node. */
 static void plan_lists(int title, size_t n, List32 starts, List16 neighbours, size_t length, size_t slots) {
-    plan_lent(title, n, starts, neighbours, (Lengths){length, length, length, length, length + 1, slots}, ALL);
+    plan_unknowns(title, 1, n, starts, neighbours, length, slots);
 }
 
 static void plan_edges(int title, size_t n, const char *edges, size_t slots) {
@@ -72,7 +77,7 @@ static void plan_edges(int title, size_t n, const char *edges, size_t slots) {
 /* n nodes without entries: the last three entries of each buffer, which has one more than 4,096 nodes need. */
 static void plan_bare(int title, size_t n) {
     static const uint32_t starts[NODES + 2];
-    plan_lent(title, n, (List32){starts, n + 1}, EMPTY16, (Lengths){NODES + 1, NODES + 1, NODES + 1, NODES + 1, NODES + 2, 1}, 3);
+    plan_lent(title, 1, n, (List32){starts, n + 1}, EMPTY16, (Lengths){NODES + 1, NODES + 1, NODES + 1, NODES + 1, NODES + 2, 1}, 3);
 }
 
 static void worked_meshes(void) {
@@ -168,18 +173,29 @@ static File resized(File file, size_t length) {
     return file;
 }
 
-/* The file of these counts, which are below 65,536, and of the numbers behind them. */
-static File file_of(uint16_t version, uint16_t n, uint16_t p, uint16_t s, List16 numbers) {
-    File file = {"NDP", 17 + 2 * numbers.length};
-    file = changed(changed(changed(changed(file, 3, version), 5, n), 9, p), 13, s);
-    for (size_t k = 0; k < numbers.length; k++) file = changed(file, 17 + 2 * k, numbers.at[k]);
+/* The file of a version with n, which stands at `at`, p and s, all below 65,536, and the numbers behind them. */
+static File file_from(uint16_t version, size_t at, uint16_t n, uint16_t p, uint16_t s, List16 numbers) {
+    File file = {"NDP", at + 12 + 2 * numbers.length};
+    file = changed(changed(changed(changed(file, 3, version), at, n), at + 4, p), at + 8, s);
+    for (size_t k = 0; k < numbers.length; k++) file = changed(file, at + 12 + 2 * k, numbers.at[k]);
     return file;
 }
 
-/* Mesh 4's file: n stands at 5, the order at 17, sizes and parents at 27, row counts at 39, rows at 49. */
-static File path_file(void) {
-    return file_of(1, 5, 3, 5, LIST16(0, 1, 3, 4, 2, 2, 2, 2, 2, 1, NONE, 1, 1, 2, 1, 0, 1, 4, 3, 4, 4));
-}
+static File file_1_of(uint16_t n, uint16_t p, uint16_t s, List16 numbers) { return file_from(1, 5, n, p, s, numbers); }
+
+/* The file of version 2, with one unknown for each node. */
+static File file_2_of(uint16_t n, uint16_t p, uint16_t s, List16 numbers) { return changed(file_from(2, 7, n, p, s, numbers), 5, 1); }
+
+#define PATH_NUMBERS LIST16(0, 1, 3, 4, 2, 2, 2, 2, 2, 1, NONE, 1, 1, 2, 1, 0, 1, 4, 3, 4, 4)
+
+/* Mesh 4's file of 61 bytes: the unknowns stand at 5, n at 7, the order at 19, sizes and parents at 29, row counts at 41, rows at 51. */
+static File path_file(void) { return file_2_of(5, 3, 5, PATH_NUMBERS); }
+
+/* Its file of version 1, 59 bytes: n stands at 5, the order at 17, sizes and parents at 27, row counts at 39, rows at 49. */
+static File path_file_1(void) { return file_1_of(5, 3, 5, PATH_NUMBERS); }
+
+/* A header of 19 bytes with zeros behind the version. */
+static File bare_file(uint16_t version) { return resized(changed((File){"NDP", 0}, 3, version), 19); }
 
 static void read_lent(int title, File file, Lengths l) {
     printf("case %d\n", title);
@@ -192,12 +208,12 @@ static void read_lent(int title, File file, Lengths l) {
 /* A file read into buffers that are long enough for mesh 4. */
 static void read_path(int title, File file) { read_lent(title, file, (Lengths){6, 6, 6, 6, 7, 6}); }
 
-static void write_lent(int title, size_t n, size_t p, size_t s, List16 lent_order, List16 lent_sizes, List16 lent_parents, List32 starts,
-                       List16 lent_rows, size_t room) {
+static void write_lent(int title, size_t unknowns, size_t n, size_t p, size_t s, List16 lent_order, List16 lent_sizes, List16 lent_parents,
+                       List32 starts, List16 lent_rows, size_t room) {
     uint8_t bytes[MOST_BYTES];
     memset(bytes, FILL_BYTE, sizeof bytes);
-    NdpWritten reply = plain_write(n, p, s, lent_order.at, lent_order.length, lent_sizes.at, lent_sizes.length, lent_parents.at, lent_parents.length,
-                                   starts.at, starts.length, lent_rows.at, lent_rows.length, bytes, room);
+    NdpWritten reply = plain_write(unknowns, n, p, s, lent_order.at, lent_order.length, lent_sizes.at, lent_sizes.length, lent_parents.at,
+                                   lent_parents.length, starts.at, starts.length, lent_rows.at, lent_rows.length, bytes, room);
     printf("case %d\n", title);
     if (reply.refusal) printf("refused %u\n", reply.refusal);
     else printf("written %u\n", (unsigned)reply.length);
@@ -205,57 +221,66 @@ static void write_lent(int title, size_t n, size_t p, size_t s, List16 lent_orde
     printf("\n");
 }
 
-/* Mesh 4's sizes and parents with these lists. */
+/* Mesh 4's sizes and parents with so many unknowns for each node and these lists. */
+static void write_unknowns(int title, size_t unknowns, List16 lent_order, List32 starts, List16 lent_rows, size_t room) {
+    write_lent(title, unknowns, 5, 3, 5, lent_order, LIST16(2, 2, 1), LIST16(2, 2, NONE), starts, lent_rows, room);
+}
+
+/* With one unknown. */
 static void write_path(int title, List16 lent_order, List32 starts, List16 lent_rows, size_t room) {
-    write_lent(title, 5, 3, 5, lent_order, LIST16(2, 2, 1), LIST16(2, 2, NONE), starts, lent_rows, room);
+    write_unknowns(title, 1, lent_order, starts, lent_rows, room);
 }
 
 static void worked_files(void) {
-    write_path(4, LIST16(0, 1, 3, 4, 2), LIST32(0, 1, 2, 4, 5, 5), LIST16(1, 4, 3, 4, 4), 59);
+    List16 whole = LIST16(0, 1, 2, 3, NONE, 2, 0, 0, 1, 2), apart = LIST16(0, 1, 1, NONE, 1, NONE, 1, 0, 1);
+    write_path(4, LIST16(0, 1, 3, 4, 2), LIST32(0, 1, 2, 4, 5, 5), LIST16(1, 4, 3, 4, 4), 61);
     read_path(4, path_file());
-    read_lent(10, file_of(2, 0, 0, 0, EMPTY16), (Lengths){1, 1, 1, 1, 2, 1});
-    read_lent(10, resized(file_of(2, 0, 0, 0, EMPTY16), 16), (Lengths){1, 1, 1, 1, 2, 1});
-    read_lent(11, file_of(1, 3, 1, 2, LIST16(0, 1, 2, 3, NONE, 2, 0, 0, 1, 2)), (Lengths){4, 4, 4, 4, 5, 3});
-    read_lent(12, file_of(1, 2, 2, 1, LIST16(0, 1, 1, NONE, 1, NONE, 1, 0, 1)), (Lengths){3, 3, 3, 3, 4, 2});
+    read_path(4, path_file_1());
+    read_lent(10, resized(bare_file(2), 17), (Lengths){1, 1, 1, 1, 2, 1});
+    read_lent(10, resized(bare_file(2), 16), (Lengths){1, 1, 1, 1, 2, 1});
+    read_lent(11, file_2_of(3, 1, 2, whole), (Lengths){4, 4, 4, 4, 5, 3});
+    read_lent(11, file_1_of(3, 1, 2, whole), (Lengths){4, 4, 4, 4, 5, 3});
+    read_lent(12, file_2_of(2, 2, 1, apart), (Lengths){3, 3, 3, 3, 4, 2});
+    read_lent(12, file_1_of(2, 2, 1, apart), (Lengths){3, 3, 3, 3, 4, 2});
 }
 
 /* Short buffers, then the order of the checks and sums that would be right if cut to two bytes. */
 static void telling_files(void) {
-    File f = path_file(), moved = changed(changed(f, 39, 2), 41, 0);
+    File f = path_file(), moved = changed(changed(f, 41, 2), 43, 0);
     read_lent(51, f, (Lengths){5, 4, 5, 5, 6, 5});
     read_lent(52, f, (Lengths){5, 5, 3, 5, 6, 5});
     read_lent(53, f, (Lengths){5, 5, 4, 5, 6, 4});
     read_lent(54, f, (Lengths){5, 5, 5, 5, 6, 4});
     read_path(55, resized(changed(f, 1, 0), 16));
-    read_path(56, changed(changed(f, 1, 0), 3, 2));
-    read_path(57, changed(changed(f, 3, 2), 5, 0));
-    read_path(58, changed(f, 3, 2));
-    read_path(59, changed(f, 7, 1));
-    read_path(60, changed(f, 5, 0));
-    read_path(61, resized(f, 58));
+    read_path(56, changed(changed(f, 1, 0), 3, 3));
+    read_path(57, changed(changed(f, 3, 3), 7, 0));
+    read_path(58, changed(f, 3, 3));
+    read_path(59, changed(f, 9, 1));
+    read_path(60, changed(f, 7, 0));
     read_path(61, resized(f, 60));
-    read_path(62, changed(changed(f, 27, 65535), 31, 5));
-    read_path(63, changed(changed(changed(changed(f, 43, 0), 45, 0), 39, 65535), 41, 6));
-    read_path(64, changed(changed(f, 39, 2), 49, 3));
-    read_path(65, changed(f, 49, 7));
-    read_path(66, changed(moved, 51, 3));
+    read_path(61, resized(f, 62));
+    read_path(62, changed(changed(f, 29, 65535), 33, 5));
+    read_path(63, changed(changed(changed(changed(f, 45, 0), 47, 0), 41, 65535), 43, 6));
+    read_path(64, changed(changed(f, 41, 2), 51, 3));
+    read_path(65, changed(f, 51, 7));
+    read_path(66, changed(moved, 53, 3));
     read_path(67, moved);
-    read_path(68, changed(changed(f, 19, 0), 27, 0));
-    read_path(69, changed(f, 33, 1));
+    read_path(68, changed(changed(f, 21, 0), 29, 0));
+    read_path(69, changed(f, 35, 1));
 }
 
 /* Lists that are too short or longer than needed, wrong column starts, and little room. */
 static void writings(void) {
     List16 path_order = LIST16(0, 1, 3, 4, 2), path_rows = LIST16(1, 4, 3, 4, 4);
     List32 path_starts = LIST32(0, 1, 2, 4, 5, 5);
-    write_lent(71, 1, 1, 0, LIST16(0), LIST16(1), LIST16(NONE), LIST32(0, 0), EMPTY16, 26);
-    write_path(72, path_order, LIST32(0, 1, 2, 4, 5), path_rows, 59);
-    write_path(73, path_order, path_starts, LIST16(1, 4, 3, 4), 59);
-    write_path(74, LIST16(0, 1, 3, 4, 2, 0), LIST32(0, 1, 2, 4, 5, 5, 9), LIST16(1, 4, 3, 4, 4, 0), 61);
-    write_path(75, path_order, LIST32(1, 1, 2, 4, 5, 5), path_rows, 59);
-    write_path(76, path_order, LIST32(0, 1, 2, 4, 5, 6), path_rows, 59);
-    write_path(77, path_order, LIST32(0, 2, 1, 4, 5, 5), path_rows, 59);
-    write_path(78, path_order, path_starts, path_rows, 58);
+    write_lent(71, 1, 1, 1, 0, LIST16(0), LIST16(1), LIST16(NONE), LIST32(0, 0), EMPTY16, 28);
+    write_path(72, path_order, LIST32(0, 1, 2, 4, 5), path_rows, 61);
+    write_path(73, path_order, path_starts, LIST16(1, 4, 3, 4), 61);
+    write_path(74, LIST16(0, 1, 3, 4, 2, 0), LIST32(0, 1, 2, 4, 5, 5, 9), LIST16(1, 4, 3, 4, 4, 0), 63);
+    write_path(75, path_order, LIST32(1, 1, 2, 4, 5, 5), path_rows, 61);
+    write_path(76, path_order, LIST32(0, 1, 2, 4, 5, 6), path_rows, 61);
+    write_path(77, path_order, LIST32(0, 2, 1, 4, 5, 5), path_rows, 61);
+    write_path(78, path_order, path_starts, path_rows, 60);
     write_path(79, LIST16(0, 1, 3, 4, 4), path_starts, path_rows, 0);
 }
 
@@ -313,7 +338,7 @@ static void telling_questions(void) {
 /* Numbers at both ends of each family, and just outside. */
 static void families(void) {
     static const char *const names[] = {"none", "mesh", "file", "program", "question"};
-    static const uint32_t numbers[] = {0, 1, 9, 10, 19, 20, 21, 22, 23, 27};
+    static const uint32_t numbers[] = {0, 1, 9, 10, 19, 20, 21, 22, 23, 27, 28};
     printf("case 91\n");
     for (size_t k = 0; k < sizeof numbers / sizeof *numbers; k++) printf("%u %s\n", numbers[k], names[plain_family(numbers[k])]);
 }
@@ -436,12 +461,12 @@ static void slots(void) {
 /* ---- rows that break 17, 18 or both */
 
 /* Four nodes, each a part. The parents of parts 0, 1 and 2 are 2, 3 and 3, so part 1, which is not below part 2, stands between it and part 0, which
- * is. Columns 0, 1 and 2 have one row each, in the parent. The parents stand at 27, 31, 35 and 39, row counts at 41, rows at 49. */
-static File branches_file(void) { return file_of(1, 4, 4, 3, LIST16(3, 1, 0, 2, 1, 2, 1, 3, 1, 3, 1, NONE, 1, 1, 1, 0, 2, 3, 3)); }
+ * is. Columns 0, 1 and 2 have one row each, in the parent. The parents stand at 29, 33, 37 and 41, row counts at 43, rows at 51. */
+static File branches_file(void) { return file_2_of(4, 4, 3, LIST16(3, 1, 0, 2, 1, 2, 1, 3, 1, 3, 1, NONE, 1, 1, 1, 0, 2, 3, 3)); }
 
 /* The same parts with these lists. */
 static void write_branches(int title, List16 lent_parents, List32 starts, List16 lent_rows) {
-    write_lent(title, 4, 4, 3, LIST16(3, 1, 0, 2), LIST16(1, 1, 1, 1), lent_parents, starts, lent_rows, 55);
+    write_lent(title, 1, 4, 4, 3, LIST16(3, 1, 0, 2), LIST16(1, 1, 1, 1), lent_parents, starts, lent_rows, 57);
 }
 
 /* A row of n or more, no fault, and a fault of 18 alone in the first column, the middle one and the last one that has a row. */
@@ -449,34 +474,34 @@ static void single_faults(void) {
     File f = branches_file();
     List16 joined = LIST16(2, 3, 3, NONE);
     List32 starts = LIST32(0, 1, 2, 3, 3);
-    read_lent(131, file_of(1, 2, 1, 1, LIST16(0, 1, 2, NONE, 1, 0, 7)), (Lengths){3, 3, 3, 3, 4, 2});
-    write_lent(131, 2, 1, 1, LIST16(0, 1), LIST16(2), LIST16(NONE), LIST32(0, 1, 1), LIST16(7), 31);
+    read_lent(131, file_2_of(2, 1, 1, LIST16(0, 1, 2, NONE, 1, 0, 7)), (Lengths){3, 3, 3, 3, 4, 2});
+    write_lent(131, 1, 2, 1, 1, LIST16(0, 1), LIST16(2), LIST16(NONE), LIST32(0, 1, 1), LIST16(7), 33);
     read_path(132, f);
     write_branches(132, joined, starts, LIST16(2, 3, 3));
-    read_path(133, changed(f, 49, 1));
+    read_path(133, changed(f, 51, 1));
     write_branches(133, joined, starts, LIST16(1, 3, 3));
-    read_path(134, changed(f, 51, 2));
+    read_path(134, changed(f, 53, 2));
     write_branches(134, joined, starts, LIST16(2, 2, 3));
-    read_path(135, changed(f, 35, NONE));
+    read_path(135, changed(f, 37, NONE));
     write_branches(135, LIST16(2, 3, NONE, NONE), starts, LIST16(2, 3, 3));
 }
 
 /* 18 in column 0 and 17 behind it; 17 in column 0 and 18 behind it; both in column 0, and the same rows ascending. */
 static void two_faults(void) {
-    File f = branches_file(), first = changed(f, 49, 1), last = changed(f, 35, NONE), two = changed(changed(f, 41, 2), 45, 0);
+    File f = branches_file(), first = changed(f, 51, 1), last = changed(f, 37, NONE), two = changed(changed(f, 43, 2), 47, 0);
     List16 joined = LIST16(2, 3, 3, NONE), apart = LIST16(2, 3, NONE, NONE);
     List32 starts = LIST32(0, 1, 2, 3, 3);
-    read_path(136, changed(first, 53, 4));
+    read_path(136, changed(first, 55, 4));
     write_branches(136, joined, starts, LIST16(1, 3, 4));
-    read_path(137, changed(changed(first, 45, 0), 47, 1));
+    read_path(137, changed(changed(first, 47, 0), 49, 1));
     write_branches(137, joined, LIST32(0, 1, 2, 2, 3), LIST16(1, 3, 3));
-    read_path(138, changed(last, 49, 0));
+    read_path(138, changed(last, 51, 0));
     write_branches(138, apart, starts, LIST16(0, 3, 3));
-    read_path(139, changed(last, 49, 4));
+    read_path(139, changed(last, 51, 4));
     write_branches(139, apart, starts, LIST16(4, 3, 3));
-    read_path(140, changed(two, 51, 1));
+    read_path(140, changed(two, 53, 1));
     write_branches(140, joined, LIST32(0, 2, 3, 3, 3), LIST16(2, 1, 3));
-    read_path(141, changed(changed(two, 49, 1), 51, 2));
+    read_path(141, changed(changed(two, 51, 1), 53, 2));
     write_branches(141, joined, LIST32(0, 2, 3, 3, 3), LIST16(1, 2, 3));
 }
 
@@ -485,20 +510,124 @@ static void faults_of_path(void) {
     File f = path_file();
     List16 path_order = LIST16(0, 1, 3, 4, 2);
     List32 starts = LIST32(0, 1, 2, 4, 5, 5);
-    read_path(142, changed(changed(f, 49, 2), 57, 5));
-    write_path(142, path_order, starts, LIST16(2, 4, 3, 4, 5), 59);
-    read_path(143, changed(changed(f, 49, 5), 51, 3));
-    write_path(143, path_order, starts, LIST16(5, 3, 3, 4, 4), 59);
-    read_path(144, changed(changed(f, 49, 2), 51, 3));
-    write_path(144, path_order, starts, LIST16(2, 3, 3, 4, 4), 59);
-    read_path(145, changed(f, 55, 3));
-    write_path(145, path_order, starts, LIST16(1, 4, 3, 3, 4), 59);
+    read_path(142, changed(changed(f, 51, 2), 59, 5));
+    write_path(142, path_order, starts, LIST16(2, 4, 3, 4, 5), 61);
+    read_path(143, changed(changed(f, 51, 5), 53, 3));
+    write_path(143, path_order, starts, LIST16(5, 3, 3, 4, 4), 61);
+    read_path(144, changed(changed(f, 51, 2), 53, 3));
+    write_path(144, path_order, starts, LIST16(2, 3, 3, 4, 4), 61);
+    read_path(145, changed(f, 57, 3));
+    write_path(145, path_order, starts, LIST16(1, 4, 3, 3, 4), 61);
 }
 
 static void row_faults(void) {
     single_faults();
     two_faults();
     faults_of_path();
+}
+
+/* ---- the versions of the file, and the unknowns for each node */
+
+/* The path of five nodes with so many unknowns each, planned into buffers of this length. */
+static void plan_path(int title, size_t unknowns, size_t length) {
+    Mesh mesh = mesh_of_edges(5, "01 12 23 34");
+    plan_unknowns(title, unknowns, 5, mesh.starts, mesh.neighbours, length, 6);
+}
+
+/* The plan does not depend on the unknowns; 28 comes before 1 and 8, and is not fooled by low bits that would be right. */
+static void planned_unknowns(void) {
+    plan_path(151, 2, 6);
+    plan_path(151, 6, 6);
+    plan_path(152, 0, 6);
+    plan_path(152, 7, 6);
+    plan_path(152, 65537, 6);
+    plan_path(152, 4294967297, 6);
+    plan_path(153, 0, 4);
+    plan_unknowns(153, 0, 0, LIST32(0), EMPTY16, 2, 1);
+    plan_unknowns(153, 7, 4097, EMPTY32, EMPTY16, 2, 1);
+    plan_unknowns(154, 6, 0, LIST32(0), EMPTY16, 2, 1);
+}
+
+/* 28 comes before 13, for wrong numbers and for short lists, and before 15 and 8. */
+static void written_unknowns(void) {
+    List16 path_order = LIST16(0, 1, 3, 4, 2), path_rows = LIST16(1, 4, 3, 4, 4);
+    List32 starts = LIST32(0, 1, 2, 4, 5, 5);
+    write_unknowns(155, 6, path_order, starts, path_rows, 63);
+    write_unknowns(156, 0, path_order, starts, path_rows, 61);
+    write_unknowns(156, 7, path_order, starts, path_rows, 61);
+    write_unknowns(156, 65537, path_order, starts, path_rows, 61);
+    write_unknowns(156, 4294967297, path_order, starts, path_rows, 61);
+    write_lent(157, 0, 0, 0, 0, EMPTY16, EMPTY16, EMPTY16, EMPTY32, EMPTY16, 19);
+    write_unknowns(157, 7, LIST16(0, 1, 3, 4), starts, path_rows, 61);
+    write_unknowns(157, 7, LIST16(0, 1, 3, 4, 4), starts, path_rows, 60);
+    write_lent(158, 6, 0, 0, 0, EMPTY16, EMPTY16, EMPTY16, EMPTY32, EMPTY16, 19);
+    write_unknowns(158, 6, LIST16(0, 1, 3, 4), starts, path_rows, 61);
+}
+
+/* Files of version 2: numbers of unknowns; 28 comes before 13, 14 and 15. */
+static void read_unknowns(void) {
+    File f = path_file(), none = changed(f, 5, 0);
+    read_path(161, changed(f, 5, 6));
+    read_path(162, none);
+    read_path(162, changed(f, 5, 7));
+    read_path(162, changed(f, 5, 256));
+    read_path(162, changed(f, 5, 65535));
+    read_path(163, changed(none, 7, 0));
+    read_path(163, resized(none, 60));
+    read_path(163, changed(none, 21, 0));
+}
+
+/* Files of 16 to 19 bytes: 10 comes for the second time right after the version, before 28, and for version 2 only. */
+static void short_files(void) {
+    File f = path_file(), whole = changed(bare_file(2), 5, 1);
+    read_path(164, resized(f, 16));
+    read_path(164, resized(f, 17));
+    read_path(164, resized(f, 18));
+    read_path(164, resized(f, 19));
+    read_path(165, resized(bare_file(2), 18));
+    read_path(165, bare_file(2));
+    read_path(165, whole);
+    read_path(166, resized(changed(f, 1, 0), 17));
+    read_path(166, resized(changed(f, 3, 3), 17));
+    read_path(167, resized(bare_file(1), 17));
+    read_path(167, resized(path_file_1(), 17));
+}
+
+/* Versions that are neither 1 nor 2, some with one of them in a byte; and the file of a version told to be of the other. */
+static void other_versions(void) {
+    File f = path_file(), older = path_file_1();
+    read_path(171, changed(f, 3, 0));
+    read_path(171, changed(f, 3, 3));
+    read_path(171, changed(f, 3, 256));
+    read_path(171, changed(f, 3, 258));
+    read_path(171, changed(f, 3, 512));
+    read_path(171, changed(older, 3, 0));
+    read_path(171, changed(older, 3, 257));
+    read_path(172, changed(f, 3, 1));
+    read_path(172, changed(older, 3, 2));
+}
+
+/* Files of version 1, and lengths that are those of the other version. */
+static void older_files(void) {
+    File f = path_file_1();
+    read_path(173, resized(f, 61));
+    read_path(173, resized(path_file(), 59));
+    read_path(174, changed(f, 5, 0));
+    read_path(174, changed(f, 19, 0));
+    read_path(174, changed(f, 27, 0));
+    read_path(174, changed(f, 49, 5));
+    read_path(174, changed(f, 49, 2));
+    read_lent(175, f, (Lengths){5, 4, 5, 5, 6, 5});
+    read_lent(175, f, (Lengths){5, 5, 5, 5, 6, 4});
+}
+
+static void versions(void) {
+    planned_unknowns();
+    written_unknowns();
+    read_unknowns();
+    short_files();
+    other_versions();
+    older_files();
 }
 
 int main(void) {
@@ -513,5 +642,6 @@ int main(void) {
     long_lists();
     slots();
     row_faults();
+    versions();
     return 0;
 }

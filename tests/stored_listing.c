@@ -87,16 +87,16 @@ static uint32_t number_at(const Case *input, size_t at, size_t bytes) {
     return x;
 }
 
-/* Plans the mesh in an input, or refuses it with 20. */
+/* Plans the mesh in an input with one unknown for each node, or refuses it with 20. */
 static NdpPlan plan_input(const Case *input) {
-    NdpPlan refused = {20, 0, 0, 0, 0};
+    NdpPlan refused = {.refusal = 20};
     if (input->length < 2) return refused;
     size_t n = number_at(input, 0, 2), end = 2 + 4 * (n + 1);
     if (n > MOST_NODES || input->length < end || (input->length - end) % 2 || (input->length - end) / 2 > MOST_ENTRIES) return refused;
     size_t entries = (input->length - end) / 2;
     for (size_t v = 0; v <= n; v++) starts[v] = number_at(input, 2 + 4 * v, 4);
     for (size_t e = 0; e < entries; e++) neighbours[e] = number_at(input, end + 2 * e, 2);
-    return plain_plan(n, starts, n + 1, neighbours, entries, order, MOST_NODES, positions, MOST_NODES, sizes, MOST_NODES, parents, MOST_NODES,
+    return plain_plan(1, n, starts, n + 1, neighbours, entries, order, MOST_NODES, positions, MOST_NODES, sizes, MOST_NODES, parents, MOST_NODES,
                       column_starts, MOST_NODES + 1, rows, MOST_SLOTS);
 }
 

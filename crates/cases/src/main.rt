@@ -8,6 +8,7 @@ mod questions;
 mod row_faults;
 mod show;
 mod slots;
+mod versions;
 
 use crate::show::print_answer;
 use crate::show::print_buffers;
@@ -20,8 +21,9 @@ use meshes::front16;
 use meshes::front32;
 use plan::Plan;
 
-// A mesh planned into four buffers of `length` entries, column starts of `columns` and rows of `slots`.
+// A mesh planned with so many unknowns for each node into four buffers of `length` entries, column starts of `columns` and rows of `slots`.
 fn plan_lent(
+    unknowns: usize,
     n: usize,
     starts: &[u32],
     neighbours: &[u16],
@@ -36,6 +38,7 @@ fn plan_lent(
     let mut columnStarts = [60000u32; 32];
     let mut rows = [60000u16; 32];
     let answer = planner::plan(
+        unknowns,
         n,
         starts,
         neighbours,
@@ -66,6 +69,7 @@ fn plan_edges(title: u8, n: u8, edges: &[u8], slots: usize) {
     let entries = c.entry_count;
     let size = n as usize;
     plan_lent(
+        1,
         size,
         first32(&starts, size + 1),
         first16(&neighbours, entries),
@@ -75,9 +79,10 @@ fn plan_edges(title: u8, n: u8, edges: &[u8], slots: usize) {
     );
 }
 
-// Any lists of n nodes, planned into buffers of this length, one more for the columns, and rows of their length.
-pub(crate) fn plan_lists(
+// Any lists of n nodes with so many unknowns each, planned into buffers of this length, one more for the columns, and rows of their length.
+pub(crate) fn plan_unknowns(
     title: u8,
+    unknowns: usize,
     n: usize,
     starts: &[u32],
     neighbours: &[u16],
@@ -86,7 +91,19 @@ pub(crate) fn plan_lists(
 ) {
     print_title(title);
     let size = length as usize;
-    plan_lent(n, starts, neighbours, size, size + 1, slots);
+    plan_lent(unknowns, n, starts, neighbours, size, size + 1, slots);
+}
+
+// Such lists with one unknown for each node.
+pub(crate) fn plan_lists(
+    title: u8,
+    n: usize,
+    starts: &[u32],
+    neighbours: &[u16],
+    length: u8,
+    slots: usize,
+) {
+    plan_unknowns(title, 1, n, starts, neighbours, length, slots);
 }
 
 // n nodes without entries: the answer, the last entries of each buffer and the entry behind them.
@@ -100,6 +117,7 @@ fn plan_bare(title: u8, n: usize) {
     let mut columnStarts = [60000u32; Plan::NODES + 2];
     let mut rows = [60000u16; 1];
     let answer = planner::plan(
+        1,
         n,
         first32(&starts, n % (Plan::NODES + 2) + 1),
         &[],
@@ -238,6 +256,7 @@ fn families() {
     print_family(22);
     print_family(23);
     print_family(27);
+    print_family(28);
 }
 
 fn main() {
@@ -254,4 +273,5 @@ fn main() {
     long_lists::all();
     slots::all();
     row_faults::all();
+    versions::all();
 }

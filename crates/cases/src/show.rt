@@ -31,6 +31,7 @@ fn print_plan(p: Plan) {
     print_spaced(p.parts as u64);
     print_spaced(p.slots as u64);
     print_spaced(p.multiplications);
+    print_spaced(p.unknowns as u64);
     end_line();
 }
 
@@ -40,7 +41,7 @@ fn print_refusal(number: u32) {
     end_line();
 }
 
-// Nodes, parts, slots and multiplications, or the refusal's number.
+// Nodes, parts, slots, multiplications and unknowns, or the refusal's number.
 pub(crate) fn print_answer(answer: PlanAnswer) {
     match answer {
         PlanAnswer::Accepted(p) => print_plan(p),
