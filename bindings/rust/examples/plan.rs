@@ -11,7 +11,8 @@ fn main() -> Result<(), Box<dyn error::Error>> {
     let lists = mesh.lists();
     println!("{} nodes, {} neighbour entries", lists.nodes, lists.neighbours.len());
 
-    let plan = Plan::of(&lists)?;
+    // One unknown for each node; up to `ndplan::MAX_UNKNOWNS` are possible.
+    let plan = Plan::of(1, &lists)?;
     let counts = plan.counts();
     println!("{} parts, {} slots, {} multiplications", counts.parts, counts.slots, counts.multiplications);
     println!("the first nodes of the order: {:?}", &plan.order()[..lists.nodes.min(10)]);

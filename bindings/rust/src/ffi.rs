@@ -8,6 +8,7 @@ pub struct NdpPlan {
     pub nodes: u32,
     pub parts: u32,
     pub slots: u32,
+    pub unknowns: u32,
     pub multiplications: u64,
 }
 
@@ -64,6 +65,7 @@ pub const NDP_QUESTION: u32 = 4;
 
 extern "C" {
     pub fn ndp_plan(
+        unknowns: usize,
         n: usize,
         starts: *const u32,
         starts_length: usize,
@@ -101,6 +103,7 @@ extern "C" {
     ) -> NdpPlan;
 
     pub fn ndp_write(
+        unknowns: usize,
         n: usize,
         p: usize,
         s: usize,

@@ -1,16 +1,17 @@
 //! Nested dissection plans for symmetric meshes: a safe wrapper over the proved planner in `libndplan.a`.
 //!
 //! A mesh is lent as neighbour lists. Its plan is an order of the nodes, a tree of parts, and the layout of the factor:
-//! for each column the rows that have a slot. The functions of this module work on the caller's memory and allocate
-//! nothing; [`Plan`] owns its memory. A [`Refusal`] has a number and says what it means. A mesh may also come as a Matrix
-//! Market text, which [`OwnedMesh`] reads.
+//! for each column the rows that have a slot. It also carries the number of unknowns for each node, on which nothing else
+//! in it depends. The functions of this module work on the caller's memory and allocate nothing; [`Plan`] owns its memory.
+//! A [`Refusal`] has a number and says what it means. A mesh may also come as a Matrix Market text, which [`OwnedMesh`]
+//! reads.
 //!
 //! ```
 //! use ndplan::{Mesh, OwnedMesh, Pair, PairAnswer, Plan, Refusal};
 //!
 //! // The path 0-1-2-3-4.
 //! let mesh = Mesh { nodes: 5, starts: &[0, 1, 3, 5, 7, 8], neighbours: &[1, 0, 2, 1, 3, 2, 4, 3] };
-//! let plan = Plan::of(&mesh)?;
+//! let plan = Plan::of(1, &mesh)?;
 //! assert_eq!(plan.order(), [0, 1, 3, 4, 2]);
 //! assert_eq!(plan.sizes(), [2, 2, 1]);
 //! assert_eq!(plan.column(2)?, [3, 4]);
@@ -19,12 +20,12 @@
 //! assert_eq!(plan.slot(0, 5), Err(Refusal(21)));
 //!
 //! let file = plan.write()?;
-//! assert_eq!(file.len(), 59);
+//! assert_eq!(file.len(), 61);
 //! assert_eq!(Plan::read(&file)?, plan);
 //!
 //! let text = b"%%MatrixMarket matrix coordinate pattern symmetric\n5 5 4\n2 1\n3 2\n4 3\n5 4\n";
 //! let mesh = OwnedMesh::read_matrix_market(text)?;
-//! assert_eq!(Plan::of(&mesh.lists())?, plan);
+//! assert_eq!(Plan::of(1, &mesh.lists())?, plan);
 //! # Ok::<(), Refusal>(())
 //! ```
 
@@ -43,6 +44,8 @@ pub const MAX_NODES: usize = 4096;
 pub const MAX_ENTRIES: usize = 65536;
 /// The most neighbours of a node.
 pub const MAX_NEIGHBOURS: usize = 26;
+/// The most unknowns for each node.
+pub const MAX_UNKNOWNS: usize = 6;
 /// The most slots of a plan.
 pub const MAX_SLOTS: usize = 8386560;
 /// The parent of a part that has none.
@@ -89,12 +92,13 @@ pub struct Buffers<'a> {
     pub rows: &'a mut [u16],
 }
 
-/// How much of the buffers a plan uses, and the multiplications of a factorization by it.
+/// How much of the buffers a plan uses, its unknowns for each node, and the multiplications of a factorization by it.
 #[derive(Clone, Copy, Debug, PartialEq, Eq)]
 pub struct Counts {
     pub nodes: usize,
     pub parts: usize,
     pub slots: usize,
+    pub unknowns: usize,
     pub multiplications: u64,
 }
 
@@ -104,6 +108,7 @@ pub struct PlanView<'a> {
     pub nodes: usize,
     pub parts: usize,
     pub slots: usize,
+    pub unknowns: usize,
     pub order: &'a [u16],
     pub sizes: &'a [u16],
     pub parents: &'a [u16],
@@ -137,12 +142,13 @@ pub struct Pair {
     pub column: u32,
 }
 
-/// Plans a mesh into `buffers`. The nodes of a part that is no part's parent are then all neighbours of one another.
-/// Refuses with 1 to 6, 26, and 7 to 9.
-pub fn plan(mesh: &Mesh, buffers: &mut Buffers) -> Result<Counts, Refusal> {
+/// Plans a mesh with so many unknowns for each node into `buffers`. The nodes of a part that is no part's parent are then
+/// all neighbours of one another. Refuses with 28, 1 to 6, 26, and 7 to 9.
+pub fn plan(unknowns: usize, mesh: &Mesh, buffers: &mut Buffers) -> Result<Counts, Refusal> {
     // SAFETY: each pointer and length is that of a slice; the slices written are borrowed mutably, so none overlaps another.
     let reply = unsafe {
         ffi::ndp_plan(
+            unknowns,
             mesh.nodes,
             mesh.starts.as_ptr(),
             mesh.starts.len(),
@@ -165,7 +171,8 @@ pub fn plan(mesh: &Mesh, buffers: &mut Buffers) -> Result<Counts, Refusal> {
     counts(reply)
 }
 
-/// Reads a plan file, the whole of `file`, into `buffers`. Refuses with 10 to 19, 8 and 9.
+/// Reads a plan file of version 1 or 2, the whole of `file`, into `buffers`. A version 1 file is read as a plan of one
+/// unknown for each node. Refuses with 10 to 12, 28, 13 to 19, 8 and 9.
 pub fn read(file: &[u8], buffers: &mut Buffers) -> Result<Counts, Refusal> {
     // SAFETY: as in `plan`.
     let reply = unsafe {
@@ -189,11 +196,13 @@ pub fn read(file: &[u8], buffers: &mut Buffers) -> Result<Counts, Refusal> {
     counts(reply)
 }
 
-/// Writes a plan file to the front of `file` and answers with its length. Refuses with 13, 15 to 19, and 8 where `file` is too short.
+/// Writes a plan file of version 2 to the front of `file` and answers with its length. A reader that knows version 1 only
+/// refuses it with 12. Refuses with 28, 13, 15 to 19, and 8 where `file` is too short.
 pub fn write(plan: &PlanView, file: &mut [u8]) -> Result<usize, Refusal> {
     // SAFETY: as in `plan`; the only slice written is `file`.
     let reply = unsafe {
         ffi::ndp_write(
+            plan.unknowns,
             plan.nodes,
             plan.parts,
             plan.slots,
@@ -280,13 +289,14 @@ fn counts(reply: ffi::NdpPlan) -> Result<Counts, Refusal> {
         nodes: reply.nodes as usize,
         parts: reply.parts as usize,
         slots: reply.slots as usize,
+        unknowns: reply.unknowns as usize,
         multiplications: reply.multiplications,
     })
 }
 
 impl Counts {
-    /// The length in bytes of the plan's file.
+    /// The length in bytes of the plan's file as [`write`] writes it; a version 1 file is 2 bytes shorter.
     pub fn file_length(&self) -> usize {
-        17 + 4 * self.nodes + 4 * self.parts + 2 * self.slots
+        19 + 4 * self.nodes + 4 * self.parts + 2 * self.slots
     }
 }

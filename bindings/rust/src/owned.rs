@@ -44,21 +44,24 @@ pub struct Plan {
 }
 
 impl Plan {
-    /// Plans a mesh. The nodes of a part that is no part's parent are all neighbours of one another.
-    /// Refuses with 1 to 6, 26 and 7.
-    pub fn of(mesh: &Mesh) -> Result<Plan, Refusal> {
+    /// Plans a mesh with so many unknowns for each node. The nodes of a part that is no part's parent are all neighbours of
+    /// one another. Refuses with 28, 1 to 6, 26 and 7.
+    pub fn of(unknowns: usize, mesh: &Mesh) -> Result<Plan, Refusal> {
         // More nodes than a mesh may have are refused, whatever the room is.
         let nodes = mesh.nodes.min(MAX_NODES);
         // A refusal does not tell the number of slots, so there is room for every pair of nodes.
         let pairs = nodes * nodes.saturating_sub(1) / 2;
-        Plan::filled(nodes, pairs, |buffers| plan(mesh, buffers))
+        Plan::filled(nodes, pairs, |buffers| plan(unknowns, mesh, buffers))
     }
 
-    /// Reads a plan file. Refuses with 10 to 19.
+    /// Reads a plan file of version 1 or 2. Refuses with 10 to 12, 28 and 13 to 19.
     pub fn read(file: &[u8]) -> Result<Plan, Refusal> {
-        // Nodes or slots above their limits, and more slots than the bytes hold, are refused before the room is looked at.
-        let slots = number_at(file, 13).min(MAX_SLOTS).min(file.len() / 2);
-        Plan::filled(number_at(file, 5).min(MAX_NODES), slots, |buffers| read(file, buffers))
+        // In version 1 the nodes stand at byte 5 and the slots at byte 13. Other versions than 1 and 2 are refused before the
+        // room is looked at.
+        let further = if file.get(3..5) == Some(&[2, 0]) { 2 } else { 0 };
+        // So are nodes or slots above their limits, and more slots than the bytes hold.
+        let slots = number_at(file, 13 + further).min(MAX_SLOTS).min(file.len() / 2);
+        Plan::filled(number_at(file, 5 + further).min(MAX_NODES), slots, |buffers| read(file, buffers))
     }
 
     /// Lends room for this many nodes and slots to `fill`, and keeps what was used of it.
@@ -85,9 +88,14 @@ impl Plan {
         Ok(Plan { counts, order, positions, sizes, parents, column_starts, rows })
     }
 
-    /// The number of nodes, parts, slots and multiplications.
+    /// The number of nodes, parts, slots, unknowns for each node and multiplications.
     pub fn counts(&self) -> Counts {
         self.counts
+    }
+
+    /// The number of unknowns for each node.
+    pub fn unknowns(&self) -> usize {
+        self.counts.unknowns
     }
 
     /// The node at each position.
@@ -135,7 +143,7 @@ impl Plan {
         pair(&self.layout(), slot)
     }
 
-    /// The plan's file. What planning and reading give is never refused by the writer.
+    /// The plan's file, of version 2. What planning and reading give is never refused by the writer.
     pub fn write(&self) -> Result<Vec<u8>, Refusal> {
         let mut file = vec![0; self.counts.file_length()];
         let length = write(&self.view(), &mut file)?;
@@ -152,6 +160,7 @@ impl Plan {
             nodes: self.counts.nodes,
             parts: self.counts.parts,
             slots: self.counts.slots,
+            unknowns: self.counts.unknowns,
             order: &self.order,
             sizes: &self.sizes,
             parents: &self.parents,

@@ -30,7 +30,7 @@ pub fn family(number: u32) -> Family {
 }
 
 /// What each number means, from 0 on, in the words of `include/ndplan.h`.
-const TEXTS: [&str; 28] = [
+const TEXTS: [&str; 29] = [
     "accepted",
     "the number of nodes is not 1 to 4096",
     "there is not one start more than nodes, or the starts do not begin at 0, fall, or do not end at the number of neighbour entries",
@@ -41,11 +41,11 @@ const TEXTS: [&str; 28] = [
     "an edge is listed by one of its two nodes only",
     "a result buffer other than the rows is too short",
     "the rows buffer is shorter than the slots",
-    "the file has fewer than 17 bytes",
+    "the file has fewer than 17 bytes, or fewer than 19 in version 2",
     "the file does not begin with the letters NDP",
-    "the file's version is not 1",
+    "the file's version is neither 1 nor 2",
     "the nodes n are not 1 to 4096, the parts not 1 to n, the slots above n(n - 1)/2, or a list to be written is too short for these",
-    "the file's length is not 17 + 4 nodes + 4 parts + 2 slots",
+    "the file's length is not 17 + 4 nodes + 4 parts + 2 slots in version 1, or 19 + 4 nodes + 4 parts + 2 slots in version 2",
     "the order does not hold each node once",
     "a part's size is 0, the sizes do not sum to the nodes, or a parent is neither 65535 (none) nor the number of a later part",
     "the column starts or row counts do not fit the slots, or a column's rows are not strictly ascending, above it and below the nodes",
@@ -59,6 +59,7 @@ const TEXTS: [&str; 28] = [
     "a pair is given again, diagonal ones too",
     "a list is longer than 26 entries",
     "a slot number is not below the number of slots",
+    "the number of unknowns for each node is not 1 to 6",
 ];
 
 impl Refusal {

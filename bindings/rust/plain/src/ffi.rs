@@ -6,6 +6,7 @@ pub struct NdpPlan {
     pub nodes: u32,
     pub parts: u32,
     pub slots: u32,
+    pub unknowns: u32,
     pub multiplications: u64,
 }
 
@@ -45,6 +46,7 @@ pub struct NdpMesh {
 
 extern "C" {
     pub fn plain_plan(
+        unknowns: usize,
         n: usize,
         starts: *const u32,
         starts_length: usize,
@@ -81,7 +83,26 @@ extern "C" {
         rows_length: usize,
     ) -> NdpPlan;
 
+    /// The reader of a workshop that never updates: it knows version 1 of the file only.
+    pub fn plain_read_version_1(
+        file: *const u8,
+        file_length: usize,
+        order: *mut u16,
+        order_length: usize,
+        positions: *mut u16,
+        positions_length: usize,
+        sizes: *mut u16,
+        sizes_length: usize,
+        parents: *mut u16,
+        parents_length: usize,
+        column_starts: *mut u32,
+        column_starts_length: usize,
+        rows: *mut u16,
+        rows_length: usize,
+    ) -> NdpPlan;
+
     pub fn plain_write(
+        unknowns: usize,
         n: usize,
         p: usize,
         s: usize,

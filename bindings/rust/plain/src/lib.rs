@@ -22,7 +22,7 @@ impl MeshLists {
     }
 }
 
-/// What a plan puts to the front of the lent results, and its multiplications.
+/// What a plan puts to the front of the lent results, its unknowns for each node, and its multiplications.
 #[derive(Clone, Debug, Default, PartialEq)]
 pub struct Planned {
     pub order: Vec<u16>,
@@ -31,6 +31,7 @@ pub struct Planned {
     pub parents: Vec<u16>,
     pub column_starts: Vec<u32>,
     pub rows: Vec<u16>,
+    pub unknowns: usize,
     pub multiplications: u64,
 }
 
@@ -48,6 +49,7 @@ pub struct Room {
 /// What the writer is lent.
 #[derive(Clone, Debug)]
 pub struct FileParts {
+    pub unknowns: usize,
     pub n: usize,
     pub p: usize,
     pub s: usize,
@@ -88,6 +90,7 @@ fn lent(room: &Room) -> Planned {
         parents: vec![0; room.parents],
         column_starts: vec![0; room.column_starts],
         rows: vec![0; room.rows],
+        unknowns: 0,
         multiplications: 0,
     }
 }
@@ -103,17 +106,19 @@ fn used(lent: &Planned, reply: NdpPlan) -> Result<Planned, u32> {
         parents: lent.parents[..p].to_vec(),
         column_starts: lent.column_starts[..n + 1].to_vec(),
         rows: lent.rows[..s].to_vec(),
+        unknowns: reply.unknowns as usize,
         multiplications: reply.multiplications,
     })
 }
 
-/// Plans a mesh into results of these lengths.
-pub fn plan(mesh: &MeshLists, room: &Room) -> Result<Planned, u32> {
+/// Plans a mesh with so many unknowns for each node into results of these lengths.
+pub fn plan(unknowns: usize, mesh: &MeshLists, room: &Room) -> Result<Planned, u32> {
     let mut lent = lent(room);
     let turn = turn();
     // SAFETY: each pointer and length is that of a list, every list is an allocation of its own, and no other call runs.
     let reply = unsafe {
         ffi::plain_plan(
+            unknowns,
             mesh.n,
             mesh.starts.as_ptr(),
             mesh.starts.len(),
@@ -137,13 +142,27 @@ pub fn plan(mesh: &MeshLists, room: &Room) -> Result<Planned, u32> {
     used(&lent, reply)
 }
 
-/// Reads a file into results of these lengths.
+/// Reads a file of version 1 or 2 into results of these lengths.
 pub fn read(file: &[u8], room: &Room) -> Result<Planned, u32> {
+    read_versions(2, file, room)
+}
+
+/// Reads a file as the workshop that never updates does: it knows version 1 only.
+pub fn read_version_1(file: &[u8], room: &Room) -> Result<Planned, u32> {
+    read_versions(1, file, room)
+}
+
+/// Reads a file of the versions 1 to `newest`.
+fn read_versions(newest: u32, file: &[u8], room: &Room) -> Result<Planned, u32> {
+    let reader = match newest {
+        1 => ffi::plain_read_version_1,
+        _ => ffi::plain_read,
+    };
     let mut lent = lent(room);
     let turn = turn();
     // SAFETY: as in `plan`.
     let reply = unsafe {
-        ffi::plain_read(
+        reader(
             file.as_ptr(),
             file.len(),
             lent.order.as_mut_ptr(),
@@ -171,6 +190,7 @@ pub fn write(plan: &FileParts, room: usize) -> Result<Vec<u8>, u32> {
     // SAFETY: as in `plan`.
     let NdpWritten { refusal, length } = unsafe {
         ffi::plain_write(
+            plan.unknowns,
             plan.n,
             plan.p,
             plan.s,
