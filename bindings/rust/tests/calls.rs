@@ -26,6 +26,14 @@ pub fn ample_room(n: usize) -> Room {
     longer_room(n, n * n / 2)
 }
 
+/// A number of unknowns for each node of a mesh, each of the six in turn with the number of nodes.
+pub fn unknowns_for(n: usize) -> usize {
+    1 + n % 6
+}
+
+/// Numbers that are no number of unknowns. The last ones would be if they were cut to 16 or 32 bits.
+pub const NO_UNKNOWNS: [usize; 8] = [0, 7, 8, 65535, 65536, 65537, (1 << 32) + 6, usize::MAX - 65534];
+
 /// The six lent results.
 struct Lent {
     order: Guarded<u16>,
@@ -72,25 +80,25 @@ impl Lent {
     }
 }
 
-/// Plans a mesh and compares with the plain planner, whose answer is given back.
-pub fn plan(mesh: &MeshLists, room: &Room) -> Expected {
-    let expected = plain::plan(mesh, room);
-    plan_expecting(mesh, room, &expected);
+/// Plans a mesh with so many unknowns for each node and compares with the plain planner, whose answer is given back.
+pub fn plan(unknowns: usize, mesh: &MeshLists, room: &Room) -> Expected {
+    let expected = plain::plan(unknowns, mesh, room);
+    plan_expecting(unknowns, mesh, room, &expected);
     expected
 }
 
 /// Plans a mesh and compares. The lists handed out are the expected ones, so the rule for uncut parts is looked at in these.
-pub fn plan_expecting(mesh: &MeshLists, room: &Room, expected: &Expected) {
+pub fn plan_expecting(unknowns: usize, mesh: &MeshLists, room: &Room, expected: &Expected) {
     let mut starts = Guarded::holding(&mesh.starts);
     let mut neighbours = Guarded::holding(&mesh.neighbours);
     let mut lent = Lent::of(room);
     let lists = Mesh { nodes: mesh.n, starts: starts.shown(), neighbours: neighbours.shown() };
-    let answer = ndplan::plan(&lists, &mut lent.buffers());
+    let answer = ndplan::plan(unknowns, &lists, &mut lent.buffers());
     assert_eq!(answer, counts_of(expected), "the wrapper's answer");
     lent.check(expected);
 
     let mut lent = Lent::of(room);
-    let reply = raw_plan(mesh.n, &mut starts, &mut neighbours, &mut lent);
+    let reply = raw_plan([unknowns, mesh.n], &mut starts, &mut neighbours, &mut lent);
     assert_eq!(reply, plan_reply(expected), "the C interface's reply");
     lent.check(expected);
     starts.check(&mesh.starts, "starts");
@@ -100,10 +108,16 @@ pub fn plan_expecting(mesh: &MeshLists, room: &Room, expected: &Expected) {
     }
 }
 
-fn raw_plan(n: usize, starts: &mut Guarded<u32>, neighbours: &mut Guarded<u16>, lent: &mut Lent) -> NdpPlan {
+fn raw_plan(
+    [unknowns, n]: [usize; 2],
+    starts: &mut Guarded<u32>,
+    neighbours: &mut Guarded<u16>,
+    lent: &mut Lent,
+) -> NdpPlan {
     // SAFETY: each pointer and length is that of a lent slice, and every slice is an allocation of its own.
     unsafe {
         ffi::ndp_plan(
+            unknowns,
             n,
             starts.pointer(),
             starts.len(),
@@ -177,6 +191,7 @@ fn counts_of(expected: &Expected) -> Result<Counts, Refusal> {
             nodes: plan.order.len(),
             parts: plan.sizes.len(),
             slots: plan.rows.len(),
+            unknowns: plan.unknowns,
             multiplications: plan.multiplications,
         }),
     }
@@ -185,12 +200,13 @@ fn counts_of(expected: &Expected) -> Result<Counts, Refusal> {
 /// The C interface's reply to planning or reading: on a refusal every other field is 0.
 fn plan_reply(expected: &Expected) -> NdpPlan {
     match expected {
-        Err(number) => NdpPlan { refusal: *number, nodes: 0, parts: 0, slots: 0, multiplications: 0 },
+        Err(number) => NdpPlan { refusal: *number, nodes: 0, parts: 0, slots: 0, unknowns: 0, multiplications: 0 },
         Ok(plan) => NdpPlan {
             refusal: 0,
             nodes: plan.order.len() as u32,
             parts: plan.sizes.len() as u32,
             slots: plan.rows.len() as u32,
+            unknowns: plan.unknowns as u32,
             multiplications: plan.multiplications,
         },
     }
@@ -245,6 +261,7 @@ impl LentPlan {
             nodes: parts.n,
             parts: parts.p,
             slots: parts.s,
+            unknowns: parts.unknowns,
             order: self.order.shown(),
             sizes: self.sizes.shown(),
             parents: self.parents.shown(),
@@ -257,6 +274,7 @@ impl LentPlan {
         // SAFETY: as in `raw_plan`.
         unsafe {
             ffi::ndp_write(
+                parts.unknowns,
                 parts.n,
                 parts.p,
                 parts.s,
@@ -364,25 +382,12 @@ impl LentLayout {
     }
 }
 
-/// What the writer is to be lent for a plan, each list as long as it is used.
-pub fn parts_of(plan: &Planned) -> FileParts {
-    FileParts {
-        n: plan.order.len(),
-        p: plan.sizes.len(),
-        s: plan.rows.len(),
-        order: plan.order.clone(),
-        sizes: plan.sizes.clone(),
-        parents: plan.parents.clone(),
-        column_starts: plan.column_starts.clone(),
-        rows: plan.rows.clone(),
-    }
-}
-
 /// An owned plan holds what is expected, or was refused as expected.
 pub fn owned_expecting(owned: &Result<ndplan::Plan, Refusal>, expected: &Expected) {
     match (owned, expected) {
         (Ok(owned), Ok(plan)) => {
             assert_eq!(Ok(owned.counts()), counts_of(expected));
+            assert_eq!(owned.unknowns(), plan.unknowns);
             assert!(owned.order() == plan.order && owned.positions() == plan.positions, "owned order or positions");
             assert!(owned.sizes() == plan.sizes && owned.parents() == plan.parents, "owned sizes or parents");
             assert!(owned.column_starts() == plan.column_starts && owned.rows() == plan.rows, "owned layout");

@@ -4,6 +4,7 @@
 
 mod calls;
 mod cliques;
+mod files;
 mod guarded;
 mod meshes;
 mod paths;
@@ -24,5 +25,6 @@ mod plans;
 mod replies;
 mod row_faults;
 mod settled;
+mod versions;
 mod worked;
 mod worked_texts;

@@ -1,6 +1,7 @@
 //! Damaged files: bytes, words, fields, lengths and versions.
 
-use crate::calls::{self, ample_room, exact_room, longer_room, owned_expecting, parts_of};
+use crate::calls::{self, ample_room, exact_room, longer_room, owned_expecting, unknowns_for};
+use crate::files::{self, counts_at, file_of, parts_of};
 use crate::meshes;
 use crate::paths::reached_through_earlier;
 use crate::random::Random;
@@ -31,31 +32,33 @@ pub fn other_plan(mesh: &MeshLists, random: &mut Random) -> Planned {
     let last = sizes.len() as u16 - 1;
     let parents = (0..=last).map(|part| if part == last { 65535 } else { part + 1 }).collect();
     let multiplications = columns.iter().map(|rows| (rows.len() * (rows.len() + 3) / 2) as u64).sum();
-    Planned { order, positions, sizes, parents, column_starts, rows: columns.concat(), multiplications }
+    let unknowns = unknowns_for(mesh.n);
+    Planned { order, positions, sizes, parents, column_starts, rows: columns.concat(), unknowns, multiplications }
 }
 
-/// The file of a plan, by the plain writer.
-fn file_of(plan: &Planned) -> Vec<u8> {
-    let length = 17 + 4 * plan.order.len() + 4 * plan.sizes.len() + 2 * plan.rows.len();
-    plain::write(&parts_of(plan), length).unwrap()
-}
-
-/// Small files of both kinds of plan.
-fn small_files(count: usize, size: usize, random: &mut Random) -> Vec<Vec<u8>> {
-    let mut files = vec![file_of(&calls::plan(&meshes::path(5), &ample_room(5)).unwrap())];
+/// Small plans of both kinds.
+pub fn small_plans(count: usize, size: usize, random: &mut Random) -> Vec<Planned> {
+    let mut plans = vec![calls::plan(6, &meshes::path(5), &ample_room(5)).unwrap()];
     for round in 0..count {
         let mesh = meshes::any(size, random);
-        files.push(file_of(&match round % 2 {
-            0 => calls::plan(&mesh, &ample_room(mesh.n)).unwrap(),
+        plans.push(match round % 2 {
+            0 => calls::plan(unknowns_for(mesh.n), &mesh, &ample_room(mesh.n)).unwrap(),
             _ => other_plan(&mesh, random),
-        }));
+        });
     }
-    files
+    plans
+}
+
+/// The files of small plans, in each version with its number.
+fn small_files(count: usize, size: usize, random: &mut Random) -> Vec<(u16, Vec<u8>)> {
+    let plans = small_plans(count, size, random);
+    plans.iter().flat_map(|plan| [1, 2].map(|version| (version, file_of(version, &parts_of(plan))))).collect()
 }
 
 /// The fields of a file's header: n, parts and slots.
-fn counts_of(file: &[u8]) -> [usize; 3] {
-    [5, 9, 13].map(|at| u32::from_le_bytes(file[at..at + 4].try_into().unwrap()) as usize)
+fn counts_of(version: u16, file: &[u8]) -> [usize; 3] {
+    let first = counts_at(version);
+    [first, first + 4, first + 8].map(|at| u32::from_le_bytes(file[at..at + 4].try_into().unwrap()) as usize)
 }
 
 /// Reads a file into room that is exact, longer or too short for the whole file, and into an owned plan.
@@ -76,8 +79,8 @@ fn compare(file: &[u8], [n, _, s]: [usize; 3], random: &mut Random, met: &mut BT
 #[test]
 fn lengths() {
     let (mut random, mut met) = (Random(8), BTreeSet::new());
-    for file in small_files(30, 12, &mut random) {
-        let counts = counts_of(&file);
+    for (version, file) in small_files(30, 12, &mut random) {
+        let counts = counts_of(version, &file);
         for length in 0..file.len() {
             compare(&file[..length], counts, &mut random, &mut met);
         }
@@ -92,8 +95,8 @@ fn lengths() {
 #[test]
 fn bytes() {
     let (mut random, mut met) = (Random(9), BTreeSet::new());
-    for file in small_files(40, 12, &mut random) {
-        let counts = counts_of(&file);
+    for (version, file) in small_files(40, 12, &mut random) {
+        let counts = counts_of(version, &file);
         for at in 0..file.len() {
             let old = file[at];
             let flips = (0..8).map(|bit| old ^ (1 << bit));
@@ -104,20 +107,20 @@ fn bytes() {
             }
         }
     }
-    assert_eq!(met, BTreeSet::from([8, 9, 11, 12, 13, 14, 15, 16, 17, 18, 19]));
+    assert_eq!(met, BTreeSet::from([8, 9, 11, 12, 13, 14, 15, 16, 17, 18, 19, 28]));
 }
 
-/// Every version but 1 is refused with 12, even where the rest of the file is sound or its counts are not.
+/// Every version but 1 and 2 is refused with 12, even where the rest of the file is sound or its counts are not.
 #[test]
 fn versions() {
     let mut random = Random(10);
-    for mut file in small_files(4, 12, &mut random) {
-        let [n, _, s] = counts_of(&file);
-        for version in [0u16, 2, 3, 4, 255, 256, 257, 513, 32769, 65535] {
+    for (own, mut file) in small_files(4, 12, &mut random) {
+        let [n, _, s] = counts_of(own, &file);
+        for version in [0u16, 3, 4, 255, 256, 257, 258, 512, 513, 32769, 65535] {
             file[3..5].copy_from_slice(&version.to_le_bytes());
             assert_eq!(calls::read(&file, &exact_room(n, s)), Err(12));
             let mut no_nodes = file.clone();
-            no_nodes[5..9].fill(0);
+            no_nodes[5..11].fill(0);
             assert_eq!(calls::read(&no_nodes, &exact_room(n, s)), Err(12));
             no_nodes[1] = 0;
             assert_eq!(calls::read(&no_nodes, &exact_room(n, s)), Err(11));
@@ -129,19 +132,19 @@ fn versions() {
 #[test]
 fn fields() {
     let (mut random, mut met) = (Random(11), BTreeSet::new());
-    for file in small_files(20, 9, &mut random) {
-        let counts = counts_of(&file);
+    for (version, file) in small_files(20, 9, &mut random) {
+        let (first, counts) = (counts_at(version), counts_of(version, &file));
         let [n, p, s] = counts;
         let pairs = n * (n - 1) / 2;
         let borders =
             [0, 1, n - 1, n, n + 1, p + 1, s + 1, pairs, pairs + 1, 4096, 4097, 65536 + n, 1 << 31, u32::MAX as usize];
         for (field, value) in (0..3).flat_map(|field| borders.map(|value| (field, value))) {
             let mut changed = file.clone();
-            changed[5 + 4 * field..9 + 4 * field].copy_from_slice(&(value as u32).to_le_bytes());
+            changed[first + 4 * field..][..4].copy_from_slice(&(value as u32).to_le_bytes());
             compare(&changed, counts, &mut random, &mut met);
-            let [n, p, s] = counts_of(&changed);
+            let [n, p, s] = counts_of(version, &changed);
             if n.max(p).max(s) < 10000 {
-                changed.resize(17 + 4 * n + 4 * p + 2 * s, 0);
+                changed.resize(files::length(n, p, s) - 7 + first, 0);
                 compare(&changed, counts, &mut random, &mut met);
             }
         }
@@ -164,11 +167,11 @@ pub fn border(n: usize, p: usize, old: u16, random: &mut Random) -> u16 {
 fn words() {
     let (mut random, mut met) = (Random(12), BTreeSet::new());
     for (count, size, edits) in [(60, 6, 600), (60, 14, 600), (10, 300, 150)] {
-        for file in small_files(count, size, &mut random) {
-            let counts = counts_of(&file);
+        for (version, file) in small_files(count, size, &mut random) {
+            let counts = counts_of(version, &file);
             for _ in 0..edits {
                 let mut changed = file.clone();
-                change_words(&mut changed, counts, &mut random);
+                change_words(&mut changed[counts_at(version) + 12..], counts, &mut random);
                 compare(&changed, counts, &mut random, &mut met);
             }
         }
@@ -176,16 +179,17 @@ fn words() {
     assert_eq!(met, BTreeSet::from([8, 9, 15, 16, 17, 18, 19]));
 }
 
-fn change_words(file: &mut [u8], [n, p, _]: [usize; 3], random: &mut Random) {
-    let words = (file.len() - 17) / 2;
+/// Changes what stands behind a file's header.
+fn change_words(bytes: &mut [u8], [n, p, _]: [usize; 3], random: &mut Random) {
+    let words = bytes.len() / 2;
     for _ in 0..1 + random.below(3) {
-        let (at, other) = (17 + 2 * random.below(words), 17 + 2 * random.below(words));
+        let (at, other) = (2 * random.below(words), 2 * random.below(words));
         if random.below(3) == 0 {
-            file.swap(at, other);
-            file.swap(at + 1, other + 1);
+            bytes.swap(at, other);
+            bytes.swap(at + 1, other + 1);
         } else {
-            let old = u16::from_le_bytes([file[at], file[at + 1]]);
-            file[at..at + 2].copy_from_slice(&border(n, p, old, random).to_le_bytes());
+            let old = u16::from_le_bytes([bytes[at], bytes[at + 1]]);
+            bytes[at..at + 2].copy_from_slice(&border(n, p, old, random).to_le_bytes());
         }
     }
 }

@@ -49,7 +49,7 @@ fn layouts() {
     let (mut random, mut met) = (Random(16), BTreeSet::new());
     for round in 0..3000 {
         let mesh = meshes::any(3 + round / 100, &mut random);
-        let plan = calls::plan(&mesh, &ample_room(mesh.n)).unwrap();
+        let plan = calls::plan(1, &mesh, &ample_room(mesh.n)).unwrap();
         let sound = Parts { n: mesh.n, starts: plan.column_starts, rows: plan.rows };
         for _ in 0..8 {
             let mut parts = sound.clone();

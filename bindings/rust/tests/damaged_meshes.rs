@@ -1,6 +1,6 @@
 //! Damaged meshes and short buffers.
 
-use crate::calls::{self, ample_room, exact_room, longer_room, owned_expecting};
+use crate::calls::{self, ample_room, exact_room, longer_room, owned_expecting, unknowns_for, NO_UNKNOWNS};
 use crate::meshes::{self, from_lists, lists_of, LIMIT};
 use crate::random::Random;
 use ndplan::{Mesh, Plan};
@@ -8,7 +8,7 @@ use plain::{MeshLists, Room};
 use std::collections::BTreeSet;
 
 /// The checks of planning in their order, but 3, which asks for more entries than these meshes have.
-const CHECKS: [u32; 9] = [1, 2, 4, 5, 6, 26, 7, 8, 9];
+const CHECKS: [u32; 10] = [28, 1, 2, 4, 5, 6, 26, 7, 8, 9];
 
 /// A mesh with one damage, which the check of this number finds and no earlier one does. The mesh has an edge, and 28 nodes
 /// or more where the check is 26; damages of later checks come before those of earlier ones.
@@ -107,24 +107,29 @@ fn pairs_of_damages() {
     for round in 0..800 {
         let beside = meshes::path(if round % 2 == 0 { 2 } else { LIMIT + 2 });
         let whole = meshes::side_by_side(&[meshes::any(1 + round / 20, &mut random), beside]);
-        let slots = calls::plan(&whole, &ample_room(whole.n)).unwrap().rows.len();
+        let slots = calls::plan(1, &whole, &ample_room(whole.n)).unwrap().rows.len();
         for (at, second) in CHECKS.into_iter().enumerate() {
             for first in CHECKS[..at].iter().copied().chain([0]) {
                 if [first, second].contains(&26) && whole.n < LIMIT + 2 {
                     continue;
                 }
                 let mut mesh = whole.clone();
-                for check in [second, first].into_iter().filter(|check| ![0, 8, 9].contains(check)) {
+                for check in [second, first].into_iter().filter(|check| ![0, 8, 9, 28].contains(check)) {
                     mesh = damaged(&mesh, check, &mut random);
                 }
-                let answer = calls::plan(&mesh, &room_for([first, second], whole.n, slots, &mut random));
+                let room = room_for([first, second], whole.n, slots, &mut random);
+                let unknowns = match [first, second].contains(&28) {
+                    true => random.pick(&NO_UNKNOWNS),
+                    false => unknowns_for(round),
+                };
+                let answer = calls::plan(unknowns, &mesh, &room);
                 let expected = if first == 0 { second } else { first };
                 assert_eq!(answer.err(), Some(expected), "damages {first} and {second}: {mesh:?}");
                 met.insert((first, second));
             }
         }
     }
-    assert_eq!(met.len(), 9 * 10 / 2, "{met:?}");
+    assert_eq!(met.len(), 10 * 11 / 2, "{met:?}");
 }
 
 /// More than 65,536 entries: 3, whatever else is wrong with the lists; 2 and 1 come before it.
@@ -133,16 +138,16 @@ fn too_many_entries() {
     let mut lists = lists_of(&meshes::clique(257));
     assert_eq!(lists.concat().len(), 65792);
     let room = longer_room(257, 0);
-    assert_eq!(calls::plan(&from_lists(&lists), &room), Err(3));
+    assert_eq!(calls::plan(1, &from_lists(&lists), &room), Err(3));
     for (v, bad) in [(0, 65535), (1, 1), (2, 3), (3, 0)] {
         lists[v][0] = bad;
-        assert_eq!(calls::plan(&from_lists(&lists), &room), Err(3));
+        assert_eq!(calls::plan(1, &from_lists(&lists), &room), Err(3));
     }
     let mut mesh = from_lists(&lists);
     mesh.starts[9] = 0;
-    assert_eq!(calls::plan(&mesh, &room), Err(2));
+    assert_eq!(calls::plan(1, &mesh, &room), Err(2));
     mesh.n = 4097;
-    assert_eq!(calls::plan(&mesh, &room), Err(1));
+    assert_eq!(calls::plan(1, &mesh, &room), Err(1));
 }
 
 /// Lists of random numbers, sorted or not, mirrored or not; and the owned plan's refusals.
@@ -166,9 +171,9 @@ fn random_lists() {
             mesh.starts[at] = random.below(5) as u32;
         }
         let room = room_for([0, random.pick(&[0, 0, 8])], n, 10, &mut random);
-        met.extend(calls::plan(&mesh, &room).err());
-        let owned = Plan::of(&Mesh { nodes: mesh.n, starts: &mesh.starts, neighbours: &mesh.neighbours });
-        owned_expecting(&owned, &plain::plan(&mesh, &ample_room(n)));
+        met.extend(calls::plan(unknowns_for(n), &mesh, &room).err());
+        let lists = Mesh { nodes: mesh.n, starts: &mesh.starts, neighbours: &mesh.neighbours };
+        owned_expecting(&Plan::of(unknowns_for(n), &lists), &plain::plan(unknowns_for(n), &mesh, &ample_room(n)));
     }
     assert_eq!(met, BTreeSet::from([2, 4, 5, 6, 7, 8]));
 }
@@ -177,7 +182,7 @@ fn random_lists() {
 #[test]
 fn owned_plans_of_too_many_nodes() {
     for nodes in [0, 4097, 65537, usize::MAX] {
-        let owned = Plan::of(&Mesh { nodes, starts: &[0, 0], neighbours: &[] });
+        let owned = Plan::of(6, &Mesh { nodes, starts: &[0, 0], neighbours: &[] });
         assert_eq!(owned, Err(ndplan::Refusal(1)));
     }
 }

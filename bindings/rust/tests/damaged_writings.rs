@@ -1,26 +1,18 @@
 //! Damaged plans lent to the writer.
 
-use crate::calls::{self, ample_room, parts_of};
-use crate::damaged_files::{border, other_plan};
-use crate::meshes;
+use crate::calls::{self, NO_UNKNOWNS};
+use crate::damaged_files::{border, small_plans};
+use crate::files::{self, parts_of};
 use crate::random::Random;
 use plain::FileParts;
 use std::collections::BTreeSet;
 
 fn plans(count: usize, size: usize, random: &mut Random) -> Vec<FileParts> {
-    let mut plans = vec![parts_of(&calls::plan(&meshes::path(5), &ample_room(5)).unwrap())];
-    for round in 0..count {
-        let mesh = meshes::any(size, random);
-        plans.push(parts_of(&match round % 2 {
-            0 => calls::plan(&mesh, &ample_room(mesh.n)).unwrap(),
-            _ => other_plan(&mesh, random),
-        }));
-    }
-    plans
+    small_plans(count, size, random).iter().map(parts_of).collect()
 }
 
 fn length_of(plan: &FileParts) -> usize {
-    17 + 4 * plan.n + 4 * plan.p + 2 * plan.s
+    files::length(plan.n, plan.p, plan.s)
 }
 
 /// One entry of one slice, changed.
@@ -85,7 +77,7 @@ fn entries_and_output() {
     assert_eq!(met, BTreeSet::from([8, 15, 16, 17, 18, 19]));
 }
 
-/// A short slice, or a count at a border, is 13 before anything else is looked at.
+/// A short slice, or a count at a border, is 13 before the lists are looked at, and 28 comes before it.
 #[test]
 fn counts_and_short_slices() {
     let mut random = Random(15);
@@ -94,9 +86,9 @@ fn counts_and_short_slices() {
         let (n, p, s) = (plan.n, plan.p, plan.s);
         let pairs = n * (n - 1) / 2;
         let counts = [0, 1, n - 1, n + 1, p - 1, p + 1, s + 1, pairs, pairs + 1, 4096, 4097, 65536 + n, usize::MAX];
-        for (field, value) in (0..3).flat_map(|field| counts.map(|value| (field, value))) {
+        for (field, value) in (0..4).flat_map(|field| counts.map(|value| (field, value))) {
             let mut changed = plan.clone();
-            *[&mut changed.n, &mut changed.p, &mut changed.s][field] = value;
+            *[&mut changed.n, &mut changed.p, &mut changed.s, &mut changed.unknowns][field] = value;
             lengthen(&mut changed, &mut random);
             met.extend(calls::write(&changed, length_of(&plan) + 9).err());
         }
@@ -108,7 +100,9 @@ fn counts_and_short_slices() {
             let answer = calls::write(&changed, random.pick(&[0, 1000]));
             assert!(!short || answer == Err(13));
             met.extend(answer.err());
+            changed.unknowns = random.pick(&NO_UNKNOWNS);
+            assert_eq!(calls::write(&changed, random.pick(&[0, 1000])), Err(28));
         }
     }
-    assert!(met.is_superset(&BTreeSet::from([13, 15, 16, 17])), "{met:?}");
+    assert!(met.is_superset(&BTreeSet::from([13, 15, 16, 17, 28])), "{met:?}");
 }

@@ -1,14 +1,16 @@
 //! Meshes and files at the limits.
 
-use crate::calls::{self, ample_room, exact_room, longer_room, parts_of, read_expecting, write_expecting};
+use crate::calls::{self, ample_room, exact_room, longer_room, read_expecting, unknowns_for, write_expecting};
+use crate::files::{file_of, parts_of};
 use crate::meshes;
 use crate::plans::{compare_paths, compare_round_trip};
 use crate::random::Random;
 use plain::{MeshLists, Planned};
 
 fn compare(mesh: &MeshLists) -> Planned {
-    let planned = calls::plan(mesh, &ample_room(mesh.n)).unwrap();
-    calls::plan_expecting(mesh, &exact_room(mesh.n, planned.rows.len()), &Ok(planned.clone()));
+    let unknowns = unknowns_for(mesh.n);
+    let planned = calls::plan(unknowns, mesh, &ample_room(mesh.n)).unwrap();
+    calls::plan_expecting(unknowns, mesh, &exact_room(mesh.n, planned.rows.len()), &Ok(planned.clone()));
     planned
 }
 
@@ -48,7 +50,7 @@ fn entries_at_the_limit() {
     edges.truncate(32769);
     let above = meshes::from_edges(2600, &edges);
     assert_eq!(above.neighbours.len(), 65538);
-    assert_eq!(calls::plan(&above, &ample_room(2600)), Err(3));
+    assert_eq!(calls::plan(1, &above, &ample_room(2600)), Err(3));
     edges.pop();
     let most = meshes::from_edges(2600, &edges);
     assert_eq!(most.neighbours.len(), 65536);
@@ -69,22 +71,14 @@ fn every_slot_of_4096_nodes() {
         parents: vec![65535],
         column_starts: (0..=n).map(|j| (j * (2 * n - 1 - j) / 2) as u32).collect(),
         rows: (0..n as u16).flat_map(|j| j + 1..n as u16).collect(),
+        unknowns: 1,
         multiplications: 11_461_632_000,
     };
     assert_eq!(planned.rows.len(), ndplan::MAX_SLOTS);
-    let length = 17 + 4 * n + 4 + 2 * planned.rows.len();
-    let file = [b"NDP\x01\x00".to_vec(), header(n, 1, planned.rows.len()), contents(&planned)].concat();
-    write_expecting(&parts_of(&planned), length, &Ok(file.clone()));
-    read_expecting(&file, &longer_room(n, planned.rows.len()), &Ok(planned));
-}
-
-fn header(n: usize, p: usize, s: usize) -> Vec<u8> {
-    [n, p, s].map(|count| (count as u32).to_le_bytes()).concat()
-}
-
-/// The words of a plan with one part.
-fn contents(planned: &Planned) -> Vec<u8> {
-    let counts: Vec<u16> = planned.column_starts.windows(2).map(|pair| (pair[1] - pair[0]) as u16).collect();
-    let words = [&planned.order[..], &planned.sizes, &planned.parents, &counts, &planned.rows].concat();
-    words.iter().flat_map(|word| word.to_le_bytes()).collect()
+    let (room, expected) = (longer_room(n, planned.rows.len()), Ok(planned.clone()));
+    let file = file_of(2, &parts_of(&planned));
+    assert_eq!(file.len(), 19 + 4 * n + 4 + 2 * planned.rows.len());
+    write_expecting(&parts_of(&planned), file.len(), &Ok(file.clone()));
+    read_expecting(&file, &room, &expected);
+    read_expecting(&file_of(1, &parts_of(&planned)), &room, &expected);
 }

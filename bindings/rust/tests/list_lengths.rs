@@ -2,8 +2,9 @@
 //! and before 7, by the reader of texts after 3 and before 8. What is refused, and with which number, stands here by
 //! itself, so that it does not depend on the plain program.
 
-use crate::calls::{ample_room, exact_room, longer_room, parts_of, plan_expecting, read_expecting, write_expecting};
+use crate::calls::{ample_room, exact_room, longer_room, plan_expecting, read_expecting, write_expecting};
 use crate::calls::{plan, LentLayout};
+use crate::files::{file_of, parts_of};
 use crate::meshes::{
     clique, edges_of, from_edges, from_lists, full_tree, lists_of, path, side_by_side, star, wide_ring,
 };
@@ -22,6 +23,7 @@ fn plan_of_star(leaves: u16) -> Planned {
         parents: (0..leaves).map(|_| leaves).chain([65535]).collect(),
         column_starts: (0..n.into()).chain([leaves.into()]).collect(),
         rows: vec![leaves; leaves.into()],
+        unknowns: 1,
         multiplications: 2 * u64::from(leaves),
     }
 }
@@ -36,6 +38,7 @@ fn plan_of_clique(n: u16) -> Planned {
         parents: vec![65535],
         column_starts: (0..=wide).map(|j| j * (2 * wide - 1 - j) / 2).collect(),
         rows: (0..n).flat_map(|j| j + 1..n).collect(),
+        unknowns: 1,
         multiplications: (0..u64::from(n)).map(|count| count * (count + 3) / 2).sum(),
     }
 }
@@ -43,7 +46,7 @@ fn plan_of_clique(n: u16) -> Planned {
 fn accepted(mesh: &MeshLists, planned: &Planned) {
     let slots = planned.rows.len();
     for room in [exact_room(mesh.n, slots), longer_room(mesh.n, slots)] {
-        plan_expecting(mesh, &room, &Ok(planned.clone()));
+        plan_expecting(1, mesh, &room, &Ok(planned.clone()));
     }
     texts::read_expecting(&Matrix::of(mesh).text(), (mesh.n + 1, mesh.neighbours.len()), &Ok(mesh.clone()));
 }
@@ -52,10 +55,10 @@ fn accepted(mesh: &MeshLists, planned: &Planned) {
 fn refused(mesh: &MeshLists) {
     let none = Room { order: 0, positions: 0, sizes: 0, parents: 0, column_starts: 0, rows: 0 };
     for room in [none, ample_room(mesh.n)] {
-        plan_expecting(mesh, &room, &Err(26));
+        plan_expecting(1, mesh, &room, &Err(26));
     }
     let lists = Mesh { nodes: mesh.n, starts: &mesh.starts, neighbours: &mesh.neighbours };
-    assert_eq!(Plan::of(&lists), Err(Refusal(26)));
+    assert_eq!(Plan::of(1, &lists), Err(Refusal(26)));
     for room in [(0, 0), AMPLE] {
         texts::read_expecting(&Matrix::of(mesh).text(), room, &Err(26));
     }
@@ -69,7 +72,7 @@ fn lists_of_26_are_accepted() {
     accepted(&clique(27), &plan_of_clique(27));
     for mesh in [full_tree(700), wide_ring(200, 13), side_by_side(&[clique(27), star(27), clique(27)])] {
         assert_eq!(lists_of(&mesh).iter().map(Vec::len).max(), Some(26));
-        let planned = plan(&mesh, &ample_room(mesh.n)).unwrap();
+        let planned = plan(1, &mesh, &ample_room(mesh.n)).unwrap();
         accepted(&mesh, &planned);
     }
 }
@@ -87,10 +90,10 @@ fn every_list_of_26() {
     let most = wide_ring(2520, 13);
     assert!(lists_of(&most).iter().all(|list| list.len() == 26));
     assert_eq!(most.neighbours.len(), 65520);
-    let planned = plan(&most, &ample_room(2520)).unwrap();
+    let planned = plan(1, &most, &ample_room(2520)).unwrap();
     accepted(&most, &planned);
     let above = wide_ring(2521, 13);
-    plan_expecting(&above, &ample_room(2521), &Err(3));
+    plan_expecting(1, &above, &ample_room(2521), &Err(3));
     texts::read_expecting(&Matrix::of(&above).text(), AMPLE, &Err(3));
 }
 
@@ -107,7 +110,7 @@ fn stars_in_all_places(leaves: usize) -> Vec<MeshLists> {
 fn one_long_list_anywhere() {
     stars_in_all_places(27).iter().for_each(refused);
     for mesh in stars_in_all_places(26) {
-        let planned = plan(&mesh, &ample_room(mesh.n)).unwrap();
+        let planned = plan(1, &mesh, &ample_room(mesh.n)).unwrap();
         accepted(&mesh, &planned);
     }
 }
@@ -121,7 +124,7 @@ fn changed_star(v: usize, change: impl Fn(&mut Vec<u16>)) -> MeshLists {
 
 fn expect(mesh: &MeshLists, number: u32) {
     for room in [exact_room(mesh.n, 0), ample_room(mesh.n)] {
-        plan_expecting(mesh, &room, &Err(number));
+        plan_expecting(1, mesh, &room, &Err(number));
     }
 }
 
@@ -183,10 +186,10 @@ fn short_buffers() {
         five.map(|room| (room, 8)).into_iter().chain([(Room { rows: slots - 1, ..exact }, 9)])
     };
     for (room, number) in short(27, 26) {
-        plan_expecting(&star(27), &room, &Err(number));
+        plan_expecting(1, &star(27), &room, &Err(number));
     }
     for (room, _) in short(28, 27) {
-        plan_expecting(&star(28), &room, &Err(26));
+        plan_expecting(1, &star(28), &room, &Err(26));
     }
 }
 
@@ -235,9 +238,8 @@ fn diagonal_pairs_do_not_count() {
 fn files_and_questions_have_no_such_limit() {
     for planned in [plan_of_star(27), plan_of_star(4095), plan_of_clique(28)] {
         let (n, slots) = (planned.order.len(), planned.rows.len());
-        let length = 17 + 4 * n + 4 * planned.sizes.len() + 2 * slots;
-        let file = plain::write(&parts_of(&planned), length).unwrap();
-        write_expecting(&parts_of(&planned), length, &Ok(file.clone()));
+        let file = file_of(2, &parts_of(&planned));
+        write_expecting(&parts_of(&planned), file.len(), &Ok(file.clone()));
         read_expecting(&file, &exact_room(n, slots), &Ok(planned.clone()));
         let mut layout = LentLayout::of(n, &planned.column_starts, &planned.rows);
         assert_eq!(layout.slot_of_pair(n - 1, 0), Ok(PairAnswer::Slot(planned.column_starts[1] - 1)));
@@ -265,7 +267,7 @@ fn lengths_around_the_limit() {
         let long = lists.iter().any(|list| list.len() > 26);
         let one_sided = lists.concat().len() % 2 == 1;
         let expected = [(long, 26), (one_sided, 7)].into_iter().find(|check| check.0).map(|check| check.1);
-        assert_eq!(plan(&from_lists(&lists), &ample_room(n)).err(), expected, "{lists:?}");
+        assert_eq!(plan(1, &from_lists(&lists), &ample_room(n)).err(), expected, "{lists:?}");
         met[[None, Some(7), Some(26)].iter().position(|kind| *kind == expected).unwrap()] += 1;
         let long = lists_of(&mesh).iter().any(|list| list.len() > 26);
         let read = texts::read(&Matrix::of(&mesh).text(), (n + 1, mesh.neighbours.len()));

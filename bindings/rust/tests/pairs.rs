@@ -111,7 +111,7 @@ fn columns_of(plan: &Plan) -> Vec<Vec<u16>> {
 }
 
 fn owned(mesh: &MeshLists) -> Plan {
-    Plan::of(&Mesh { nodes: mesh.n, starts: &mesh.starts, neighbours: &mesh.neighbours }).unwrap()
+    Plan::of(1, &Mesh { nodes: mesh.n, starts: &mesh.starts, neighbours: &mesh.neighbours }).unwrap()
 }
 
 #[test]
@@ -119,7 +119,7 @@ fn plans_of_small_meshes() {
     let mut random = Random(51);
     for round in 0..600 {
         let mesh = meshes::any(3 + round / 20, &mut random);
-        let planned = calls::plan(&mesh, &ample_room(mesh.n)).unwrap();
+        let planned = calls::plan(1, &mesh, &ample_room(mesh.n)).unwrap();
         let columns = columns_of(&owned(&mesh));
         assert_eq!(columns.concat(), planned.rows);
         compare(&columns, &[0, 1][..random.below(3)]);
@@ -142,7 +142,7 @@ fn compare_owned(plan: &Plan) {
 fn plans_of_the_foot_and_of_plates() {
     let samples = concat!(env!("CARGO_MANIFEST_DIR"), "/../../samples");
     let text = std::fs::read(format!("{samples}/foot.mtx")).unwrap();
-    let foot = Plan::of(&OwnedMesh::read_matrix_market(&text).unwrap().lists()).unwrap();
+    let foot = Plan::of(1, &OwnedMesh::read_matrix_market(&text).unwrap().lists()).unwrap();
     compare_owned(&foot);
     compare(&columns_of(&foot), &[7]);
     let mut random = Random(52);

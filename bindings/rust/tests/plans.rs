@@ -1,6 +1,7 @@
 //! Generated meshes: planned, written, read back and asked about.
 
-use crate::calls::{self, ample_room, exact_room, longer_room, owned_expecting, parts_of, Expected, LentLayout};
+use crate::calls::{self, ample_room, exact_room, longer_room, owned_expecting, unknowns_for, Expected, LentLayout};
+use crate::files::{self, parts_of};
 use crate::meshes;
 use crate::paths::reached_through_earlier;
 use crate::random::Random;
@@ -9,17 +10,18 @@ use plain::{MeshLists, Planned, Room};
 
 /// Plans an accepted mesh in exact and in longer buffers, and refuses buffers that are one entry too short.
 fn compare_planning(mesh: &MeshLists) -> Planned {
-    let expected = plain::plan(mesh, &ample_room(mesh.n));
+    let unknowns = unknowns_for(mesh.n);
+    let expected = plain::plan(unknowns, mesh, &ample_room(mesh.n));
     let planned = expected.clone().unwrap();
     let (n, slots) = (mesh.n, planned.rows.len());
     for room in [exact_room(n, slots), longer_room(n, slots)] {
-        calls::plan_expecting(mesh, &room, &expected);
+        calls::plan_expecting(unknowns, mesh, &room, &expected);
     }
     for (room, number) in short_rooms(n, slots) {
-        calls::plan_expecting(mesh, &room, &Err(number));
+        calls::plan_expecting(unknowns, mesh, &room, &Err(number));
     }
     let lists = Mesh { nodes: n, starts: &mesh.starts, neighbours: &mesh.neighbours };
-    owned_expecting(&Plan::of(&lists), &expected);
+    owned_expecting(&Plan::of(unknowns, &lists), &expected);
     planned
 }
 
@@ -50,7 +52,7 @@ pub fn compare_paths(mesh: &MeshLists, planned: &Planned) {
 /// Writes a plan and reads it back.
 pub fn compare_round_trip(planned: &Planned) {
     let (n, slots) = (planned.order.len(), planned.rows.len());
-    let length = 17 + 4 * n + 4 * planned.sizes.len() + 2 * slots;
+    let length = files::length(n, planned.sizes.len(), slots);
     let file = calls::write(&parts_of(planned), length).unwrap();
     calls::write_expecting(&parts_of(planned), length + 5, &Ok(file.clone()));
     calls::write_expecting(&parts_of(planned), length - 1, &Err(8));
@@ -115,7 +117,7 @@ fn all_small_meshes() {
             let edges: Vec<_> = (0..pairs.len()).filter(|k| chosen >> k & 1 == 1).map(|k| pairs[k]).collect();
             let mesh = meshes::from_edges(n, &edges);
             match n {
-                6 => compare_paths(&mesh, &calls::plan(&mesh, &longer_room(6, 15)).unwrap()),
+                6 => compare_paths(&mesh, &calls::plan(1, &mesh, &longer_room(6, 15)).unwrap()),
                 _ => compare_all(&mesh, &mut random),
             }
         }

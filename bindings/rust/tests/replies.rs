@@ -9,20 +9,20 @@ use std::ptr::{null, null_mut};
 fn planning_without_memory() {
     let (none, words) = (null_mut::<u16>(), null_mut::<u32>());
     // SAFETY: every slice is null with length 0.
-    let reply = unsafe { ndp_plan(2, null(), 0, null(), 0, none, 0, none, 0, none, 0, none, 0, words, 0, none, 0) };
-    assert_eq!(reply, NdpPlan { refusal: 2, nodes: 0, parts: 0, slots: 0, multiplications: 0 });
+    let reply = unsafe { ndp_plan(6, 2, null(), 0, null(), 0, none, 0, none, 0, none, 0, none, 0, words, 0, none, 0) };
+    assert_eq!(reply, NdpPlan { refusal: 2, nodes: 0, parts: 0, slots: 0, unknowns: 0, multiplications: 0 });
     let starts = [0, 0];
     // SAFETY: the starts are a slice of length 2, the others are null with length 0.
     let reply =
-        unsafe { ndp_plan(1, starts.as_ptr(), 2, null(), 0, none, 0, none, 0, none, 0, none, 0, words, 0, none, 0) };
-    assert_eq!(reply, NdpPlan { refusal: 8, nodes: 0, parts: 0, slots: 0, multiplications: 0 });
+        unsafe { ndp_plan(6, 1, starts.as_ptr(), 2, null(), 0, none, 0, none, 0, none, 0, none, 0, words, 0, none, 0) };
+    assert_eq!(reply, NdpPlan { refusal: 8, nodes: 0, parts: 0, slots: 0, unknowns: 0, multiplications: 0 });
 }
 
 /// One node has no neighbours and no rows: both slices may be null.
 #[test]
 fn planning_and_reading_without_rows() {
-    let (starts, file) = ([0, 0], b"NDP\x01\0\x01\0\0\0\x01\0\0\0\0\0\0\0\0\0\x01\0\xff\xff\0\0");
-    let accepted = NdpPlan { refusal: 0, nodes: 1, parts: 1, slots: 0, multiplications: 0 };
+    let (starts, file) = ([0, 0], b"NDP\x02\0\x06\0\x01\0\0\0\x01\0\0\0\0\0\0\0\0\0\x01\0\xff\xff\0\0");
+    let accepted = NdpPlan { refusal: 0, nodes: 1, parts: 1, slots: 0, unknowns: 6, multiplications: 0 };
     for reading in [false, true] {
         let (mut order, mut positions, mut sizes, mut parents) = ([7u16], [7u16], [7u16], [7u16]);
         let mut column_starts = [7u32, 7];
@@ -31,7 +31,7 @@ fn planning_and_reading_without_rows() {
         // SAFETY: each pointer and length is that of an array, or null with length 0.
         let reply = unsafe {
             match reading {
-                false => ndp_plan(1, starts.as_ptr(), 2, null(), 0, o, 1, q, 1, s, 1, f, 1, c, 2, null_mut(), 0),
+                false => ndp_plan(6, 1, starts.as_ptr(), 2, null(), 0, o, 1, q, 1, s, 1, f, 1, c, 2, null_mut(), 0),
                 true => ndp_read(file.as_ptr(), file.len(), o, 1, q, 1, s, 1, f, 1, c, 2, null_mut(), 0),
             }
         };
@@ -46,8 +46,8 @@ fn other_functions_without_memory() {
     // SAFETY: every slice is null with length 0.
     unsafe {
         let read = ndp_read(null(), 0, none, 0, none, 0, none, 0, none, 0, words, 0, none, 0);
-        assert_eq!(read, NdpPlan { refusal: 10, nodes: 0, parts: 0, slots: 0, multiplications: 0 });
-        let written = ndp_write(1, 1, 0, null(), 0, null(), 0, null(), 0, null(), 0, null(), 0, null_mut(), 0);
+        assert_eq!(read, NdpPlan { refusal: 10, nodes: 0, parts: 0, slots: 0, unknowns: 0, multiplications: 0 });
+        let written = ndp_write(6, 1, 1, 0, null(), 0, null(), 0, null(), 0, null(), 0, null(), 0, null_mut(), 0);
         assert_eq!(written, NdpWritten { refusal: 13, length: 0 });
         assert_eq!(ndp_slot(0, null(), 0, null(), 0, 0, 0), NdpSlot { refusal: 1, kind: 0, slot: 0 });
         assert_eq!(ndp_rows(1, null(), 0, null(), 0, 0), NdpRows { refusal: 22, start: 0, count: 0 });
@@ -109,10 +109,10 @@ fn a_refused_slot_has_no_pair() {
 fn owned_plans_answer_questions() {
     let starts: Vec<u32> = (0..=27u32).map(|v| v * 26).collect();
     let neighbours: Vec<u16> = (0..27).flat_map(|v| (0..27).filter(move |w| *w != v)).collect();
-    let plan = Plan::of(&ndplan::Mesh { nodes: 27, starts: &starts, neighbours: &neighbours }).unwrap();
+    let plan = Plan::of(1, &ndplan::Mesh { nodes: 27, starts: &starts, neighbours: &neighbours }).unwrap();
     assert_eq!(
         (plan.rows().len(), plan.counts().file_length(), plan.write().map_or(0, |file| file.len())),
-        (351, 17 + 112 + 702, 831)
+        (351, 19 + 112 + 702, 833)
     );
     for j in 0..27 {
         assert_eq!(plan.column(j).unwrap(), (j as u16 + 1..27).collect::<Vec<_>>());

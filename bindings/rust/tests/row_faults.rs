@@ -1,6 +1,7 @@
 //! Rows that break 17, 18 or both, in files that are read and in plans that are written: 17 is answered wherever it stands.
 
 use crate::calls::{self, ample_room, exact_room, read_expecting, write_expecting};
+use crate::files::file_of;
 use crate::meshes;
 use crate::random::Random;
 use plain::{FileParts, Planned};
@@ -84,6 +85,7 @@ impl Columns {
             column_starts.push(column_starts[column_starts.len() - 1] + rows.len() as u32);
         }
         FileParts {
+            unknowns: 1,
             n: self.rows.len(),
             p: self.sizes.len(),
             s: self.rows.concat().len(),
@@ -95,21 +97,14 @@ impl Columns {
         }
     }
 
-    /// The file, whether it is sound or not.
-    fn file(&self) -> Vec<u8> {
-        let lent = self.lent();
-        let header = [lent.n, lent.p, lent.s].map(|count| (count as u32).to_le_bytes()).concat();
-        let parts = self.sizes.iter().zip(&self.parents).flat_map(|(size, parent)| [*size, *parent]);
-        let counts = self.rows.iter().map(|rows| rows.len() as u16);
-        let words = lent.order.iter().copied().chain(parts).chain(counts).chain(lent.rows.iter().copied());
-        [b"NDP\x01\x00".to_vec(), header, words.flat_map(u16::to_le_bytes).collect()].concat()
-    }
-
-    /// Reads and writes the plan, and compares with the plain program and with the two rules. Gives the refusal, or 0.
+    /// Reads the plan in both versions of the file and writes it, and compares with the plain program and with the two rules.
+    /// Gives the refusal, or 0.
     fn answer(&self) -> u32 {
-        let (lent, file) = (self.lent(), self.file());
-        let number = calls::read(&file, &exact_room(lent.n, lent.s)).err().unwrap_or(0);
-        let length = file.len();
+        let lent = self.lent();
+        let (room, file) = (exact_room(lent.n, lent.s), file_of(2, &lent));
+        let read = calls::read(&file, &room);
+        assert_eq!(calls::read(&file_of(1, &lent), &room), read);
+        let (number, length) = (read.err().unwrap_or(0), file.len());
         assert_eq!(calls::write(&lent, length), if number == 0 { Ok(file) } else { Err(number) });
         match (self.breaks_17(), self.breaks_18()) {
             (true, _) => assert_eq!(number, 17),
@@ -168,7 +163,7 @@ fn every_pair_of_columns() {
     let grid = [(0, 1), (1, 2), (3, 4), (4, 5), (0, 3), (1, 4), (2, 5)];
     let regions = meshes::side_by_side(&[meshes::path(3), meshes::path(5), meshes::path(2)]);
     for mesh in [meshes::path(5), meshes::path(9), meshes::star(6), meshes::from_edges(6, &grid), regions] {
-        let planned = calls::plan(&mesh, &ample_room(mesh.n)).unwrap();
+        let planned = calls::plan(1, &mesh, &ample_room(mesh.n)).unwrap();
         compare_pairs(&Columns::of(&planned));
     }
 }
@@ -176,7 +171,7 @@ fn every_pair_of_columns() {
 /// A fault of 18 in each two columns, and the columns between, before and behind without any.
 #[test]
 fn two_faults_of_18() {
-    let planned = calls::plan(&meshes::path(9), &ample_room(9)).unwrap();
+    let planned = calls::plan(1, &meshes::path(9), &ample_room(9)).unwrap();
     let plan = Columns::of(&planned);
     for a in 0..9 {
         for outside in plan.allowed(a).1 {
@@ -318,7 +313,9 @@ fn drawn_plans() {
 fn expect_refused(sizes: &[u16], parents: &[u16], rows: &[&[u16]], number: u32) {
     let rows: Vec<Vec<u16>> = rows.iter().map(|rows| rows.to_vec()).collect();
     let plan = Columns { sizes: sizes.to_vec(), parents: parents.to_vec(), rows };
-    read_expecting(&plan.file(), &ample_room(plan.rows.len()), &Err(number));
+    for version in [1, 2] {
+        read_expecting(&file_of(version, &plan.lent()), &ample_room(plan.rows.len()), &Err(number));
+    }
     write_expecting(&plan.lent(), 100, &Err(number));
 }
 

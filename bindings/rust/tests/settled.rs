@@ -2,6 +2,7 @@
 //! The numbers stand here by themselves, so that they do not depend on the plain planner's reading.
 
 use crate::calls::{ample_room, plan, plan_expecting, read_expecting, write_expecting, LentLayout};
+use crate::files::file;
 use crate::meshes::{from_edges, from_lists};
 use plain::{FileParts, MeshLists, PairAnswer};
 
@@ -12,7 +13,7 @@ fn mesh(n: usize, edges: &[&str]) -> MeshLists {
 }
 
 fn expect_order(mesh: &MeshLists, order: &[u16]) {
-    let planned = plan(mesh, &ample_room(mesh.n)).unwrap();
+    let planned = plan(1, mesh, &ample_room(mesh.n)).unwrap();
     assert_eq!(planned.order, order);
 }
 
@@ -25,7 +26,7 @@ fn choice_of_the_root() {
 }
 
 fn expect_parts(mesh: &MeshLists, order: &[u16], sizes: &[u16]) {
-    let planned = plan(mesh, &ample_room(mesh.n)).unwrap();
+    let planned = plan(1, mesh, &ample_room(mesh.n)).unwrap();
     assert_eq!((&planned.order[..], &planned.sizes[..]), (order, sizes));
 }
 
@@ -86,7 +87,7 @@ fn degree_counts_the_whole_region() {
 /// A mesh, its nodes as lent and its refusal.
 fn expect_refused(n: usize, starts: &[u32], neighbours: &[u16], number: u32) {
     let mesh = MeshLists { n, starts: starts.to_vec(), neighbours: neighbours.to_vec() };
-    plan_expecting(&mesh, &ample_room(n), &Err(number));
+    plan_expecting(1, &mesh, &ample_room(n), &Err(number));
 }
 
 #[test]
@@ -121,16 +122,10 @@ fn buffers_are_looked_at_last() {
     let mut room = ample_room(2);
     room.order = 0;
     room.rows = 0;
-    plan_expecting(&from_lists(&[vec![1], vec![]]), &room, &Err(7));
-    plan_expecting(&from_lists(&[vec![1], vec![0]]), &room, &Err(8));
+    plan_expecting(1, &from_lists(&[vec![1], vec![]]), &room, &Err(7));
+    plan_expecting(1, &from_lists(&[vec![1], vec![0]]), &room, &Err(8));
     room.order = 2;
-    plan_expecting(&from_lists(&[vec![1], vec![0]]), &room, &Err(9));
-}
-
-fn file(version: u16, counts: [u32; 3], words: &[u16]) -> Vec<u8> {
-    let header = counts.map(u32::to_le_bytes).concat();
-    [b"NDP".to_vec(), version.to_le_bytes().to_vec(), header, words.iter().flat_map(|w| w.to_le_bytes()).collect()]
-        .concat()
+    plan_expecting(1, &from_lists(&[vec![1], vec![0]]), &room, &Err(9));
 }
 
 #[test]
@@ -138,23 +133,27 @@ fn order_of_the_file_checks() {
     let room = ample_room(8);
     let refused = |file: &[u8], number| read_expecting(file, &room, &Err(number));
     let one = [0, 1, 65535, 0];
-    refused(b"XDP\x02\x00", 10);
-    refused(&[b"XDP\x02".to_vec(), vec![0; 13]].concat(), 11);
-    refused(&file(2, [0, 0, 0], &[]), 12);
-    refused(&file(257, [1, 1, 0], &one), 12);
-    refused(&file(1, [0, 0, 0], &[]), 13);
-    refused(&file(1, [65541, 1, 0], &one), 13);
-    refused(&file(1, [4097, 1, 0], &one), 13);
-    refused(&file(1, [1, 2, 0], &one), 13);
-    refused(&file(1, [1, 65537, 0], &one), 13);
-    refused(&file(1, [1, 1, 1], &one), 13);
-    refused(&file(1, [1, 1, 65536], &one), 13);
-    refused(&file(1, [1, 1, 0], &[0, 1, 65535, 0, 0]), 14);
-    refused(&file(1, [1, 1, 0], &[1, 0, 65535, 9]), 15);
-    refused(&file(1, [1, 1, 0], &[0, 0, 65535, 9]), 16);
-    refused(&file(1, [1, 1, 0], &[0, 1, 0, 9]), 16);
-    refused(&file(1, [1, 1, 0], &[0, 1, 65535, 1]), 17);
-    assert_eq!(file(1, [1, 1, 0], &one).len(), 25);
+    refused(b"XDP\x03\x00", 10);
+    refused(&[b"XDP\x03".to_vec(), vec![0; 13]].concat(), 11);
+    refused(&file(3, 0, [0, 0, 0], &[]), 12);
+    refused(&file(257, 1, [1, 1, 0], &one), 12);
+    refused(&file(2, 0, [0, 0, 0], &[]), 28);
+    for version in [1, 2] {
+        let refused = |counts, words: &[u16], number| refused(&file(version, 1, counts, words), number);
+        refused([0, 0, 0], &[], 13);
+        refused([65541, 1, 0], &one, 13);
+        refused([4097, 1, 0], &one, 13);
+        refused([1, 2, 0], &one, 13);
+        refused([1, 65537, 0], &one, 13);
+        refused([1, 1, 1], &one, 13);
+        refused([1, 1, 65536], &one, 13);
+        refused([1, 1, 0], &[0, 1, 65535, 0, 0], 14);
+        refused([1, 1, 0], &[1, 0, 65535, 9], 15);
+        refused([1, 1, 0], &[0, 0, 65535, 9], 16);
+        refused([1, 1, 0], &[0, 1, 0, 9], 16);
+        refused([1, 1, 0], &[0, 1, 65535, 1], 17);
+    }
+    assert_eq!([1, 2].map(|version| file(version, 1, [1, 1, 0], &one).len()), [25, 27]);
 }
 
 /// Sums are exact: they do not wrap at 16 bits.
@@ -162,14 +161,17 @@ fn order_of_the_file_checks() {
 fn sums_of_a_file_are_exact() {
     let order = [0, 1, 2, 3, 4];
     let sizes = [&order[..], &[65535, 65535, 5, 65535, 1, 65535], &[0; 5]].concat();
-    read_expecting(&file(1, [5, 3, 0], &sizes), &ample_room(5), &Err(16));
     let counts = [&order[..], &[5, 65535], &[65535, 6, 0, 0, 0], &[1, 2, 3, 4, 4]].concat();
-    read_expecting(&file(1, [5, 1, 5], &counts), &ample_room(5), &Err(17));
+    for version in [1, 2] {
+        read_expecting(&file(version, 1, [5, 3, 0], &sizes), &ample_room(5), &Err(16));
+        read_expecting(&file(version, 1, [5, 1, 5], &counts), &ample_room(5), &Err(17));
+    }
 }
 
 #[test]
 fn the_writer_needs_each_slice() {
     let one = FileParts {
+        unknowns: 1,
         n: 2,
         p: 1,
         s: 1,

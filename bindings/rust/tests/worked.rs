@@ -1,35 +1,25 @@
 //! The meshes worked through in document 01, with its numbers.
 
-use crate::calls::{exact_room, longer_room, parts_of, plan_expecting, read_expecting, write_expecting, LentLayout};
+use crate::calls::{exact_room, longer_room, plan_expecting, read_expecting, write_expecting, LentLayout};
+use crate::files::{file_of, parts_of};
 use crate::meshes::{clique, from_edges, from_lists, path, ring, star};
 use plain::{FileParts, MeshLists, PairAnswer, Planned, Room};
 
 const NONE: u16 = 65535;
 
-/// Plans a mesh and expects this plan, in exact and in longer buffers. Then writes it, expects a file of `17 + 4n + 4p + 2s`
-/// bytes, and reads the plan back.
+/// Plans a mesh and expects this plan, in exact and in longer buffers. Then writes it, expects a file of `19 + 4n + 4p + 2s`
+/// bytes, and reads the plan back, also from its version 1 file.
 fn expect_plan(mesh: &MeshLists, plan: &Planned) {
     let (n, slots) = (mesh.n, plan.rows.len());
     let expected = Ok(plan.clone());
     for room in [exact_room(n, slots), longer_room(n, slots)] {
-        plan_expecting(mesh, &room, &expected);
+        plan_expecting(1, mesh, &room, &expected);
     }
-    let file = file_bytes(&parts_of(plan));
-    assert_eq!(file.len(), 17 + 4 * n + 4 * plan.sizes.len() + 2 * slots);
+    let file = file_of(2, &parts_of(plan));
+    assert_eq!(file.len(), 19 + 4 * n + 4 * plan.sizes.len() + 2 * slots);
     write_expecting(&parts_of(plan), file.len(), &Ok(file.clone()));
     read_expecting(&file, &exact_room(n, slots), &expected);
-}
-
-/// The bytes of a file, field after field.
-fn file_bytes(plan: &FileParts) -> Vec<u8> {
-    let mut words: Vec<u16> = plan.order.clone();
-    for (size, parent) in plan.sizes.iter().zip(&plan.parents) {
-        words.extend([*size, *parent]);
-    }
-    words.extend(plan.column_starts.windows(2).map(|pair| (pair[1] - pair[0]) as u16));
-    words.extend(&plan.rows);
-    let header = [plan.n, plan.p, plan.s].map(|count| (count as u32).to_le_bytes()).concat();
-    [b"NDP\x01\x00".to_vec(), header, words.iter().flat_map(|word| word.to_le_bytes()).collect()].concat()
+    read_expecting(&file_of(1, &parts_of(plan)), &exact_room(n, slots), &expected);
 }
 
 fn planned(
@@ -47,11 +37,18 @@ fn planned(
         parents: parts.iter().map(|part| part.1).collect(),
         column_starts: starts.to_vec(),
         rows: rows.to_vec(),
+        unknowns: 1,
         multiplications,
     }
 }
 
-fn mesh_4() -> Planned {
+/// The file of mesh 4.
+pub const MESH_4_FILE: [u8; 61] = [
+    78, 68, 80, 2, 0, 1, 0, 5, 0, 0, 0, 3, 0, 0, 0, 5, 0, 0, 0, 0, 0, 1, 0, 3, 0, 4, 0, 2, 0, 2, 0, 2, 0, 2, 0, 2, 0,
+    1, 0, 255, 255, 1, 0, 1, 0, 2, 0, 1, 0, 0, 0, 1, 0, 4, 0, 3, 0, 4, 0, 4, 0,
+];
+
+pub fn mesh_4() -> Planned {
     let parts = [(2, 2), (2, 2), (1, NONE)];
     planned(&[0, 1, 3, 4, 2], &[0, 1, 4, 2, 3], &parts, &[0, 1, 2, 4, 5, 5], &[1, 4, 3, 4, 4], 11)
 }
@@ -71,18 +68,14 @@ fn mesh_2_two_nodes() {
 fn mesh_3_triangle() {
     let plan = planned(&[0, 1, 2], &[0, 1, 2], &[(3, NONE)], &[0, 2, 3, 3], &[1, 2, 2], 7);
     expect_plan(&clique(3), &plan);
-    plan_expecting(&clique(3), &exact_room(3, 2), &Err(9));
+    plan_expecting(1, &clique(3), &exact_room(3, 2), &Err(9));
 }
 
 #[test]
 fn mesh_4_path() {
     expect_plan(&path(5), &mesh_4());
-    let file = [
-        78, 68, 80, 1, 0, 5, 0, 0, 0, 3, 0, 0, 0, 5, 0, 0, 0, 0, 0, 1, 0, 3, 0, 4, 0, 2, 0, 2, 0, 2, 0, 2, 0, 2, 0, 1,
-        0, 255, 255, 1, 0, 1, 0, 2, 0, 1, 0, 0, 0, 1, 0, 4, 0, 3, 0, 4, 0, 4, 0,
-    ];
-    assert_eq!(file.len(), 59);
-    write_expecting(&parts_of(&mesh_4()), 64, &Ok(file.to_vec()));
+    write_expecting(&parts_of(&mesh_4()), 64, &Ok(MESH_4_FILE.to_vec()));
+    read_expecting(&MESH_4_FILE, &exact_room(5, 5), &Ok(mesh_4()));
 }
 
 /// The columns as the listing shows them, and every pair.
@@ -131,35 +124,37 @@ fn mesh_6_star() {
 #[test]
 fn meshes_7_to_9_are_refused() {
     let no_nodes = MeshLists { n: 0, starts: vec![0], neighbours: vec![] };
-    plan_expecting(&no_nodes, &exact_room(4, 4), &Err(1));
-    plan_expecting(&from_lists(&[vec![1], vec![]]), &exact_room(4, 4), &Err(7));
-    plan_expecting(&from_lists(&[vec![5, 0], vec![]]), &exact_room(4, 4), &Err(4));
+    plan_expecting(1, &no_nodes, &exact_room(4, 4), &Err(1));
+    plan_expecting(1, &from_lists(&[vec![1], vec![]]), &exact_room(4, 4), &Err(7));
+    plan_expecting(1, &from_lists(&[vec![5, 0], vec![]]), &exact_room(4, 4), &Err(4));
 }
 
 #[test]
-fn mesh_10_version_2() {
+fn mesh_10_is_cut_short() {
     let mut file = b"NDP".to_vec();
     file.extend([2, 0, 1, 0, 0, 0, 1, 0, 0, 0, 0, 0, 0, 0]);
     assert_eq!(file.len(), 17);
-    read_expecting(&file, &exact_room(4, 4), &Err(12));
+    read_expecting(&file, &exact_room(4, 4), &Err(10));
     read_expecting(&file[..16], &exact_room(4, 4), &Err(10));
 }
 
 /// A file and the writer's slices that hold the same are refused alike.
 fn expect_contents_refused(parts: FileParts, number: u32) {
-    read_expecting(&file_bytes(&parts), &longer_room(parts.n, parts.s), &Err(number));
+    for version in [1, 2] {
+        read_expecting(&file_of(version, &parts), &longer_room(parts.n, parts.s), &Err(number));
+    }
     write_expecting(&parts, 100, &Err(number));
 }
 
 #[test]
 fn meshes_11_and_12_are_refused() {
     let order = |n| (0..n).collect();
-    let (n, p, s) = (3, 1, 2);
+    let (unknowns, n, p, s) = (1, 3, 1, 2);
     let (sizes, parents, column_starts, rows) = (vec![3], vec![NONE], vec![0, 2, 2, 2], vec![1, 2]);
-    expect_contents_refused(FileParts { n, p, s, order: order(3), sizes, parents, column_starts, rows }, 19);
+    expect_contents_refused(FileParts { unknowns, n, p, s, order: order(3), sizes, parents, column_starts, rows }, 19);
     let (n, p, s) = (2, 2, 1);
     let (sizes, parents, column_starts, rows) = (vec![1, 1], vec![NONE, NONE], vec![0, 1, 1], vec![1]);
-    expect_contents_refused(FileParts { n, p, s, order: order(2), sizes, parents, column_starts, rows }, 18);
+    expect_contents_refused(FileParts { unknowns, n, p, s, order: order(2), sizes, parents, column_starts, rows }, 18);
 }
 
 #[test]
@@ -168,7 +163,7 @@ fn mesh_13_no_entries() {
     let numbers: Vec<u16> = (0..4096).collect();
     let parts = vec![(1, NONE); 4096];
     expect_plan(&none(4096), &planned(&numbers, &numbers, &parts, &[0; 4097], &[], 0));
-    plan_expecting(&none(4097), &exact_room(4097, 0), &Err(1));
+    plan_expecting(1, &none(4097), &exact_room(4097, 0), &Err(1));
 }
 
 /// Rows and another buffer too short: 8. Each of the five others is needed whole.
@@ -185,10 +180,10 @@ fn short_buffers_of_mesh_4() {
         (Room { rows: 4, sizes: 3, ..exact }, 8),
         (Room { rows: 0, ..exact }, 9),
     ];
-    let file = file_bytes(&parts_of(&mesh_4()));
     for (room, number) in short {
-        plan_expecting(&path(5), &room, &Err(number));
-        read_expecting(&file, &room, &Err(number));
+        plan_expecting(1, &path(5), &room, &Err(number));
+        read_expecting(&MESH_4_FILE, &room, &Err(number));
+        read_expecting(&file_of(1, &parts_of(&mesh_4())), &room, &Err(number));
     }
-    write_expecting(&parts_of(&mesh_4()), 58, &Err(8));
+    write_expecting(&parts_of(&mesh_4()), 60, &Err(8));
 }
