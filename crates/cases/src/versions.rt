@@ -112,6 +112,11 @@ fn older_files() {
     read_first(174, changed(f, 27, 0), 59);
     read_first(174, changed(f, 49, 5), 59);
     read_first(174, changed(f, 49, 2), 59);
+}
+
+// Such a file read into buffers that are too short.
+fn short_buffers() {
+    let f = path_file_1();
     read_lent(175, first8(&f, 59), [5, 4, 5, 5, 6, 5]);
     read_lent(175, first8(&f, 59), [5, 5, 5, 5, 6, 4]);
 }
@@ -123,4 +128,5 @@ pub(crate) fn all() {
     short();
     other_versions();
     older_files();
+    short_buffers();
 }
