@@ -1,5 +1,6 @@
-/* Plain C: the plan file, the three questions over a layout, and the family of a refusal. Numbers of checks are document 01's. The reader decodes the
- * file into memory of its own, where the writer's checks look at it, and copies it to the caller when nothing is left to refuse. */
+/* Plain C: the plan file in both versions, the three questions over a layout, and the family of a refusal. Numbers of checks are documents 01's and
+ * 02's. The reader decodes the file into memory of its own, where the writer's checks look at it, and copies it to the caller when nothing is left to
+ * refuse. */
 #include "plain.h"
 #include <string.h>
 
