@@ -8,6 +8,7 @@ mod cliques;
 mod contents;
 mod elimination;
 mod file;
+mod head;
 mod lists;
 mod parts;
 mod questions;
@@ -17,11 +18,13 @@ mod words;
 
 use crate::elimination::eliminate;
 pub use cliques::uncut_cliques;
+pub use file::LONGEST;
 pub use file::NaiveFile;
 pub use file::encode;
-pub use file::most_slots;
 pub use file::read;
+pub use file::read_version_1;
 pub use file::write;
+pub use head::most_slots;
 pub use questions::NaiveColumn;
 pub use questions::NaivePair;
 pub use questions::NaiveSlot;
@@ -40,6 +43,7 @@ pub struct NaivePlan {
     pub nodes: u32,
     pub parts: u32,
     pub slots: u32,
+    pub unknowns: u32,
     pub multiplications: u64,
     pub order: [u16; 64],
     pub positions: [u16; 64],
@@ -55,6 +59,7 @@ fn refused(number: u32) -> NaivePlan {
         nodes: 0,
         parts: 0,
         slots: 0,
+        unknowns: 0,
         multiplications: 0,
         order: [0; 64],
         positions: [0; 64],
@@ -65,7 +70,7 @@ fn refused(number: u32) -> NaivePlan {
     }
 }
 
-fn planned(n: usize, starts: &[u32], neighbours: &[u16]) -> NaivePlan {
+fn planned(unknowns: usize, n: usize, starts: &[u32], neighbours: &[u16]) -> NaivePlan {
     let m = check::matrix(starts, neighbours);
     let d = parts::dissect(&m, n);
     let order = d.order;
@@ -80,6 +85,7 @@ fn planned(n: usize, starts: &[u32], neighbours: &[u16]) -> NaivePlan {
         nodes: (n % 65536) as u32,
         parts: (d.parts % 65536) as u32,
         slots: (e.slots % 65536) as u32,
+        unknowns: (unknowns % 65536) as u32,
         multiplications: e.multiplications,
         order: order,
         positions: positions,
@@ -90,9 +96,10 @@ fn planned(n: usize, starts: &[u32], neighbours: &[u16]) -> NaivePlan {
     }
 }
 
-// The plan of a lent mesh. The last six numbers are the lengths of the lent results. Refusals 1 to 8 and 26 are right for every n; a plan, and
-// refusal 9, for n of at most 64.
+// The plan of a lent mesh with so many unknowns for each node. The last six numbers are the lengths of the lent results. Refusals 28, 1 to 8 and 26
+// are right for every n; a plan, and refusal 9, for n of at most 64.
 pub fn plan(
+    unknowns: usize,
     n: usize,
     starts: &[u32],
     neighbours: &[u16],
@@ -103,6 +110,9 @@ pub fn plan(
     column_starts: usize,
     rows: usize,
 ) -> NaivePlan {
+    if head::unknowns_fail(unknowns) {
+        return refused(28);
+    }
     let refusal = check::mesh(n, starts, neighbours);
     if refusal != 0 {
         return refused(refusal);
@@ -110,7 +120,7 @@ pub fn plan(
     if order < n || positions < n || sizes < n || parents < n || column_starts <= n {
         return refused(8);
     }
-    let p = planned(n, starts, neighbours);
+    let p = planned(unknowns, n, starts, neighbours);
     if rows < sets::wide32(p.slots) {
         return refused(9);
     }

@@ -1,5 +1,5 @@
 // The lines of a text, their words, and the numbers that these say. A line is told by where it begins; its words are counted from 0.
-use crate::file::byte;
+use crate::head::byte;
 use crate::lists::plus;
 
 // What a word says, this or more, that is no number of 32 bits.

@@ -1,12 +1,12 @@
--- `naive::file::most_slots` meets its contract.
+-- `naive::head::most_slots` meets its contract.
 use mathlib.Core.Path.{_≡_, refl}
 use Prim.Native.Nat.{ℕ, _*_, _-_, _≤_}
 use native.Mathlib.Omega.{arith}
 use native.Mathlib.Nat.{mul-le-mul-right}
 use borrow.Author.Needs.{needs}
 use borrow.Author.Tests.{lt-ltb, le-ltb}
-use Rattle.naive.proofs.file.most_slots.Statement.{statement}
-use Rattle.naive.proofs.file.most_slots.Tie as tie
+use Rattle.naive.proofs.head.most_slots.Statement.{statement}
+use Rattle.naive.proofs.head.most_slots.Tie as tie
 
 returns : tie.Need-returns
 returns c = rw (c .if1 .taken)
