@@ -288,7 +288,13 @@ fn put_part(bytes: &mut [u8; LONGEST], at: usize, size: usize, parent: usize) ->
     put16(bytes, next, parent)
 }
 
-fn put_parts(bytes: &mut [u8; LONGEST], at: usize, sizes: &[u16], parents: &[u16], p: usize) -> usize {
+fn put_parts(
+    bytes: &mut [u8; LONGEST],
+    at: usize,
+    sizes: &[u16],
+    parents: &[u16],
+    p: usize,
+) -> usize {
     let mut next = at;
     for k in 0..p {
         next = put_part(bytes, next, entry(sizes, k), entry(parents, k));
