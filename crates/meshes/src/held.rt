@@ -25,6 +25,7 @@ pub struct Held {
     pub nodes: u32,
     pub parts: u32,
     pub slots: u32,
+    pub unknowns: u32,
     pub multiplications: u64,
     pub order: [u16; 80],
     pub positions: [u16; 80],
@@ -44,7 +45,7 @@ fn refusal_in(answer: PlanAnswer) -> u32 {
 fn plan_in(answer: PlanAnswer) -> Plan {
     match answer {
         PlanAnswer::Accepted(p) => p,
-        PlanAnswer::Refused(_) => Plan::new(0, 0, 0, 0),
+        PlanAnswer::Refused(_) => Plan::new(0, 0, 0, 0, 0),
     }
 }
 
@@ -64,6 +65,7 @@ pub fn answered(
         nodes: p.nodes,
         parts: p.parts,
         slots: p.slots,
+        unknowns: p.unknowns,
         multiplications: p.multiplications,
         order: order,
         positions: positions,
@@ -92,6 +94,7 @@ pub fn agrees(h: Held, p: NaivePlan) -> bool {
         && h.nodes == p.nodes
         && h.parts == p.parts
         && h.slots == p.slots
+        && h.unknowns == p.unknowns
         && h.multiplications == p.multiplications
         && holds16(&h.order, &p.order, nodes, STALE_ORDER)
         && holds16(&h.positions, &p.positions, nodes, STALE_POSITIONS)
