@@ -7,10 +7,10 @@ use meshes::print_difference;
 use meshes::print_number;
 use meshes::print_place;
 
-// `refused` has a count for each number; planning refuses by 1 to 9 and 26.
+// `refused` has a count for each number; planning refuses by 1 to 9, 26 and 28.
 pub(crate) struct Counts {
     planned: usize,
-    refused: [usize; 27],
+    refused: [usize; 29],
     not_cliques: usize,
     different: usize,
 }
@@ -18,7 +18,7 @@ pub(crate) struct Counts {
 pub(crate) fn none() -> Counts {
     Counts {
         planned: 0,
-        refused: [0; 27],
+        refused: [0; 29],
         not_cliques: 0,
         different: 0,
     }
@@ -60,7 +60,7 @@ pub(crate) fn counted(
     let number = o.refusal as usize;
     if number == 0 {
         d.planned = more(d.planned);
-    } else if number < 27 {
+    } else if number < 29 {
         d.refused[number] = more(d.refused[number]);
     }
     d
@@ -72,7 +72,7 @@ fn print_planned(c: Counts) {
 }
 
 fn print_refused(c: Counts, number: usize) {
-    if number < 27 {
+    if number < 29 {
         io::write_all(STDOUT_FILENO, b"refused ");
         io::print_decimal(STDOUT_FILENO, number as u64);
         io::write_all(STDOUT_FILENO, b": ");
@@ -96,6 +96,7 @@ pub(crate) fn print(c: Counts) {
         print_refused(c, number);
     }
     print_refused(c, 26);
+    print_refused(c, 28);
     print_not_cliques(c);
     print_different(c);
 }

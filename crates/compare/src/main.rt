@@ -10,16 +10,43 @@ use crate::counts::none;
 use crate::counts::print;
 use crate::trial::try_case;
 use crate::trial::try_lent;
+use meshes::Case;
 use meshes::first16;
+
+// The numbers of unknowns that are allowed, in turn.
+fn allowed(turn: u64) -> usize {
+    1 + turn as usize % 6
+}
+
+// Numbers of unknowns that are not, in turn: those next to the allowed ones, two that have an allowed one in their low 16 or 32 bits, and the
+// greatest.
+fn outside(turn: u64) -> usize {
+    match turn % 5 {
+        0 => 0,
+        1 => 7,
+        2 => 65537,
+        3 => 4294967298,
+        _ => 18446744073709551615,
+    }
+}
 
 // Every mesh of n nodes, of which there are `count`.
 fn every(c: Counts, n: u8, count: u64) -> Counts {
     let mut d = c;
     for number in 0..count {
-        let o = try_case(meshes::numbered(n, number));
+        let o = try_case(allowed(number), meshes::numbered(n, number));
         d = counted(d, o, b"nodes and number", n as usize, number as usize);
     }
     d
+}
+
+// A mesh with a number of unknowns that is allowed, and with one that is not: 28 refuses that, whatever other faults there are.
+fn tried(c: Counts, m: Case, seed: u64, damages: usize) -> Counts {
+    let s = seed as usize;
+    let o = try_case(allowed(seed), m);
+    let d = counted(c, o, b"seed and damages", s, damages);
+    let p = try_case(outside(seed), m);
+    counted(d, p, b"unknowns outside, seed and damages", s, damages)
 }
 
 // The mesh that the seed draws, and the same damaged once and twice.
@@ -27,10 +54,12 @@ fn drawn(c: Counts, seed: u64) -> Counts {
     let sound = meshes::drawn(seed);
     let damaged = meshes::damaged(sound, seed);
     let twice = meshes::damaged(damaged, seed % 4294967296 + 1);
-    let s = seed as usize;
-    let d = counted(c, try_case(sound), b"seed and damages", s, 0);
-    let e = counted(d, try_case(damaged), b"seed and damages", s, 1);
-    counted(e, try_case(twice), b"seed and damages", s, 2)
+    tried(
+        tried(tried(c, sound, seed, 0), damaged, seed, 1),
+        twice,
+        seed,
+        2,
+    )
 }
 
 fn all_drawn(c: Counts) -> Counts {
@@ -45,6 +74,7 @@ fn all_drawn(c: Counts) -> Counts {
 fn many(c: Counts, n: u8, starts: &[u32], count: usize, entry: u16) -> Counts {
     let entries = [entry; 65537];
     let o = try_lent(
+        allowed(n as u64),
         n as usize,
         starts,
         first16(&entries, count),

@@ -25,6 +25,7 @@ fn rows_length(l: Lengths, slots: u32) -> usize {
 }
 
 fn plan_naively(
+    unknowns: usize,
     n: usize,
     starts: &[u32],
     neighbours: &[u16],
@@ -32,6 +33,7 @@ fn plan_naively(
     rows: usize,
 ) -> NaivePlan {
     naive::plan(
+        unknowns,
         n,
         starts,
         neighbours,
@@ -57,10 +59,16 @@ fn keeps_cliques(starts: &[u32], neighbours: &[u16], h: Held) -> bool {
 }
 
 // Lends both planners the same. Entries that are not used should stay as found, past a result's length too.
-pub(crate) fn try_lent(n: usize, starts: &[u32], neighbours: &[u16], l: Lengths) -> Outcome {
-    let room = plan_naively(n, starts, neighbours, l, 2016);
+pub(crate) fn try_lent(
+    unknowns: usize,
+    n: usize,
+    starts: &[u32],
+    neighbours: &[u16],
+    l: Lengths,
+) -> Outcome {
+    let room = plan_naively(unknowns, n, starts, neighbours, l, 2016);
     let rows_room = rows_length(l, room.slots);
-    let p = plan_naively(n, starts, neighbours, l, rows_room);
+    let p = plan_naively(unknowns, n, starts, neighbours, l, rows_room);
     let mut order = [meshes::STALE_ORDER; 80];
     let mut positions = [meshes::STALE_POSITIONS; 80];
     let mut sizes = [meshes::STALE_SIZES; 80];
@@ -68,6 +76,7 @@ pub(crate) fn try_lent(n: usize, starts: &[u32], neighbours: &[u16], l: Lengths)
     let mut column_starts = [meshes::STALE_COLUMN_STARTS; 80];
     let mut rows = [meshes::STALE_ROWS; 2100];
     let answer = planner::plan(
+        unknowns,
         n,
         starts,
         neighbours,
@@ -94,12 +103,13 @@ pub(crate) fn try_lent(n: usize, starts: &[u32], neighbours: &[u16], l: Lengths)
     }
 }
 
-pub(crate) fn try_case(c: Case) -> Outcome {
+pub(crate) fn try_case(unknowns: usize, c: Case) -> Outcome {
     let starts = c.starts;
     let neighbours = c.neighbours;
     let start_count = c.start_count;
     let entry_count = c.entry_count;
     try_lent(
+        unknowns,
         c.n,
         first32(&starts, start_count),
         first16(&neighbours, entry_count),
