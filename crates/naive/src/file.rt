@@ -141,8 +141,9 @@ fn plan_in(bytes: &[u8], h: Head) -> NaivePlan {
     }
 }
 
-// What reading a file hands out where the reader knows the versions from 1 to `newest`.
-fn read_up_to(
+// What reading a file hands out where the reader knows the versions from 1 to `newest`: 2, or 1 in the workshop that never updates. The last six
+// numbers are the lengths of the lent results.
+pub fn read(
     newest: usize,
     bytes: &[u8],
     order: usize,
@@ -172,50 +173,6 @@ fn read_up_to(
         return refused(9);
     }
     plan_in(bytes, h)
-}
-
-// What reading a file hands out. The last six numbers are the lengths of the lent results.
-pub fn read(
-    bytes: &[u8],
-    order: usize,
-    positions: usize,
-    sizes: usize,
-    parents: usize,
-    column_starts: usize,
-    rows: usize,
-) -> NaivePlan {
-    read_up_to(
-        2,
-        bytes,
-        order,
-        positions,
-        sizes,
-        parents,
-        column_starts,
-        rows,
-    )
-}
-
-// The same of the workshop that never updates, whose reader knows version 1 alone.
-pub fn read_version_1(
-    bytes: &[u8],
-    order: usize,
-    positions: usize,
-    sizes: usize,
-    parents: usize,
-    column_starts: usize,
-    rows: usize,
-) -> NaivePlan {
-    read_up_to(
-        1,
-        bytes,
-        order,
-        positions,
-        sizes,
-        parents,
-        column_starts,
-        rows,
-    )
 }
 
 // The bytes of the longest file: 64 nodes, each a part, and every slot.

@@ -22,7 +22,6 @@ pub use file::LONGEST;
 pub use file::NaiveFile;
 pub use file::encode;
 pub use file::read;
-pub use file::read_version_1;
 pub use file::write;
 pub use head::most_slots;
 pub use questions::NaiveColumn;
