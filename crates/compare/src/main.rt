@@ -11,30 +11,15 @@ use crate::counts::print;
 use crate::trial::try_case;
 use crate::trial::try_lent;
 use meshes::Case;
+use meshes::allowed_unknowns;
 use meshes::first16;
-
-// The numbers of unknowns that are allowed, in turn.
-fn allowed(turn: u64) -> usize {
-    1 + turn as usize % 6
-}
-
-// Numbers of unknowns that are not, in turn: those next to the allowed ones, two that have an allowed one in their low 16 or 32 bits, and the
-// greatest.
-fn outside(turn: u64) -> usize {
-    match turn % 5 {
-        0 => 0,
-        1 => 7,
-        2 => 65537,
-        3 => 4294967298,
-        _ => 18446744073709551615,
-    }
-}
+use meshes::refused_unknowns;
 
 // Every mesh of n nodes, of which there are `count`.
 fn every(c: Counts, n: u8, count: u64) -> Counts {
     let mut d = c;
     for number in 0..count {
-        let o = try_case(allowed(number), meshes::numbered(n, number));
+        let o = try_case(allowed_unknowns(number), meshes::numbered(n, number));
         d = counted(d, o, b"nodes and number", n as usize, number as usize);
     }
     d
@@ -43,9 +28,9 @@ fn every(c: Counts, n: u8, count: u64) -> Counts {
 // A mesh with a number of unknowns that is allowed, and with one that is not: 28 refuses that, whatever other faults there are.
 fn tried(c: Counts, m: Case, seed: u64, damages: usize) -> Counts {
     let s = seed as usize;
-    let o = try_case(allowed(seed), m);
+    let o = try_case(allowed_unknowns(seed), m);
     let d = counted(c, o, b"seed and damages", s, damages);
-    let p = try_case(outside(seed), m);
+    let p = try_case(refused_unknowns(seed), m);
     counted(d, p, b"unknowns outside, seed and damages", s, damages)
 }
 
@@ -54,12 +39,8 @@ fn drawn(c: Counts, seed: u64) -> Counts {
     let sound = meshes::drawn(seed);
     let damaged = meshes::damaged(sound, seed);
     let twice = meshes::damaged(damaged, seed % 4294967296 + 1);
-    tried(
-        tried(tried(c, sound, seed, 0), damaged, seed, 1),
-        twice,
-        seed,
-        2,
-    )
+    let d = tried(c, sound, seed, 0);
+    tried(tried(d, damaged, seed, 1), twice, seed, 2)
 }
 
 fn all_drawn(c: Counts) -> Counts {
@@ -74,7 +55,7 @@ fn all_drawn(c: Counts) -> Counts {
 fn many(c: Counts, n: u8, starts: &[u32], count: usize, entry: u16) -> Counts {
     let entries = [entry; 65537];
     let o = try_lent(
-        allowed(n as u64),
+        allowed_unknowns(n as u64),
         n as usize,
         starts,
         first16(&entries, count),

@@ -76,22 +76,21 @@ fn wanted16(want: &[u16], used: usize, rest: u16, i: usize) -> u16 {
     rest
 }
 
+// Every entry is looked at: without an early end the compiler compares several at once.
 pub fn holds8(buffer: &[u8], want: &[u8], used: usize, rest: u8) -> bool {
+    let mut same = true;
     for i in 0..buffer.len() {
-        if buffer[i] != wanted8(want, used, rest, i) {
-            return false;
-        }
+        same = same & (buffer[i] == wanted8(want, used, rest, i));
     }
-    true
+    same
 }
 
 pub fn holds16(buffer: &[u16], want: &[u16], used: usize, rest: u16) -> bool {
+    let mut same = true;
     for i in 0..buffer.len() {
-        if buffer[i] != wanted16(want, used, rest, i) {
-            return false;
-        }
+        same = same & (buffer[i] == wanted16(want, used, rest, i));
     }
-    true
+    same
 }
 
 fn wanted32(want: &[u32], used: usize, rest: u32, i: usize) -> u32 {
@@ -104,10 +103,9 @@ fn wanted32(want: &[u32], used: usize, rest: u32, i: usize) -> u32 {
 }
 
 pub fn holds32(buffer: &[u32], want: &[u32], used: usize, rest: u32) -> bool {
+    let mut same = true;
     for i in 0..buffer.len() {
-        if buffer[i] != wanted32(want, used, rest, i) {
-            return false;
-        }
+        same = same & (buffer[i] == wanted32(want, used, rest, i));
     }
-    true
+    same
 }

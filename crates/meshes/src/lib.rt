@@ -10,6 +10,7 @@ mod numbers;
 mod random;
 mod relisted;
 mod shape;
+mod unknowns;
 
 pub use buffers::first8;
 pub use buffers::first16;
@@ -43,3 +44,6 @@ pub use numbers::print_number;
 pub use numbers::print_place;
 pub use random::draw;
 pub use shape::drawn;
+pub use unknowns::REFUSED_UNKNOWNS;
+pub use unknowns::allowed_unknowns;
+pub use unknowns::refused_unknowns;

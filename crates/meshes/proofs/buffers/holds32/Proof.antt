@@ -5,10 +5,10 @@ use Rattle.meshes.proofs.buffers.holds32.Statement.{statement}
 use Rattle.meshes.proofs.buffers.holds32.Tie as tie
 
 abbrev Inv-loop : tie.InvT-loop
-Inv-loop buffer want used rest i₀ i-end i = Unit {0}
+Inv-loop buffer want used rest same₀ i₀ i-end same i = Unit {0}
 
 abbrev μ-loop : tie.MeasureT-loop
-μ-loop buffer want used rest i₀ i-end i = i-end - i
+μ-loop buffer want used rest same₀ i₀ i-end same i = i-end - i
 
 pub holds32-spec : {M : Type 1} → statement M
 holds32-spec =
@@ -20,7 +20,6 @@ holds32-spec =
     (λ c. search needs)
     (λ c. search needs)
     (λ c κs. search needs)
-    (λ c. search needs)
     (λ c. search needs)
     (λ c. search needs)
     (λ c. search needs)
