@@ -5,20 +5,29 @@ use meshes::print_difference;
 use meshes::print_number;
 use naive::TOO_LARGE;
 
-// The operations.
+// The operations. `OLD_READ` is reading in the workshop that never updates.
 pub(crate) const READ: usize = 0;
 
-pub(crate) const WRITE: usize = 1;
+pub(crate) const OLD_READ: usize = 1;
 
-pub(crate) const PAIR: usize = 2;
+pub(crate) const WRITE: usize = 2;
 
-pub(crate) const COLUMN: usize = 3;
+pub(crate) const PAIR: usize = 3;
 
-pub(crate) const SLOT: usize = 4;
+pub(crate) const COLUMN: usize = 4;
 
-const ROUND_TRIP: usize = 5;
+pub(crate) const SLOT: usize = 5;
 
-const PLAN: usize = 6;
+const ROUND_TRIP: usize = 6;
+
+const PLAN: usize = 7;
+
+// How many operations are counted by their answers, and how many answers there are to each: 0, which is no refusal, and the refusals up to 28.
+const OPERATIONS: usize = 6;
+
+const ANSWERS: usize = 29;
+
+const MET: usize = OPERATIONS * ANSWERS;
 
 // The subjects, by the number of their first: the meshes that `main` gives by their edges and the plans with every slot, in turn; meshes that a seed
 // draws; lists to be written, and layouts, that a seed draws; and plans with every choice of parents.
@@ -32,10 +41,9 @@ pub(crate) const DRAWN_LAYOUTS: usize = 6000;
 
 pub(crate) const TREES: usize = 7000;
 
-// Answers by operation and refusal, 28 to an operation; 0 is an answer that is no refusal. `subject` is what is tried, and `turn` how many
-// comparisons of it were made: they tell where a difference is.
+// Answers by operation and refusal. `subject` is what is tried, and `turn` how many comparisons of it were made: they tell where a difference is.
 pub(crate) struct Counts {
-    met: [usize; 140],
+    met: [usize; MET],
     too_large: usize,
     meshes_refused: usize,
     round_trips: usize,
@@ -46,7 +54,7 @@ pub(crate) struct Counts {
 
 pub(crate) fn none() -> Counts {
     Counts {
-        met: [0; 140],
+        met: [0; MET],
         too_large: 0,
         meshes_refused: 0,
         round_trips: 0,
@@ -95,9 +103,9 @@ pub(crate) fn counted(mut c: Counts, operation: usize, refusal: u32, same: bool)
         return c;
     }
     let number = refusal as usize;
-    if operation < 5 {
-        if number < 28 {
-            let at = operation * 28 + number;
+    if operation < OPERATIONS {
+        if number < ANSWERS {
+            let at = operation * ANSWERS + number;
             c.met[at] = more(c.met[at]);
         }
     }
@@ -107,6 +115,8 @@ pub(crate) fn counted(mut c: Counts, operation: usize, refusal: u32, same: bool)
 fn print_name(operation: usize) {
     if operation == READ {
         io::write_all(STDOUT_FILENO, b"read ");
+    } else if operation == OLD_READ {
+        io::write_all(STDOUT_FILENO, b"old read ");
     } else if operation == WRITE {
         io::write_all(STDOUT_FILENO, b"write ");
     } else if operation == PAIR {
@@ -123,9 +133,9 @@ fn print_name(operation: usize) {
 }
 
 fn met(c: Counts, operation: usize, refusal: usize) -> usize {
-    if operation < 5 {
-        if refusal < 28 {
-            let at = operation * 28 + refusal;
+    if operation < OPERATIONS {
+        if refusal < ANSWERS {
+            let at = operation * ANSWERS + refusal;
             return c.met[at];
         }
     }
@@ -143,14 +153,14 @@ fn print_met(c: Counts, operation: usize, refusal: usize) {
 }
 
 fn print_operation(c: Counts, operation: usize) {
-    for refusal in 0..28usize {
+    for refusal in 0..ANSWERS {
         print_met(c, operation, refusal);
     }
 }
 
 // A line for each answer that was met.
 pub(crate) fn print(c: Counts) {
-    for operation in 0..5usize {
+    for operation in 0..OPERATIONS {
         print_operation(c, operation);
     }
     io::write_all(STDOUT_FILENO, b"too large to compare ");

@@ -1,18 +1,16 @@
-// What the writer is lent: three numbers and five lists, each the first entries of an array, and room for the bytes.
-use crate::counts::Counts;
-use crate::counts::WRITE;
-use crate::counts::counted;
+// What the writer is lent: four numbers and five lists, each the first entries of an array, and room for the bytes.
 use crate::file::File;
 use meshes::Held;
 use meshes::first16;
 use meshes::first32;
 use meshes::front8;
 use meshes::holds8;
-use naive::NaiveFile;
+use naive::LONGEST;
 use plan::WriteAnswer;
 
 // `lengths` has those of the lists (order, sizes, parents, column starts, rows) and the room for the bytes.
 pub(crate) struct Draft {
+    pub(crate) unknowns: usize,
     pub(crate) n: usize,
     pub(crate) p: usize,
     pub(crate) s: usize,
@@ -32,6 +30,7 @@ pub(crate) fn draft_of(h: Held) -> Draft {
     let column_starts = h.column_starts;
     let rows = h.rows;
     Draft {
+        unknowns: h.unknowns as usize,
         n: h.nodes as usize,
         p: h.parts as usize,
         s: h.slots as usize,
@@ -40,7 +39,7 @@ pub(crate) fn draft_of(h: Held) -> Draft {
         parents: parents,
         column_starts: column_starts,
         rows: rows,
-        lengths: [80, 80, 80, 80, 2100, 4561],
+        lengths: [80, 80, 80, 80, 2100, LONGEST],
     }
 }
 
@@ -48,10 +47,10 @@ pub(crate) fn draft_of(h: Held) -> Draft {
 pub(crate) struct Wrote {
     pub(crate) refusal: u32,
     pub(crate) length: usize,
-    pub(crate) bytes: [u8; 4561],
+    pub(crate) bytes: [u8; LONGEST],
 }
 
-fn answered(answer: WriteAnswer, bytes: [u8; 4561]) -> Wrote {
+fn answered(answer: WriteAnswer, bytes: [u8; LONGEST]) -> Wrote {
     match answer {
         WriteAnswer::Written(length) => Wrote {
             refusal: 0,
@@ -73,8 +72,9 @@ pub(crate) fn write(d: Draft) -> Wrote {
     let column_starts = d.column_starts;
     let rows = d.rows;
     let l = d.lengths;
-    let mut bytes = [77u8; 4561];
+    let mut bytes = [77u8; LONGEST];
     let answer = planfile::write(
+        d.unknowns,
         d.n,
         d.p,
         d.s,
@@ -88,59 +88,36 @@ pub(crate) fn write(d: Draft) -> Wrote {
     answered(answer, bytes)
 }
 
-fn write_naively(d: Draft) -> NaiveFile {
-    let order = d.order;
-    let sizes = d.sizes;
-    let parents = d.parents;
-    let column_starts = d.column_starts;
-    let rows = d.rows;
-    let l = d.lengths;
-    naive::write(
-        d.n,
-        d.p,
-        d.s,
-        first16(&order, l[0]),
-        first16(&sizes, l[1]),
-        first16(&parents, l[2]),
-        first32(&column_starts, l[3]),
-        first16(&rows, l[4]),
-        l[5],
-    )
-}
-
-fn agrees(w: Wrote, f: NaiveFile) -> bool {
-    let length = f.length;
-    w.refusal == f.refusal && w.length == length && holds8(&w.bytes, &f.bytes, length, 77)
-}
-
-// Writes a draft with the writer and with the naive one.
-pub(crate) fn try_writing(c: Counts, d: Draft) -> Counts {
-    let f = write_naively(d);
-    counted(c, WRITE, f.refusal, agrees(write(d), f))
+// Whether these bytes were written, and the rest is as it was lent.
+pub(crate) fn holds_file(w: Wrote, bytes: &[u8; LONGEST], length: usize) -> bool {
+    w.length == length && holds8(&w.bytes, bytes, length, 77)
 }
 
 // Whether both wrote the same, in every byte that was lent.
 pub(crate) fn same_bytes(w: Wrote, v: Wrote) -> bool {
-    w.length == v.length && holds8(&w.bytes, &v.bytes, 4561, 0)
+    w.length == v.length && holds8(&w.bytes, &v.bytes, LONGEST, 0)
 }
 
 // The file that was written.
 pub(crate) fn file_of(w: Wrote) -> File {
     let bytes = w.bytes;
     File {
+        version: 2,
         bytes: bytes,
         length: w.length,
     }
 }
 
-// The file of a draft as it stands, sound or not, for n and p of at most 64 and s of at most 2,016.
-pub(crate) fn encoded(d: Draft) -> File {
+// The file of this version, 1 or 2, of a draft as it stands, sound or not, for n and p of at most 64 and s of at most 2,016.
+pub(crate) fn encoded(version: usize, d: Draft) -> File {
     let order = d.order;
     let sizes = d.sizes;
     let parents = d.parents;
     let column_starts = d.column_starts;
     let rows = d.rows;
     let f = naive::encode(
+        version,
+        d.unknowns,
         d.n,
         d.p,
         d.s,
@@ -152,12 +129,13 @@ pub(crate) fn encoded(d: Draft) -> File {
     );
     let bytes = f.bytes;
     File {
+        version: version,
         bytes: bytes,
         length: f.length,
     }
 }
 
-// How many entries list `which` has: 0 order, 1 sizes, 2 parents, 3 column starts, 4 rows; 5, 6 and 7 are n, p and s.
+// How many entries list `which` has: 0 order, 1 sizes, 2 parents, 3 column starts, 4 rows; 5 to 8 are n, p, s and the unknowns.
 pub(crate) fn entries(d: Draft, which: usize) -> usize {
     match which {
         0 => d.n,
@@ -196,7 +174,8 @@ pub(crate) fn entry(d: Draft, which: usize, i: usize) -> usize {
         4 => short(&d.rows, i),
         5 => d.n,
         6 => d.p,
-        _ => d.s,
+        7 => d.s,
+        _ => d.unknowns,
     }
 }
 
@@ -231,7 +210,8 @@ pub(crate) fn with_entry(d: Draft, which: usize, i: usize, x: usize) -> Draft {
         4 => e = with_row(d, i, x),
         5 => e.n = x,
         6 => e.p = x,
-        _ => e.s = x,
+        7 => e.s = x,
+        _ => e.unknowns = x,
     }
     e
 }

@@ -1,5 +1,5 @@
 // Drafts damaged in many ways, each written by the writer and by the naive one, and (where n and p are at most 64 and s at most 2,016, and not for
-// lengths and rooms) its file read by both readers.
+// lengths and rooms) its file read by the readers.
 use crate::borders::LONG;
 use crate::borders::border;
 use crate::cells::cells_of;
@@ -12,11 +12,11 @@ use crate::draft::Draft;
 use crate::draft::encoded;
 use crate::draft::entries;
 use crate::draft::entry;
-use crate::draft::try_writing;
 use crate::draft::with_entry;
 use crate::draft::with_length;
 use crate::drawn::drawn_draft;
-use crate::files::try_file;
+use crate::trials::try_file;
+use crate::trials::try_writing;
 use meshes::draw;
 use meshes::less;
 
@@ -26,7 +26,7 @@ pub(crate) fn try_both(c: Counts, d: Draft) -> Counts {
     if 64 < d.n || 64 < d.p || 2016 < d.s {
         return e;
     }
-    try_file(e, encoded(d))
+    try_file(e, encoded(2, d))
 }
 
 fn at_border(d: Draft, which: usize, i: usize, b: usize) -> Draft {
@@ -49,10 +49,10 @@ fn every_entry_of(c: Counts, d: Draft, which: usize) -> Counts {
     e
 }
 
-// Every border in each entry of each list, and in n, p and s.
+// Every border in each entry of each list, and in n, p, s and the unknowns.
 pub(crate) fn every_entry(c: Counts, d: Draft) -> Counts {
     let mut e = c;
-    for which in 0..8usize {
+    for which in 0..9usize {
         e = every_entry_of(e, d, which);
     }
     e
@@ -61,7 +61,7 @@ pub(crate) fn every_entry(c: Counts, d: Draft) -> Counts {
 // The least length of list `which`, and of the room for the bytes.
 fn enough(d: Draft, which: usize) -> usize {
     if which == 5 {
-        return 17 + d.n % 65536 * 4 + d.p % 65536 * 4 + d.s % 65536 * 2;
+        return 19 + d.n % 65536 * 4 + d.p % 65536 * 4 + d.s % 65536 * 2;
     }
     entries(d, which)
 }
@@ -91,13 +91,16 @@ pub(crate) fn every_room(c: Counts, d: Draft) -> Counts {
     e
 }
 
-// A slot more, or one less, at each row of column j.
+// A slot more, or one less, at row i of column j.
+fn try_toggled(c: Counts, d: Draft, j: usize, i: usize) -> Counts {
+    let cells = toggled(cells_of(d), j, i);
+    try_both(c, with_cells(d, &cells))
+}
+
 fn every_slot_of(c: Counts, d: Draft, j: usize) -> Counts {
     let mut e = c;
-    let cells = cells_of(d);
     for i in 0..d.n {
-        let t = toggled(cells, j, i);
-        e = try_both(e, with_cells(d, &t));
+        e = try_toggled(e, d, j, i);
     }
     e
 }
@@ -110,14 +113,19 @@ pub(crate) fn every_slot(c: Counts, d: Draft) -> Counts {
     e
 }
 
-// Drafts that no planner made, some with a list, or the room, that is too short.
+// A draft that no planner made, for some seeds with a list, or the room, that is too short, and its file of version 1.
+fn try_drawn(c: Counts, seed: u64) -> Counts {
+    let d = drawn_draft(seed);
+    let which = draw(seed, 0, 15, 40);
+    let short = with_length(d, which, less(enough(d, which)));
+    let e = try_both(begun(c, DRAWN_DRAFTS, seed), short);
+    try_file(e, encoded(1, d))
+}
+
 pub(crate) fn all_drawn(c: Counts) -> Counts {
     let mut e = c;
     for seed in 0..3000u64 {
-        let d = drawn_draft(seed);
-        let which = draw(seed, 0, 15, 40);
-        let short = with_length(d, which, less(enough(d, which)));
-        e = try_both(begun(e, DRAWN_DRAFTS, seed), short);
+        e = try_drawn(e, seed);
     }
     e
 }

@@ -3,7 +3,9 @@ use crate::cells::cell;
 use crate::cells::put_cell;
 use crate::cells::with_cells;
 use crate::draft::Draft;
+use meshes::allowed_unknowns;
 use meshes::draw;
+use naive::LONGEST;
 
 // A slot with a chance of three to eight tenths.
 fn drawn_slot(seed: u64, n: usize, j: usize, i: usize) -> u8 {
@@ -136,9 +138,10 @@ fn with_order(d: Draft, seed: u64) -> Draft {
     e
 }
 
-// A draft of n nodes without parts and slots.
-pub(crate) fn empty(n: usize) -> Draft {
+// A draft of n nodes, each with so many unknowns, without parts and slots.
+pub(crate) fn empty(unknowns: usize, n: usize) -> Draft {
     Draft {
+        unknowns: unknowns,
         n: n,
         p: 0,
         s: 0,
@@ -147,7 +150,7 @@ pub(crate) fn empty(n: usize) -> Draft {
         parents: [meshes::STALE_PARENTS; 80],
         column_starts: [meshes::STALE_COLUMN_STARTS; 80],
         rows: [meshes::STALE_ROWS; 2100],
-        lengths: [80, 80, 80, 80, 2100, 4561],
+        lengths: [80, 80, 80, 80, 2100, LONGEST],
     }
 }
 
@@ -165,8 +168,8 @@ fn in_one_part(d: Draft) -> Draft {
     e
 }
 
-// A draft of n nodes, at most 64, in one part with every slot.
-pub(crate) fn full_draft(n: u8) -> Draft {
+// A draft of n nodes, at most 64, each with so many unknowns, in one part with every slot.
+pub(crate) fn full_draft(unknowns: usize, n: u8) -> Draft {
     let mut cells = [0u8; 4096];
     for k in 0..4096usize {
         let j = k / 64;
@@ -175,12 +178,12 @@ pub(crate) fn full_draft(n: u8) -> Draft {
             put_cell(&mut cells, j, i, 1);
         }
     }
-    with_cells(in_one_part(empty(n as usize)), &cells)
+    with_cells(in_one_part(empty(unknowns, n as usize)), &cells)
 }
 
 pub(crate) fn drawn_draft(seed: u64) -> Draft {
     let n = 1 + draw(seed, 5, 9, 8) % 8;
     let cells = drawn_cells(seed, n);
-    let d = with_parents(with_sizes(with_order(empty(n), seed), seed), seed);
-    with_cells(d, &cells)
+    let d = with_order(empty(allowed_unknowns(seed), n), seed);
+    with_cells(with_parents(with_sizes(d, seed), seed), &cells)
 }

@@ -1,56 +1,104 @@
-// A file of at most 4,561 bytes, and its fields: the version, n, p, s, and then each number of two bytes.
+// A file of at most `LONGEST` bytes, of version 1 or 2, and its fields: the version, n, p, s, in version 2 the unknowns, and then each number of two
+// bytes from the order on.
+use naive::LONGEST;
 
+// The fields that are called by name.
+pub(crate) const VERSION: usize = 0;
+
+pub(crate) const N: usize = 1;
+
+pub(crate) const P: usize = 2;
+
+pub(crate) const S: usize = 3;
+
+pub(crate) const UNKNOWNS: usize = 4;
+
+// `version` is the one that the file was made in, whatever its bytes say.
 pub(crate) struct File {
-    pub(crate) bytes: [u8; 4561],
+    pub(crate) version: usize,
+    pub(crate) bytes: [u8; LONGEST],
     pub(crate) length: usize,
 }
 
 pub(crate) fn with_byte(mut f: File, at: usize, x: usize) -> File {
-    if at < 4561 {
+    if at < LONGEST {
         f.bytes[at] = (x % 256) as u8;
     }
     f
 }
 
 fn byte(f: File, at: usize) -> usize {
-    if at < 4561 {
+    if at < LONGEST {
         return f.bytes[at] as usize;
     }
     0
 }
 
-// The file cut or continued, by what stands behind it, to a length; as it was where that is over 4,561.
+// The file cut or continued, by what stands behind it, to a length; as it was where that is too long.
 pub(crate) fn with_length(mut f: File, length: usize) -> File {
-    if length <= 4561 {
+    if length <= LONGEST {
         f.length = length;
     }
     f
 }
 
+// How many bytes the unknowns have.
+fn unknowns_width(version: usize) -> u8 {
+    if version == 2 {
+        return 2;
+    }
+    0
+}
+
+// Where the order begins.
+pub(crate) fn order_at(version: usize) -> usize {
+    17 + unknowns_width(version) as usize
+}
+
+// The first field of the order.
+pub(crate) fn order_field(version: usize) -> u8 {
+    if version == 2 {
+        return 5;
+    }
+    4
+}
+
 // How many fields a file has.
 pub(crate) fn fields(f: File) -> usize {
     let length = f.length % 8192;
-    if length < 17 {
+    let before = order_at(f.version);
+    if length < before {
         return 0;
     }
-    4 + (length - 17) / 2
+    order_field(f.version) as usize + (length - before) / 2
+}
+
+// Where field k stands behind the unknowns.
+fn behind_unknowns(version: usize, k: usize) -> usize {
+    let moved = unknowns_width(version) as usize;
+    match k {
+        N => 5 + moved,
+        P => 9 + moved,
+        S => 13 + moved,
+        _ => k % 8192 * 2 + 9,
+    }
 }
 
 // Where field k stands.
-fn field_at(k: usize) -> usize {
-    match k {
-        0 => 3,
-        1 => 5,
-        2 => 9,
-        3 => 13,
-        _ => k % 8192 * 2 + 9,
+fn field_at(version: usize, k: usize) -> usize {
+    if k == VERSION {
+        return 3;
     }
+    if k == UNKNOWNS && version == 2 {
+        return 5;
+    }
+    behind_unknowns(version, k)
 }
 
 // How many bytes it has.
 fn width(k: usize) -> usize {
     match k {
-        1 | 2 | 3 => 4,
+        N | P | S => 4,
         _ => 2,
     }
 }
@@ -69,7 +117,7 @@ fn with_short(f: File, at: usize, x: usize) -> File {
 }
 
 pub(crate) fn field(f: File, k: usize) -> usize {
-    let at = field_at(k);
+    let at = field_at(f.version, k);
     if width(k) == 4 {
         return short(f, at) % 65536 + short(f, next(next(at))) % 65536 * 65536;
     }
@@ -77,7 +125,7 @@ pub(crate) fn field(f: File, k: usize) -> usize {
 }
 
 pub(crate) fn with_field(f: File, k: usize, x: usize) -> File {
-    let at = field_at(k);
+    let at = field_at(f.version, k);
     if width(k) == 4 {
         return with_short(with_short(f, at, x % 65536), next(next(at)), x / 65536);
     }
@@ -86,12 +134,24 @@ pub(crate) fn with_field(f: File, k: usize, x: usize) -> File {
 
 // The length that the file's own n, p and s ask for.
 fn asked(f: File) -> usize {
-    17 + field(f, 1) % 4294967296 * 4 + field(f, 2) % 4294967296 * 4 + field(f, 3) % 4294967296 * 2
+    let lists = field(f, N) % 4294967296 * 4
+        + field(f, P) % 4294967296 * 4
+        + field(f, S) % 4294967296 * 2;
+    order_at(f.version) % 65536 + lists
 }
 
-// The file cut or continued to the length that it asks for, where that is at most 4,561.
+// The file cut or continued to the length that it asks for, where that is not too long.
 pub(crate) fn fitted(f: File) -> File {
     with_length(f, asked(f))
+}
+
+// Whether the bytes are a version 2 file's, sound or not behind the version: 17 or more that begin with NDP and the version.
+pub(crate) fn is_version_2(f: File) -> bool {
+    17 <= f.length
+        && byte(f, 0) == b'N' as usize
+        && byte(f, 1) == b'D' as usize
+        && byte(f, 2) == b'P' as usize
+        && field(f, VERSION) == 2
 }
 
 // Fields k and m, each with the other's number.

@@ -1,45 +1,25 @@
-// Files damaged in many ways, each read by the reader and by the naive one.
+// Files damaged in many ways, each read by the readers.
 use crate::borders::LONG;
 use crate::borders::SHORT;
 use crate::borders::border;
 use crate::counts::Counts;
-use crate::counts::READ;
-use crate::counts::counted;
 use crate::file::File;
+use crate::file::N;
+use crate::file::P;
+use crate::file::S;
 use crate::file::field;
 use crate::file::fields;
 use crate::file::fitted;
 use crate::file::moved;
+use crate::file::order_at;
+use crate::file::order_field;
 use crate::file::swapped;
 use crate::file::with_byte;
 use crate::file::with_field;
 use crate::file::with_length;
-use crate::held::read;
-use meshes::agrees;
+use crate::trials::try_file;
+use crate::trials::try_lent;
 use meshes::draw;
-use meshes::first8;
-
-// A file read into results of these lengths: order, positions, sizes, parents, column starts, rows.
-fn try_lent(c: Counts, f: File, lengths: [usize; 6]) -> Counts {
-    let bytes = f.bytes;
-    let length = f.length;
-    let p = naive::read(
-        first8(&bytes, length),
-        lengths[0],
-        lengths[1],
-        lengths[2],
-        lengths[3],
-        lengths[4],
-        lengths[5],
-    );
-    let h = read(first8(&bytes, length), lengths);
-    counted(c, READ, p.refusal, agrees(h, p))
-}
-
-// A file read into results that are long enough.
-pub(crate) fn try_file(c: Counts, f: File) -> Counts {
-    try_lent(c, f, [80, 80, 80, 80, 80, 2100])
-}
 
 // Every value of a byte.
 fn every_value(c: Counts, f: File, at: usize) -> Counts {
@@ -64,7 +44,7 @@ fn at_border(f: File, k: usize, b: usize) -> File {
     with_field(
         f,
         k,
-        border(b, field(f, k), field(f, 1), field(f, 2), field(f, 3)),
+        border(b, field(f, k), field(f, N), field(f, P), field(f, S)),
     )
 }
 
@@ -85,7 +65,7 @@ pub(crate) fn every_field(c: Counts, f: File) -> Counts {
     d
 }
 
-// Every border in n, p or s, the file's length as it was and, where at most 4,561, as it is then asked for (else the same file again).
+// Every border in n, p or s, the file's length as it was and, where not too long, as it is then asked for (else the same file again).
 fn every_long_border(c: Counts, f: File, k: usize) -> Counts {
     let mut d = c;
     for b in 0..LONG {
@@ -96,7 +76,7 @@ fn every_long_border(c: Counts, f: File, k: usize) -> Counts {
 }
 
 pub(crate) fn every_number(c: Counts, f: File) -> Counts {
-    every_long_border(every_long_border(every_long_border(c, f, 1), f, 2), f, 3)
+    every_long_border(every_long_border(every_long_border(c, f, N), f, P), f, S)
 }
 
 // Every shorter length, and up to four bytes more.
@@ -158,8 +138,8 @@ fn short_by(enough: usize, mask: usize, bit: usize) -> usize {
 
 // Results just long enough for the file's n and s, those that `mask` tells one entry too short.
 fn short_lengths(f: File, mask: usize) -> [usize; 6] {
-    let n = field(f, 1);
-    let s = field(f, 3);
+    let n = field(f, N);
+    let s = field(f, S);
     [
         short_by(n, mask, 1),
         short_by(n, mask, 2),
@@ -182,7 +162,7 @@ pub(crate) fn every_short(c: Counts, f: File) -> Counts {
 // Results just long enough, and rows of every shorter length.
 pub(crate) fn every_rows_length(c: Counts, f: File) -> Counts {
     let mut d = c;
-    for length in 0..field(f, 3) % 65536 {
+    for length in 0..field(f, S) % 65536 {
         let l = short_lengths(f, 0);
         d = try_lent(d, f, [l[0], l[1], l[2], l[3], l[4], length]);
     }
@@ -208,7 +188,7 @@ fn drawn_border(f: File, seed: u64, what: usize, first: u8) -> File {
 fn drawn_byte(f: File, seed: u64, what: usize) -> File {
     let x = draw(seed, what, 12, 256);
     if draw(seed, what, 13, 2) == 0 {
-        return with_byte(f, draw(seed, what, 14, 17), x);
+        return with_byte(f, draw(seed, what, 14, order_at(f.version)), x);
     }
     with_byte(f, draw(seed, what, 14, f.length), x)
 }
@@ -216,10 +196,11 @@ fn drawn_byte(f: File, seed: u64, what: usize) -> File {
 // Two damages that the seed draws: to a number and a field behind it, to two fields, to two bytes, to two fields behind the numbers.
 fn drawn_damage(f: File, seed: u64) -> File {
     let kind = draw(seed, 0, 8, 5);
+    let order = order_field(f.version);
     if kind == 0 {
-        let k = 1 + draw(seed, 1, 8, 3) % 3;
+        let k = N + draw(seed, 1, 8, 3) % 3;
         let g = fitted(at_border(f, k, draw(seed, 2, 8, LONG)));
-        return drawn_border(g, seed, 3, 4);
+        return drawn_border(g, seed, 3, order);
     }
     if kind == 1 {
         return drawn_border(drawn_border(f, seed, 4, 0), seed, 5, 0);
@@ -227,7 +208,7 @@ fn drawn_damage(f: File, seed: u64) -> File {
     if kind == 2 {
         return drawn_byte(drawn_byte(f, seed, 4), seed, 5);
     }
-    drawn_border(drawn_border(f, seed, 4, 4), seed, 5, 4)
+    drawn_border(drawn_border(f, seed, 4, order), seed, 5, order)
 }
 
 // One draw in sixteen has another length too.

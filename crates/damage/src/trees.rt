@@ -9,6 +9,7 @@ use crate::counts::begun;
 use crate::draft::Draft;
 use crate::drawn::empty;
 use crate::two_rows::every_two_more;
+use meshes::allowed_unknowns;
 
 // How many choices of parents there are: 4 for part 0, 3 for part 1, 2 for part 2.
 const CHOICES: u64 = 24;
@@ -96,7 +97,7 @@ fn with_parts(mut d: Draft, t: usize) -> Draft {
 
 fn tree(t: usize) -> Draft {
     let cells = first_cells(t);
-    with_cells(with_parts(empty(5), t), &cells)
+    with_cells(with_parts(empty(allowed_unknowns(t as u64), 5), t), &cells)
 }
 
 // One and two rows more in the plan of each choice.

@@ -8,7 +8,7 @@ abbrev Inv-loop : tie.InvT-loop
 Inv-loop c operation₀ t3 t4 t5 t6 operation = Unit {0}
 
 abbrev μ-loop : tie.MeasureT-loop
-μ-loop c operation₀ t3 t4 t5 t6 operation = 5 - operation
+μ-loop c operation₀ t3 t4 t5 t6 operation = 6 - operation
 
 pub print-spec : {M : Type 1} → statement M
 print-spec =

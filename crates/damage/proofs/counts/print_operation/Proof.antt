@@ -8,7 +8,7 @@ abbrev Inv-loop : tie.InvT-loop
 Inv-loop c operation refusal₀ refusal = Unit {0}
 
 abbrev μ-loop : tie.MeasureT-loop
-μ-loop c operation refusal₀ refusal = 28 - refusal
+μ-loop c operation refusal₀ refusal = 29 - refusal
 
 pub print-operation-spec : {M : Type 1} → statement M
 print-operation-spec =

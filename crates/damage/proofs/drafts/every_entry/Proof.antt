@@ -8,7 +8,7 @@ abbrev Inv-loop : tie.InvT-loop
 Inv-loop d e₀ which₀ e which = Unit {0}
 
 abbrev μ-loop : tie.MeasureT-loop
-μ-loop d e₀ which₀ e which = 8 - which
+μ-loop d e₀ which₀ e which = 9 - which
 
 pub every-entry-spec : {M : Type 1} → statement M
 every-entry-spec =

@@ -5,10 +5,10 @@ use Rattle.damage.proofs.drafts.every_slot_of.Statement.{statement}
 use Rattle.damage.proofs.drafts.every_slot_of.Tie as tie
 
 abbrev Inv-loop : tie.InvT-loop
-Inv-loop d j e₀ cells i₀ i-end e i = Unit {0}
+Inv-loop d j e₀ i₀ i-end e i = Unit {0}
 
 abbrev μ-loop : tie.MeasureT-loop
-μ-loop d j e₀ cells i₀ i-end e i = i-end - i
+μ-loop d j e₀ i₀ i-end e i = i-end - i
 
 pub every-slot-of-spec : {M : Type 1} → statement M
 every-slot-of-spec =
@@ -16,10 +16,7 @@ every-slot-of-spec =
     (tie.spec
     Inv-loop
     μ-loop
-    (λ c κs. search needs)
     (λ c. search needs)
-    (λ c κs. search needs)
-    (λ c κs. search needs)
     (λ c κs. search needs)
     (λ c. search needs)
     (λ c. search needs)

@@ -5,10 +5,10 @@ use Rattle.damage.proofs.drawn.full_draft.Statement.{statement}
 use Rattle.damage.proofs.drawn.full_draft.Tie as tie
 
 abbrev Inv-loop : tie.InvT-loop
-Inv-loop n cells₀ k₀ cells k = Unit {0}
+Inv-loop unknowns n cells₀ k₀ cells k = Unit {0}
 
 abbrev μ-loop : tie.MeasureT-loop
-μ-loop n cells₀ k₀ cells k = 4096 - k
+μ-loop unknowns n cells₀ k₀ cells k = 4096 - k
 
 pub full-draft-spec : {M : Type 1} → statement M
 full-draft-spec =
