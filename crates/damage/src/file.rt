@@ -73,7 +73,7 @@ pub(crate) fn fields(f: File) -> usize {
     order_field(f.version) as usize + (length - before) / 2
 }
 
-// Where field k stands behind the unknowns.
+// Where field k stands behind the unknowns. From the order on it is the same place in both versions: version 2 has a field of two bytes more before.
 fn behind_unknowns(version: usize, k: usize) -> usize {
     let moved = unknowns_width(version) as usize;
     match k {

@@ -71,7 +71,7 @@ pub(crate) fn order_at(version: usize) -> usize {
     plus(n_at(version), 12)
 }
 
-// "The new reader takes version 1 as one unknown."
+// Version 1 is taken "as one unknown".
 fn unknowns_in(bytes: &[u8], version: usize) -> usize {
     if version == 2 {
         return number16(bytes, 5) as usize;
