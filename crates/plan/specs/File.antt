@@ -65,8 +65,8 @@ fileLength c = lengthIn version c
 unfoldable pub encodeParts : Contents → List ℕ
 encodeParts c = flatten (map (λ q. encode16 (getD (c .sizes) q 0) ++ encode16 (getD (c .parents) q 0)) (below (c .parts)))
 
--- n, p and s, and what follows: "5 to 8: n. 9 to 12: parts p. 13 to 16: slots s. Then the order, n × 2 bytes; p times size and father, 2 bytes each; n row counts of 2 bytes; s
--- rows of 2 bytes."
+-- n, p and s, and what follows, wherever n stands: "5 to 8: n. 9 to 12: parts p. 13 to 16: slots s. Then the order, n × 2 bytes; p times size and
+-- father, 2 bytes each; n row counts of 2 bytes; s rows of 2 bytes."
 unfoldable pub encodeContents : Contents → List ℕ
 encodeContents c = flatten (
     encode32 (c .nodes)

@@ -107,15 +107,16 @@ FilledThenWrote =
     → Wrote (lentBack p left) answer found after
     → (answer ≡ Written (length bytes)) × (after ≡ written bytes found)
 
--- What was read of either version, written from the same buffers, and read again into buffers that are long enough, is what is handed out of the plan
--- that the first bytes say.
+-- What was read of either version, lent to the writer from the same buffers with an output that has room, is written; and what was written, read again
+-- into buffers that are long enough, is what is handed out of the plan that the first bytes say.
 abbrev pub FilledWroteFilled : Type 0
 FilledWroteFilled =
-    (bytes found after : List ℕ) (p : Plan) (lent left again end : Buffers) (size : ℕ) (answer : PlanAnswer)
-    → Filled (reading bytes (capacity lent)) (Accepted p) lent left → Wrote (lentBack p left) (Written size) found after
+    (bytes found after : List ℕ) (p : Plan) (lent left again end : Buffers) (answer : WriteAnswer) (last : PlanAnswer)
+    → Filled (reading bytes (capacity lent)) (Accepted p) lent left → fileLength (lentBack p left) ≤ length found
+    → Wrote (lentBack p left) answer found after
     → buffersTooShort (p .nodes) (capacity again) ≡ false → rowsTooShort (lentBack p left) (capacity again) ≡ false
-    → Filled (reading (take size after) (capacity again)) answer again end
-    → Filled (handOut 0 (parse bytes)) answer again end
+    → Filled (reading (take (fileLength (lentBack p left)) after) (capacity again)) last again end
+    → (answer ≡ Written (fileLength (lentBack p left))) × Filled (handOut 0 (parse bytes)) last again end
 
 -- What was planned, written from the same buffers into an output that has room, is the file of the mesh's plan.
 abbrev pub PlannedThenWrote : Type 0

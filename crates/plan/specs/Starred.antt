@@ -15,7 +15,7 @@ use Rattle.plan.specs.File.{encode}
 use Rattle.plan.specs.Reading.{reading}
 use Rattle.plan.specs.Writing.{WriteOutcome, writing}
 use Rattle.plan.specs.RoundTrips.{handed}
-use Rattle.plan.specs.Version1.{untold, reading1}
+use Rattle.plan.specs.Version1.{reading1}
 use Rattle.plan.specs.Listing.{listing}
 use Rattle.plan.specs.Everything.{everything}
 
@@ -123,6 +123,18 @@ pathOutcome = record {
   rows = 1 ∷ 4 ∷ 3 ∷ 4 ∷ 4 ∷ [];
 }
 
+-- what the reader that knows version 1 alone hands out of it: the same, without the unknowns
+abbrev pub pathOutcome1 : Outcome
+pathOutcome1 = record {
+  reply = accepted (5 ∷ 3 ∷ 5 ∷ 11 ∷ []);
+  order = pathOutcome .order;
+  positions = pathOutcome .positions;
+  sizes = pathOutcome .sizes;
+  parents = pathOutcome .parents;
+  columnStarts = pathOutcome .columnStarts;
+  rows = pathOutcome .rows;
+}
+
 -- what its files of either version hold from n on
 abbrev pub pathContents : List ℕ
 pathContents = flatten (
@@ -214,7 +226,7 @@ table =
     ∷ planned 1 path 6 pathOutcome (bounded 6 ∷ file 61 pathFile ∷ [])
     ∷ read 5 6 pathFile pathOutcome
     ∷ read 5 6 pathFile1 pathOutcome
-    ∷ read1 5 6 pathFile1 (untold pathOutcome)
+    ∷ read1 5 6 pathFile1 pathOutcome1
     ∷ listed pathInput pathListing
     -- 5. Ring 0-1-2-3: order 0 2 1 3, sizes 1 1 2, 5 slots, 12 multiplications; bound 5. The path 1-0-3 passes node 0, which is earlier than node 1.
     ∷ planned 1 (record { nodes = 4; starts = 0 ∷ 2 ∷ 4 ∷ 6 ∷ 8 ∷ []; neighbours = 1 ∷ 3 ∷ 0 ∷ 2 ∷ 1 ∷ 3 ∷ 0 ∷ 2 ∷ [] }) 6

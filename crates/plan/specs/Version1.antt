@@ -13,6 +13,7 @@ use Rattle.plan.specs.Planning.{Contents, Capacity, buffersTooShort, row
 use Rattle.plan.specs.File.{magic, versionOf, lengthIn, parseAt, badHeader, contentsChecks}
 use Rattle.plan.specs.Reading.{tooFewBytes, badMagic, reading}
 use Rattle.plan.specs.Writing.{writing, Wrote}
+use Rattle.plan.specs.RoundTrips.{handed}
 
 -- what it takes bytes to say: "5 to 8: n"; "a node has one unknown, and no plan says so"
 unfoldable pub parse1 : List ℕ → Contents
@@ -73,7 +74,16 @@ RefusesWrote =
     → Wrote c (Written size) found bytes
     → reading1 (take size bytes) room ≡ handOut 12 (parse1 (take size bytes))
 
--- Every file of a version other than 2 gets the same answer of both readers, and leaves the same in every buffer; the one that knows version 2 tells
--- the unknowns beside.
+-- Every other file gets the same answer of both readers, and leaves the same in every buffer; the one that knows version 2 tells the unknowns beside.
 abbrev pub SameButVersion2 : Type 0
-SameButVersion2 = (bytes : List ℕ) (room : Capacity) → versionOf bytes ≢ 2 → untold (reading bytes room) ≡ reading1 bytes room
+SameButVersion2 =
+    (bytes : List ℕ) (room : Capacity)
+    → (17 ≤ length bytes → take 3 bytes ≡ magic → versionOf bytes ≢ 2)
+    → untold (reading bytes room) ≡ reading1 bytes room
+
+-- "The new reader takes version 1 as one unknown."
+abbrev pub Version1IsOne : Type 0
+Version1IsOne =
+    (bytes : List ℕ) (room : Capacity)
+    → versionOf bytes ≡ 1 → reading bytes room .reply .number ≡ 0
+    → handed (reading bytes room) .unknowns ≡ 1

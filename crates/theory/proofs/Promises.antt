@@ -19,7 +19,7 @@ use Rattle.plan.specs.RoundTrips.{acceptedWriting, lentBack, WroteThenFilled, F
 use Rattle.theory.proofs.Written.{front-written}
 use Rattle.theory.proofs.FileFields.{encode-length}
 use Rattle.theory.proofs.Planned.{hand-number, handed-planned}
-use Rattle.theory.proofs.RoundTrips.{used-long, write-says, read-says, handed-read, written-then-read, read-then-written, planned-is-sound, planned-is-writable}
+use Rattle.theory.proofs.RoundTrips.{used-long, write-says, write-accepts, read-says, handed-read, written-then-read, read-then-written, planned-is-sound, planned-is-writable}
 
 -- ---- what was written, then read
 
@@ -105,11 +105,20 @@ filled-then-wrote bytes found after p lent left answer small known filled fits w
     let e : used c ≡ parse bytes = read-used bytes p lent left filled in
     wrote-bytes c bytes found after answer (read-then-written bytes room c (length found) small known h (e ∙ sym (handed-read bytes room h)) fits) wrote
 
--- What was read, written, then read: what is handed out of the plan that the first bytes say.
+-- What was read, written, then read: it is written, and what is handed out is that of the plan that the first bytes say.
 pub filled-wrote-filled : FilledWroteFilled
-filled-wrote-filled bytes found after p lent left again end size answer filled wrote eight nine last =
-    subst (λ (d : Contents). Filled (handOut 0 d) answer again end) (read-used bytes p lent left filled)
-    (wrote-then-filled (lentBack p left) size found after answer again end wrote eight nine last)
+filled-wrote-filled bytes found after p lent left again end answer last filled fits wrote eight nine read =
+    let room : Capacity = capacity lent in
+    let c : Contents = lentBack p left in
+    let h : reading bytes room .reply .number ≡ 0 = sym (ap (λ (r : Reply). r .number) (filled .reply)) in
+    let e : used c ≡ parse bytes = read-used bytes p lent left filled in
+    let sound : Sound (used c) = subst Sound (sym e) (read-says bytes room h .1) in
+    let w = wrote-bytes c (encode (used c)) found after answer (write-accepts c (length found) sound fits) wrote in
+    let shown : answer ≡ Written (fileLength c) = w .0 ∙ ap Written (encode-length (used c) (sound .whole) ∙ used-long c) in (
+      shown,
+      subst (λ (d : Contents). Filled (handOut 0 d) last again end) e
+          (wrote-then-filled c (fileLength c) found after last again end (subst (λ (a : WriteAnswer). Wrote c a found after) shown wrote) eight nine read),
+    )
 
 -- ---- what was planned, then written
 
