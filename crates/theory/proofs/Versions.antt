@@ -116,9 +116,9 @@ unfolding reading readChecks headerChecks reading1 readChecks1
 same-but-version-2 bytes room other = elim (tested (tooFewBytes bytes)) [
   | inl few ↦ ap untold (first (tooFewBytes bytes) (parse bytes) (parse1 bytes) _ _ few)
   | inr enough ↦ elim (tested (badMagic bytes)) [
-      | inl bad ↦ ap untold (second (tooFewBytes bytes) (badMagic bytes) (parse bytes) (parse1 bytes) _ _ bad)
-      | inr marked ↦ same-version bytes room (other (has-17 bytes enough) (has-mark bytes marked))
-    ]
+    | inl bad ↦ ap untold (second (tooFewBytes bytes) (badMagic bytes) (parse bytes) (parse1 bytes) _ _ bad)
+    | inr marked ↦ same-version bytes room (other (has-17 bytes enough) (has-mark bytes marked))
+  ]
 ]
 
 -- Version 1 is read as one unknown.
