@@ -31,7 +31,7 @@ pub const HEADER: usize = 19;
 // how many bytes the counts of nodes, parts and slots take, which stand before the order
 const COUNTS: usize = 12;
 
-// What a file's first bytes say: where the order stands behind them, the unknowns for each node, and how many nodes, parts and slots the plan has.
+// What a file's first bytes say: where they end and the order begins, the unknowns for each node, and how many nodes, parts and slots the plan has.
 pub struct Head {
     pub end: usize,
     pub unknowns: usize,
@@ -62,7 +62,7 @@ fn read_unknowns(bytes: &[u8]) -> usize
     wide(read16(bytes, 5))
 }
 
-// What the first bytes of a file say that has so many. O(1).
+// What a file's first bytes say, where they are all there. O(1).
 pub fn read_head(bytes: &[u8]) -> Head
     requires { ⌜ (17 ≤ length (now bytes)) × (nodesAt (versionOf (now bytes)) + 12 ≤ length (now bytes)) ⌝ }
     ensures { λ r. ⌜ (r .end ≡ nodesAt (versionOf (now (bytes .entry))) + 12) × (r .unknowns ≡ parse (now (bytes .entry)) .unknowns) × (r .nodes ≡ parse (now (bytes .entry)) .nodes) × (r .parts ≡ parse (now (bytes .entry)) .parts) × (r .slots ≡ parse (now (bytes .entry)) .slots) ⌝ }

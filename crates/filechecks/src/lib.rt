@@ -1,4 +1,4 @@
-// Checks of a plan file's fields before its rows, which reader and writer share: the header's (10 to 14 and 28), the order's and the parts' (15 and 16).
+// Checks of a plan file's fields before its rows, which reader and writer share: the header's (10 to 14, 28), the order's and the parts' (15 and 16).
 mod header;
 mod order;
 
