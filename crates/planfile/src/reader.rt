@@ -174,9 +174,11 @@ fn read_checked(
     ))
 }
 
-// Reading where checks 10 to 14 and 28 found no fault: 15 to 19, then what is left. O(4,096 + slots + the first rows' columns).
+// Reading where checks 10 to 14 and 28 found no fault: 15 to 19, then what is left; the row counts are read into working memory. O(4,096 + slots + the
+// first rows' columns).
 fn read_headed(
     bytes: &[u8],
+    counts: &mut [u16],
     order: &mut [u16],
     positions: &mut [u16],
     sizes: &mut [u16],
@@ -184,7 +186,7 @@ fn read_headed(
     columnStarts: &mut [u32],
     rows: &mut [u16],
 ) -> PlanAnswer
-    requires { ⌜ firstFault (headerChecks (now bytes)) ≡ 0 ⌝ }
+    requires { ⌜ (firstFault (headerChecks (now bytes)) ≡ 0) × (maxNodes ≤ length (now counts)) ⌝ }
     ensures { λ r. ⌜ Filled (reading (now (bytes .entry)) (capacity (buffers (now (order .entry)) (now (positions .entry)) (now (sizes .entry)) (now (parents .entry)) (now (columnStarts .entry)) (now (rows .entry))))) r
         (buffers (now (order .entry)) (now (positions .entry)) (now (sizes .entry)) (now (parents .entry)) (now (columnStarts .entry)) (now (rows .entry)))
         (buffers (now (order .exit)) (now (positions .exit)) (now (sizes .exit)) (now (parents .exit)) (now (columnStarts .exit)) (now (rows .exit))) ⌝ }
@@ -194,9 +196,8 @@ fn read_headed(
     let n = head.nodes;
     let p = head.parts;
     let s = head.slots;
-    let mut counts = filled(0);
-    read_row_counts(bytes, end, n, p, s, &mut counts);
-    let fault = contents_refusal(bytes, end, n, p, s, &counts);
+    read_row_counts(bytes, end, n, p, s, counts);
+    let fault = contents_refusal(bytes, end, n, p, s, counts);
     if fault != 0 {
         return PlanAnswer::Refused(fault);
     }
@@ -207,7 +208,7 @@ fn read_headed(
         n,
         p,
         s,
-        &counts,
+        counts,
         order,
         positions,
         sizes,
@@ -232,9 +233,19 @@ pub fn read(
         (buffers (now (order .entry)) (now (positions .entry)) (now (sizes .entry)) (now (parents .entry)) (now (columnStarts .entry)) (now (rows .entry)))
         (buffers (now (order .exit)) (now (positions .exit)) (now (sizes .exit)) (now (parents .exit)) (now (columnStarts .exit)) (now (rows .exit))) ⌝ }
 {
+    let mut counts = filled(0);
     let fault = header_refusal(bytes);
     if fault != 0 {
         return PlanAnswer::Refused(fault);
     }
-    read_headed(bytes, order, positions, sizes, parents, columnStarts, rows)
+    read_headed(
+        bytes,
+        &mut counts,
+        order,
+        positions,
+        sizes,
+        parents,
+        columnStarts,
+        rows,
+    )
 }

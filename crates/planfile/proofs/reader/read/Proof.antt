@@ -8,7 +8,7 @@ use Rattle.planfile.proofs.reader.read.Tie as tie
 returns : tie.Need-returns
 returns c =
     let r = c .before in
-    let a = r .before .before .before .before .before .before .before .before .args in
+    let a = r .before .before .before .before .before .before .before .before .before .args in
     header-refused (a .bytes .now) (buffers (a .order .now) (a .positions .now) (a .sizes .now) (a .parents .now) (a .columnStarts .now) (a .rows .now))
     (r .header-refusal .result) (r .header-refusal .ensures) (c .if1 .taken)
 
@@ -17,7 +17,9 @@ read-spec =
     tie.close
     (tie.spec
     (λ c κs. search needs)
+    (λ c κs. search needs)
     returns
+    (λ c. search needs)
     (λ c κs. search needs)
     (λ c. search needs)
     (λ c. search needs)
