@@ -233,6 +233,7 @@ pub fn read(
         (buffers (now (order .entry)) (now (positions .entry)) (now (sizes .entry)) (now (parents .entry)) (now (columnStarts .entry)) (now (rows .entry)))
         (buffers (now (order .exit)) (now (positions .exit)) (now (sizes .exit)) (now (parents .exit)) (now (columnStarts .exit)) (now (rows .exit))) ⌝ }
 {
+    // Before the first check, so that the stack frame is made while no register holds anything: the back end has a fault there (DECISIONS 139).
     let mut counts = filled(0);
     let fault = header_refusal(bytes);
     if fault != 0 {
