@@ -19,6 +19,9 @@ pub mod RoundTrips
 pub mod Version1
 pub mod Questions
 pub mod SlotsAndPairs
+pub mod Filling
+pub mod Factoring
+pub mod FactorStatements
 pub mod Listing
 pub mod Enough
 pub mod MatrixMarket
@@ -31,3 +34,4 @@ pub mod VersionCases
 pub mod SlotCases
 pub mod RowFaultCases
 pub mod WorkedTexts
+pub mod FactorCases

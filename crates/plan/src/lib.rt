@@ -1,8 +1,12 @@
-// The public kinds: a plan, the answers of the entry points, and the family of a refusal's number.
+// The public kinds: a plan, the answers of the entry points, the report of factoring, and the family of a refusal's number.
 ghost use mathlib.Core.Path.{_≡_};
+ghost use mathlib.Core.Bool.{cond};
+ghost use Prim.Native.Nat.{_+_, _<_, _^_};
+ghost use lib.Ieee.{lt};
 ghost use Rattle.plan.specs.Mesh.{maxNodes, maxEntries, maxNeighbours, maxUnknowns, noParent};
 ghost use Rattle.plan.specs.Planning.{badUnknowns};
 ghost use Rattle.plan.specs.Refusals.{familyOf};
+ghost use Rattle.plan.specs.Factoring.{openReport, zeroReport, afterColumn};
 
 // A plan by its counts. Its lists (order, positions, sizes, parents, column starts, rows) stand in the lent buffers.
 pub struct Plan {
@@ -126,6 +130,69 @@ pub enum MeshAnswer {
 pub struct Span {
     pub start: usize,
     pub count: usize,
+}
+
+// What factoring reports: the smallest and the largest pivot, and the multiplications and divisions done.
+pub struct Report {
+    pub smallest: f64,
+    pub largest: f64,
+    pub operations: u64,
+}
+
+impl Report {
+    // Before the first column: any pivot is smaller than the one and larger than the other. O(1).
+    pub fn open() -> Self
+        ensures { λ r. ⌜ r ≡ openReport ⌝ }
+    {
+        Self {
+            smallest: 1.0 / 0.0,
+            largest: 0.0,
+            operations: 0,
+        }
+    }
+
+    // Of a refusal. O(1).
+    pub fn zero() -> Self
+        ensures { λ r. ⌜ r ≡ zeroReport ⌝ }
+    {
+        Self {
+            smallest: 0.0,
+            largest: 0.0,
+            operations: 0,
+        }
+    }
+
+    // After a column with pivot d and so many multiplications and divisions. O(1).
+    pub fn after(self, d: f64, operations: u64) -> Self
+        requires { ⌜ self .operations + operations < 2 ^ 64 ⌝ }
+        ensures { λ r. ⌜ r ≡ afterColumn self d operations ⌝ }
+    {
+        Self {
+            smallest: lesser(d, self.smallest),
+            largest: greater(d, self.largest),
+            operations: self.operations + operations,
+        }
+    }
+}
+
+// a if it is less than b, else b
+fn lesser(a: f64, b: f64) -> f64
+    ensures { λ r. ⌜ r ≡ cond (lt a b) a b ⌝ }
+{
+    if a < b { a } else { b }
+}
+
+// a if it is greater than b, else b
+fn greater(a: f64, b: f64) -> f64
+    ensures { λ r. ⌜ r ≡ cond (lt b a) a b ⌝ }
+{
+    if b < a { a } else { b }
+}
+
+// The answer of factoring: the refusal's number, 0 for none, beside the report.
+pub struct FactorAnswer {
+    pub refusal: u32,
+    pub report: Report,
 }
 
 // The family of a refusal's number.

@@ -63,3 +63,7 @@ pub mod TextEntries
 pub mod TextOrder
 pub mod Promises
 pub mod Versions
+pub mod FactorPlaces
+pub mod Factoring
+pub mod FactorHeld
+pub mod FactorReport

@@ -114,16 +114,22 @@ unfolding writeOut
 write-number zero c = refl
 write-number (suc k) c = refl
 
+-- where the checks of supplied slices find no fault, the used entries have none
+pub supplied-sound : (c : Contents) → firstFault (suppliedChecks c) ≡ 0 → Sound (used c)
+unfolding suppliedChecks
+supplied-sound c h =
+    let c28 = no-fault 28 (badUnknowns (c .unknowns)) _ (omega arith) h in
+    let c13 = no-fault 13 (badSupply c) _ (omega arith) (c28 .1) in
+    let supply = supply-says c (c13 .0) in
+    passes-sound (used c) (supply .1) (ap badUnknowns (used-unknowns c) ∙ c28 .0) (supply .0) (c13 .1)
+
 -- an accepted writing: the used entries have no fault, and the bytes are theirs
 pub write-says : (c : Contents) (output : ℕ) → writing c output .reply .number ≡ 0
     → Sound (used c) × (writing c output .bytes ≡ encode (used c))
-unfolding writing writeChecks suppliedChecks writeOut
+unfolding writing writeChecks writeOut
 write-says c output h =
     let none : firstFault (writeChecks c output) ≡ 0 = sym (write-number (firstFault (writeChecks c output)) c) ∙ h in
-    let c28 = no-fault 28 (badUnknowns (c .unknowns)) _ (omega arith) none in
-    let c13 = no-fault 13 (badSupply c) _ (omega arith) (c28 .1) in
-    let supply = supply-says c (c13 .0) in
-    (passes-sound (used c) (supply .1) (ap badUnknowns (used-unknowns c) ∙ c28 .0) (supply .0) (no-fault-first (contentsChecks (used c)) _ (c13 .1)), ap (λ (k : ℕ). writeOut k c .bytes) none)
+    (supplied-sound c (no-fault-first (suppliedChecks c) _ none), ap (λ (k : ℕ). writeOut k c .bytes) none)
 
 -- and the other way round, given room
 pub write-accepts : (c : Contents) (output : ℕ) → Sound (used c) → fileLength c ≤ output → writing c output ≡ acceptedWriting (encode (used c))

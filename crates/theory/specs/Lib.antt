@@ -5,5 +5,6 @@ pub mod Rows
 pub mod PartTree
 pub mod Sensible
 pub mod Balanced
+pub mod Covering
 pub mod Keys
 pub mod Places
