@@ -1,5 +1,6 @@
 pub mod Passing
 pub mod WrittenFile
+pub mod SuppliedChecks
 pub mod WriteAnswers
 pub mod Headed
 pub mod Reading

@@ -1,17 +1,12 @@
--- What the functions' contracts cite of a plan that is written, besides the book and the crates below: what is known of it behind check 13 and behind
--- all checks of its contents, and the writer's checks behind 13.
+-- What the functions' contracts cite of a plan in slices, besides the book and the crates below: what is known of it behind check 13, and behind all
+-- checks of its contents.
 use mathlib.Core.Path.{_≡_}
 use mathlib.Core.Bool.{false}
-use mathlib.Core.List.{List, [], _∷_, _++_}
+use mathlib.Core.List.{List}
 use Prim.Native.Nat.{ℕ, _+_, _-_, _≤_, _<_}
-use lib.ListN.{length, getD}
-use Rattle.plan.specs.declared.WriteAnswer.{WriteAnswer}
-use Rattle.plan.specs.Lists.{written}
-use Rattle.plan.specs.Refusals.{Checks, firstFault}
-use Rattle.plan.specs.Answers.{writeReply}
+use lib.ListN.{getD}
 use Rattle.plan.specs.Planning.{Contents, contents}
-use Rattle.plan.specs.File.{Whole, badHeader, contentsChecks}
-use Rattle.plan.specs.Writing.{outputTooShort, writeOut}
+use Rattle.plan.specs.File.{Whole, badHeader}
 
 -- a plan of its counts and lists: what checks 13 and 15 to 19 look at
 abbrev pub listed : ℕ → ℕ → ℕ → List ℕ → List ℕ → List ℕ → List ℕ → List ℕ → Contents
@@ -26,12 +21,3 @@ pub record Exact (c : Contents) : Type 0 where
 pub record NarrowColumns (n : ℕ) (columnStarts : List ℕ) : Type 0 where
   pub rising : (j : ℕ) → j < n → getD columnStarts j 0 ≤ getD columnStarts (j + 1) 0
   pub narrow : (j : ℕ) → j < n → getD columnStarts (j + 1) 0 - getD columnStarts j 0 < 65536
-
--- the writer's checks of a whole plan that passed check 13: 15 to 19, then 8
-abbrev pub lateChecks : Contents → ℕ → Checks
-lateChecks c room = contentsChecks c ++ ((8, outputTooShort c room) ∷ [])
-
--- an answer and an output that agree with them
-pub record WroteExact (c : Contents) (answer : WriteAnswer) (found left : List ℕ) : Type 0 where
-  pub reply : writeReply answer ≡ writeOut (firstFault (lateChecks c (length found))) c .reply
-  pub output : left ≡ written (writeOut (firstFault (lateChecks c (length found))) c .bytes) found

@@ -4,4 +4,5 @@ mod slices;
 mod writer;
 
 pub use reader::read;
+pub use slices::supplied_refusal;
 pub use writer::write;

@@ -1,5 +1,5 @@
 // Writing a plan file, of version 2, from lent slices: checks 28, 13 and 15 to 19, then 8, then the bytes.
-use crate::slices::contents_refusal;
+use crate::slices::supplied_refusal;
 use coding::write16;
 use coding::write16s;
 use coding::write32;
@@ -8,9 +8,7 @@ use filechecks::HEADER;
 use filechecks::N;
 use filechecks::P;
 use filechecks::VERSION;
-use filechecks::bad_header;
 use filechecks::file_length;
-use plan::Plan;
 use plan::WriteAnswer;
 ghost use mathlib.Core.Path.{_≡_};
 ghost use mathlib.Core.Bool.{false};
@@ -20,42 +18,11 @@ ghost use lib.ListN.{length};
 ghost use Rattle.plan.specs.Lists.{written};
 ghost use Rattle.plan.specs.Planning.{rowCounts, contents, badUnknowns};
 ghost use Rattle.plan.specs.File.{fileLength, encode, encodeParts, encode16s, badHeader};
-ghost use Rattle.plan.specs.Writing.{badSupply, Wrote};
+ghost use Rattle.plan.specs.Writing.{Wrote};
 ghost use Rattle.filechecks.specs.Fields.{countsOnly, orderAndParts};
 ghost use Rattle.rowchecks.specs.Rows.{partsAndRows};
-ghost use Rattle.planfile.specs.Supplied.{listed, Exact, NarrowColumns, WroteExact};
+ghost use Rattle.planfile.specs.Supplied.{Exact, NarrowColumns};
 ghost use Rattle.planfile.specs.Filed.{headerOf};
-
-// Check 13: the counts are out of their limits, or a slice is shorter than its count says. O(1).
-fn bad_supply(
-    n: usize,
-    p: usize,
-    s: usize,
-    order: &[u16],
-    sizes: &[u16],
-    parents: &[u16],
-    columnStarts: &[u32],
-    rows: &[u16],
-) -> bool
-    ensures { λ r. ⌜ r ≡ badSupply (listed n p s (now (order .entry)) (now (sizes .entry)) (now (parents .entry)) (now (columnStarts .entry)) (now (rows .entry))) ⌝ }
-{
-    if bad_header(n, p, s) {
-        return true;
-    }
-    if order.len() < n {
-        return true;
-    }
-    if sizes.len() < p {
-        return true;
-    }
-    if parents.len() < p {
-        return true;
-    }
-    if columnStarts.len() <= n {
-        return true;
-    }
-    rows.len() < s
-}
 
 // The mark, the version, the unknowns and the counts. O(1).
 fn write_header(unknowns: usize, n: usize, p: usize, s: usize, bytes: &mut [u8])
@@ -123,42 +90,6 @@ fn write_plan(
     write16s(rows, &mut bytes[rowsAt..]);
 }
 
-// Writing from slices as long as their counts say: checks 15 to 19, then 8. O(4,096 + slots + the first rows' columns).
-fn write_exact(
-    unknowns: usize,
-    n: usize,
-    order: &[u16],
-    sizes: &[u16],
-    parents: &[u16],
-    columnStarts: &[u32],
-    rows: &[u16],
-    bytes: &mut [u8],
-) -> WriteAnswer
-    requires { ⌜ badUnknowns unknowns ≡ false ⌝ }
-    requires { ⌜ Exact (contents unknowns n (length (now sizes)) (length (now rows)) (now order) (now sizes) (now parents) (now columnStarts) (now rows)) ⌝ }
-    ensures { λ r. ⌜ WroteExact (contents unknowns n (length (now (sizes .entry))) (length (now (rows .entry))) (now (order .entry)) (now (sizes .entry)) (now (parents .entry)) (now (columnStarts .entry)) (now (rows .entry))) r (now (bytes .entry)) (now (bytes .exit)) ⌝ }
-{
-    let fault = contents_refusal(n, order, sizes, parents, columnStarts, rows);
-    if fault != 0 {
-        return WriteAnswer::Refused(fault);
-    }
-    let length = file_length(HEADER, n, sizes.len(), rows.len());
-    if bytes.len() < length {
-        return WriteAnswer::Refused(8);
-    }
-    write_plan(
-        unknowns,
-        n,
-        order,
-        sizes,
-        parents,
-        columnStarts,
-        rows,
-        bytes,
-    );
-    WriteAnswer::Written(length)
-}
-
 // Writing: checks 28, 13, 15 to 19 and 8 in this order, then the bytes, and the file's length is returned; slices may be longer than their counts say.
 // O(4,096 + slots + the first rows' columns).
 pub fn write(
@@ -175,14 +106,16 @@ pub fn write(
 ) -> WriteAnswer
     ensures { λ r. ⌜ Wrote (contents unknowns n p s (now (order .entry)) (now (sizes .entry)) (now (parents .entry)) (now (columnStarts .entry)) (now (rows .entry))) r (now (bytes .entry)) (now (bytes .exit)) ⌝ }
 {
-    if Plan::bad_unknowns(unknowns) {
-        return WriteAnswer::Refused(28);
+    let fault = supplied_refusal(unknowns, n, p, s, order, sizes, parents, columnStarts, rows);
+    if fault != 0 {
+        return WriteAnswer::Refused(fault);
     }
-    if bad_supply(n, p, s, order, sizes, parents, columnStarts, rows) {
-        return WriteAnswer::Refused(13);
+    let length = file_length(HEADER, n, p, s);
+    if bytes.len() < length {
+        return WriteAnswer::Refused(8);
     }
     let end = n + 1;
-    write_exact(
+    write_plan(
         unknowns,
         n,
         &order[..n],
@@ -191,5 +124,6 @@ pub fn write(
         &columnStarts[..end],
         &rows[..s],
         bytes,
-    )
+    );
+    WriteAnswer::Written(length)
 }

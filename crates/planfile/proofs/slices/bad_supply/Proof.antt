@@ -1,4 +1,4 @@
--- `planfile::writer::bad_supply` meets its contract: the tests are those of `badSupply`, and check 13 looks at the counts alone.
+-- `planfile::slices::bad_supply` meets its contract: the tests are those of `badSupply`, and check 13 looks at the counts alone.
 use mathlib.Core.Path.{_≡_, sym, _∙_}
 use mathlib.Core.Bool.{false}
 use Prim.Native.Nat.{_+_}
@@ -11,8 +11,8 @@ use Rattle.plan.specs.File.{badHeader}
 use Rattle.plan.specs.Writing.{badSupply}
 use Rattle.filechecks.proofs.Fields.{header-counts}
 use Rattle.planfile.specs.Supplied.{listed}
-use Rattle.planfile.proofs.writer.bad_supply.Statement.{statement}
-use Rattle.planfile.proofs.writer.bad_supply.Tie as tie
+use Rattle.planfile.proofs.slices.bad_supply.Statement.{statement}
+use Rattle.planfile.proofs.slices.bad_supply.Tie as tie
 
 -- the plan
 abbrev plan : tie.Start → Contents
