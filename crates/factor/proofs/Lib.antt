@@ -1,0 +1,4 @@
+pub mod Running
+pub mod ColumnSteps
+pub mod AllColumns
+pub mod Checks
