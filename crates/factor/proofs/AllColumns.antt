@@ -84,11 +84,13 @@ module _ (starts rows : List ℕ) (j n : ℕ) (r : Report) (diagonal values : Li
   from-end ge = let e : n - j ≡ 0 = omega arith in rw e
 
 -- What holds between two columns.
-pub record Columns (starts rows : List ℕ) (diagonal₀ values₀ : List Float) (report₀ : Report) (diagonal values kept : List Float) (report : Report) (j : ℕ) : Type 0 where
+pub record Columns (starts rows : List ℕ) (diagonal₀ values₀ : List Float) (report₀ : Report) (diagonal values kept lower : List Float) (places : List ℕ) (report : Report) (j : ℕ) : Type 0 where
   pub high : j ≤ length diagonal₀
   pub longDiagonal : length diagonal ≡ length diagonal₀
   pub longValues : length values ≡ length values₀
   pub longKept : length kept ≡ maxNodes
+  pub longLower : length lower ≡ maxNodes
+  pub longPlaces : length places ≡ maxNodes
   pub few : report .operations ≤ j * 8394752
   pub same : factorFrom starts rows 0 (length diagonal₀) report₀ (record { diagonal = diagonal₀; values = values₀ })
       ≡ factorFrom starts rows j (length diagonal₀ - j) report (record { diagonal = diagonal; values = values })
@@ -100,17 +102,20 @@ module _ (starts rows : List ℕ) (diagonal₀ values₀ : List Float) (report�
   abbrev all : Report → FactorOutcome
   all r = factorFrom starts rows 0 n r (record { diagonal = diagonal₀; values = values₀ })
 
-  pub columns-begin : (kept : List Float) → length kept ≡ maxNodes → report₀ ≡ openReport → Columns starts rows diagonal₀ values₀ report₀ diagonal₀ values₀ kept report₀ 0
-  columns-begin kept long e = record {
+  pub columns-begin : (kept lower : List Float) (places : List ℕ) → length kept ≡ maxNodes → length lower ≡ maxNodes → length places ≡ maxNodes → report₀ ≡ openReport
+      → Columns starts rows diagonal₀ values₀ report₀ diagonal₀ values₀ kept lower places report₀ 0
+  columns-begin kept lower places long longLower longPlaces e = record {
     high = omega arith;
     longDiagonal = refl;
     longValues = refl;
     longKept = long;
+    longLower = longLower;
+    longPlaces = longPlaces;
     few = let none : report₀ .operations ≡ 0 = ap (λ (r : Report). r .operations) e in omega arith;
     same = let e : n - 0 ≡ n = omega arith in rw e;
   }
 
-  module _ (diagonal values kept : List Float) (report : Report) (j : ℕ) (h : Columns starts rows diagonal₀ values₀ report₀ diagonal values kept report j) where
+  module _ (diagonal values kept lower : List Float) (places : List ℕ) (report : Report) (j : ℕ) (h : Columns starts rows diagonal₀ values₀ report₀ diagonal values kept lower places report j) where
     -- what is reached from here is what is reached
     reached : (o : FactorOutcome) (answer : FactorAnswer) → report₀ ≡ openReport → factorFrom starts rows j (n - j) report (record { diagonal = diagonal; values = values }) ≡ o
         → Reached o answer diagonal values → Reached (all openReport) answer diagonal values
@@ -133,18 +138,20 @@ module _ (starts rows : List ℕ) (diagonal₀ values₀ : List Float) (report�
         reached (factored report (record { diagonal = diagonal; values = values })) (record { refusal = 0; report = report }) e (from-end starts rows j n report diagonal values ge)
         (record { reply = refl; diagonalLeft = refl; valuesLeft = refl })
 
-    pub columns-next : Covering n starts rows → n ≤ maxNodes → j < n → positive (getD diagonal j nan) ≡ true → (diagonal' values' kept' : List Float) (report' : Report) (count : ℕ)
+    pub columns-next : Covering n starts rows → n ≤ maxNodes → j < n → positive (getD diagonal j nan) ≡ true → (diagonal' values' kept' lower' : List Float) (places' : List ℕ) (report' : Report) (count : ℕ)
         → Worked starts rows j (getD diagonal j nan) diagonal values diagonal' values' → length diagonal' ≡ length diagonal → length values' ≡ length values → length kept' ≡ length kept
-        → count ≡ columnOperations starts j → report' ≡ afterColumn report (getD diagonal j nan) count
-        → Columns starts rows diagonal₀ values₀ report₀ diagonal' values' kept' report' (j + 1)
+        → length lower' ≡ length lower → length places' ≡ length places → count ≡ columnOperations starts j → report' ≡ afterColumn report (getD diagonal j nan) count
+        → Columns starts rows diagonal₀ values₀ report₀ diagonal' values' kept' lower' places' report' (j + 1)
     unfolding afterColumn
-    columns-next plan small lt t diagonal' values' kept' report' count w ld lv lk ec er =
+    columns-next plan small lt t diagonal' values' kept' lower' places' report' count w ld lv lk ll lp ec er =
         let sum : report' .operations ≡ report .operations + count = ap (λ (r : Report). r .operations) er in
         record {
           high = omega arith;
           longDiagonal = ld ∙ h .longDiagonal;
           longValues = lv ∙ h .longValues;
           longKept = lk ∙ h .longKept;
+          longLower = ll ∙ h .longLower;
+          longPlaces = lp ∙ h .longPlaces;
           few = omega (arith, sum, ec, h .few, operations-few n starts rows plan small j lt);
           same = h .same ∙ from-next starts rows j n report diagonal values lt t diagonal' values' w
               ∙ ap (λ (r : Report). factorFrom starts rows (j + 1) (n - (j + 1)) r (record { diagonal = diagonal'; values = values' }))

@@ -66,6 +66,10 @@ module _ (c : Contents) (f : Filling) where
     unfolding used
     nodes-few = counts-few (used c) (supplied-sound c (passed .supplied) .header) .0
 
+    slots-few : c .slots ≤ 8386560
+    unfolding used
+    slots-few = counts-few (used c) (supplied-sound c (passed .supplied) .header) .2
+
     pub starts-long : length (used c .columnStarts) ≡ c .nodes + 1
     unfolding used
     starts-long = supplied-sound c (passed .supplied) .whole .columnStarts
@@ -78,6 +82,7 @@ module _ (c : Contents) (f : Filling) where
     factor-lent = record {
       plan = rw (passed .diagonal) (supplied-covering c (passed .supplied));
       few = omega (arith, passed .diagonal, nodes-few);
+      fewSlots = omega (arith, rows-long, slots-few);
       slots = rows-long ∙ sym (passed .values);
     }
 

@@ -1,11 +1,12 @@
--- One row k of a column at work: what is subtracted in the slots of column k, and what is asked for it.
+-- One row k of a column at work: what is subtracted in the slots of column k, what is asked for it, and where these slots are known to be.
 use mathlib.Core.Path.{_≡_}
-use mathlib.Core.Bool.{true}
+use mathlib.Core.Bool.{Bool, true, _&&_, _||_}
 use mathlib.Core.List.{List, [], _∷_}
 use Prim.Native.Nat.{ℕ, _+_, _-_, _≤_, _<_}
+use lib.Dec.{eqb}
 use lib.ListN.{length, getD}
 use lib.Ieee.{Float, nan, mul, binary64}
-use Rattle.plan.specs.Lists.{every, upFrom, segment, isIn, indexOf, listAt, ascending}
+use Rattle.plan.specs.Lists.{every, segment, isIn, indexOf, listAt, ascending}
 use Rattle.plan.specs.Factoring.{less}
 
 -- the slot of row i in column k
@@ -18,28 +19,36 @@ lessDown starts rows l k x [] values = values
 lessDown starts rows l k x (t ∷ ts) values =
     lessDown starts rows l k x ts (less values (slotIn starts rows k (getD rows t 0)) (mul binary64 (getD l t nan) x))
 
--- column k lies behind the slots from .. to, whose rows it holds; both are ascending
-pub record Beside (starts rows : List ℕ) (k from to room : ℕ) : Type 0 where
+-- what working memory keeps, from its front on, of the numbers in slots first .. to
+abbrev pub Keeps : List Float → List Float → ℕ → ℕ → Type 0
+Keeps kept values first to = (s : ℕ) → first ≤ s → s < to → getD kept (s - first) nan ≡ getD values s nan
+
+-- column k holds the rows in the slots from .. to of a column that begins at `first`; both are ascending
+pub record Beside (starts rows : List ℕ) (k first from to room kept : ℕ) : Type 0 where
+  pub begin : first ≤ from
   pub order : from ≤ to
-  pub behind : to ≤ getD starts k 0
+  pub behind : to ≤ length rows
+  pub roomKept : to - first ≤ kept
   pub known : k + 1 < length starts
   pub rising : getD starts k 0 ≤ getD starts (k + 1) 0
   pub inside : getD starts (k + 1) 0 ≤ length rows
   pub filled : length rows ≡ room
+  pub few : length rows < 4294967296
   pub upper : ascending (segment rows from to) ≡ true
   pub lower : ascending (listAt starts rows k) ≡ true
   pub held : every (λ i. isIn i (listAt starts rows k)) (segment rows from to) ≡ true
 
--- and has no other rows
-abbrev pub SameRows : List ℕ → ℕ → ℕ → ℕ → Type 0
-SameRows starts k from to = getD starts (k + 1) 0 - getD starts k 0 ≡ to - from
+-- whether the last row in the slots from .. to stands as far behind the first row of column k as behind the first of them
+unfoldable pub alongFront : List ℕ → List ℕ → ℕ → ℕ → ℕ → Bool
+alongFront starts rows k from to = eqb to from || eqb (getD rows (getD starts k 0 + (to - from) - 1) 0) (getD rows (to - 1) 0)
 
--- a row at work, the one in slot s
-pub record RowReady (starts rows : List ℕ) (s to n room : ℕ) : Type 0 where
-  pub slot : s < to
-  pub row : getD rows s 0 < n
-  pub beside : Beside starts rows (getD rows s 0) (s + 1) to room
+-- for each slot from .. to, `places` tells the slot of its row in column k as if that column began at `base`
+abbrev pub Placed : List ℕ → List ℕ → List ℕ → ℕ → ℕ → ℕ → ℕ → ℕ → Type 0
+Placed places starts rows k first base from to =
+    (t : ℕ) → from ≤ t → t < to → getD places (t - first) 0 + getD starts k 0 ≡ slotIn starts rows k (getD rows t 0) + base
 
-pub record RowWorked (starts rows : List ℕ) (s to : ℕ) (v : Float) (diagonal values diagonal' values' : List Float) : Type 0 where
-  pub diagonalLeft : diagonal' ≡ less diagonal (getD rows s 0) (mul binary64 (getD values s nan) v)
-  pub valuesLeft : values' ≡ lessDown starts rows values (getD rows s 0) v (upFrom (s + 1) (to - (s + 1))) values
+-- whether `next` is the first row of column k, which has one row more than column `next`
+unfoldable pub continued : List ℕ → List ℕ → ℕ → ℕ → Bool
+continued starts rows k next =
+    eqb (getD rows (getD starts k 0) 0) next
+    && eqb (getD starts (k + 1) 0 - getD starts k 0) (getD starts (next + 1) 0 - getD starts next 0 + 1)

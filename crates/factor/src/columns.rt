@@ -50,7 +50,7 @@ fn operations(starts: &[u32], j: usize) -> u64
     work(b - a)
 }
 
-// The columns, with the report after each. O(4,096 + multiplications + rows of the columns of all rows).
+// The columns, with the report after each. O(4,096 + multiplications + rows of the columns that are run down).
 pub(crate) fn factor_columns(
     starts: &[u32],
     rows: &[u16],
@@ -62,6 +62,8 @@ pub(crate) fn factor_columns(
         (record { diagonal = now (diagonal .entry); values = now (values .entry) })) r (now (diagonal .exit)) (now (values .exit)) ⌝ }
 {
     let mut kept = [0.0; Plan::NODES];
+    let mut lower = [0.0; Plan::NODES];
+    let mut places = [0; Plan::NODES];
     let mut report = Report::open();
     let mut j = 0;
     while j < diagonal.len() {
@@ -69,7 +71,17 @@ pub(crate) fn factor_columns(
         if !is_pivot(d) {
             return refused(31);
         }
-        factor_column(starts, rows, diagonal, values, &mut kept, j, d);
+        factor_column(
+            starts,
+            rows,
+            diagonal,
+            values,
+            &mut kept,
+            &mut lower,
+            &mut places,
+            j,
+            d,
+        );
         report = report.after(d, operations(starts, j));
         j += 1;
     }

@@ -2,5 +2,6 @@
 mod column;
 mod columns;
 mod entry;
+mod rows;
 
 pub use entry::factor;

@@ -12,10 +12,11 @@ use Rattle.factor.proofs.columns.factor_columns.Statement.{statement}
 use Rattle.factor.proofs.columns.factor_columns.Tie as tie
 
 abbrev Inv-loop : tie.InvT-loop
-Inv-loop starts rows diagonal₀ values₀ kept₀ report₀ j₀ diagonal values kept report j = Columns starts rows diagonal₀ values₀ report₀ diagonal values kept report j
+Inv-loop starts rows diagonal₀ values₀ kept₀ lower₀ places₀ report₀ j₀ diagonal values kept lower places report j =
+    Columns starts rows diagonal₀ values₀ report₀ diagonal values kept lower places report j
 
 abbrev μ-loop : tie.MeasureT-loop
-μ-loop starts rows diagonal₀ values₀ kept₀ report₀ j₀ diagonal values kept report j = length diagonal₀ - j
+μ-loop starts rows diagonal₀ values₀ kept₀ lower₀ places₀ report₀ j₀ diagonal values kept lower places report j = length diagonal₀ - j
 
 -- the function's start, seen from the loop
 abbrev start : tie.At-loop Inv-loop μ-loop → tie.Start Inv-loop μ-loop
@@ -24,61 +25,69 @@ start l = l .before .before .before .before .before .before
 loop-holds : tie.Need-loop-holds Inv-loop μ-loop
 loop-holds c =
     let s = c .before .before .before .before .before in
-    columns-begin (s .args .starts .now) (s .args .rows .now) (s .args .diagonal .now) (s .args .values .now) (c .«open» .result) _ (search needs) (c .«open» .ensures)
+    columns-begin (s .args .starts .now) (s .args .rows .now) (s .args .diagonal .now) (s .args .values .now) (c .«open» .result) _ _ _ (search needs) (search needs) (search needs) (c .«open» .ensures)
 
 returns : tie.Need-returns Inv-loop μ-loop
 returns c =
     let l = c .before .before .before .before .before in
     let s = start l in
     let p = c .before .before .is-pivot in
-    columns-stop (s .args .starts .now) (s .args .rows .now) (s .args .diagonal .now) (s .args .values .now) (l .before .«open» .result) (l .loop .diagonal) (l .loop .values) (l .loop .kept) (l .loop .report) (l .loop .j) (l .loop .inv) (l .before .«open» .ensures) (omega (arith, c .before .before .before .before .loop-test .taken, l .loop .inv .longDiagonal)) (sym (p .ensures) ∙ not-true (p .result) (c .before .if1 .taken)) (c .refused .result) (c .refused .ensures)
-
-slice-aggregate-factor-column : tie.Need-slice-aggregate-factor-column Inv-loop μ-loop
-slice-aggregate-factor-column c = sym (c .before .before .before .before .before .before .before .loop .inv .longKept)
+    columns-stop (s .args .starts .now) (s .args .rows .now) (s .args .diagonal .now) (s .args .values .now) (l .before .«open» .result) (l .loop .diagonal) (l .loop .values) (l .loop .kept) (l .loop .lower) (l .loop .places) (l .loop .report) (l .loop .j) (l .loop .inv) (l .before .«open» .ensures) (omega (arith, c .before .before .before .before .loop-test .taken, l .loop .inv .longDiagonal)) (sym (p .ensures) ∙ not-true (p .result) (c .before .if1 .taken)) (c .refused .result) (c .refused .ensures)
 
 factor-column-requires : tie.Need-factor-column-requires Inv-loop μ-loop
 factor-column-requires c κs =
-    let l = c .before .before .before .before .before .before .before in
+    let l = c .before .before .before .before .before .before .before .before .before in
     let s = start l in
+    let h = l .loop .inv in
     record {
-      plan = rw (l .loop .inv .longDiagonal) (s .pre .plan);
-      column = c .before .before .before .before .before .before .loop-test .taken;
-      slots = s .pre .slots ∙ sym (l .loop .inv .longValues);
-      room = omega (arith, l .loop .inv .longDiagonal, l .loop .inv .longKept, s .pre .few);
+      plan = rw (h .longDiagonal) (s .pre .plan);
+      column = c .before .before .before .before .before .before .before .before .loop-test .taken;
+      slots = s .pre .slots ∙ sym (h .longValues);
+      few = s .pre .fewSlots;
+      roomKept = omega (arith, h .longDiagonal, h .longKept, s .pre .few);
+      roomLower = omega (arith, h .longDiagonal, h .longLower, s .pre .few);
+      roomPlaces = omega (arith, h .longDiagonal, h .longPlaces, s .pre .few);
     }
+
+-- column j is one of the plan
+column : (c : tie.In-loop Inv-loop μ-loop) → let l = c .before in l .loop .j < length (start l .args .diagonal .now)
+column c = omega (arith, c .loop-test .taken, c .before .loop .inv .longDiagonal)
 
 operations-requires : tie.Need-operations-requires Inv-loop μ-loop
 operations-requires c κs =
-    let l = c .before .before .before .before .before .before .before .before .before .before .before .before .before in
+    let k = c .before .before .before .before .before .before .before .before .before .before .before .before .before .before .before .before in
+    let l = k .before in
     let s = start l in
-    let lt : l .loop .j < length (s .args .diagonal .now) = omega (arith, c .before .before .before .before .before .before .before .before .before .before .before .before .loop-test .taken, l .loop .inv .longDiagonal) in (
-      omega (arith, s .pre .plan .starts .many, lt),
-      slot-inside (length (s .args .diagonal .now)) (s .args .starts .now) (s .args .rows .now) (s .pre .plan) (l .loop .j) lt .0,
-      omega (arith, column-fits (length (s .args .diagonal .now)) (s .args .starts .now) (s .args .rows .now) (s .pre .plan) (l .loop .j) lt, s .pre .few),
+    let n = length (s .args .diagonal .now) in (
+      omega (arith, s .pre .plan .starts .many, column k),
+      slot-inside n (s .args .starts .now) (s .args .rows .now) (s .pre .plan) (l .loop .j) (column k) .0,
+      omega (arith, column-fits n (s .args .starts .now) (s .args .rows .now) (s .pre .plan) (l .loop .j) (column k), s .pre .few),
     )
 
 after-requires : tie.Need-after-requires Inv-loop μ-loop
 after-requires c κs =
-    let l = c .before .before .before .before .before .before .before .before .before .before .before .before .before .before in
+    let k = c .before .before .before .before .before .before .before .before .before .before .before .before .before .before .before .before .before in
+    let l = k .before in
     let s = start l in
-    let lt : l .loop .j < length (s .args .diagonal .now) = omega (arith, c .before .before .before .before .before .before .before .before .before .before .before .before .before .loop-test .taken, l .loop .inv .longDiagonal) in
-    omega (arith, l .loop .inv .few, lt, s .pre .few, c .operations .ensures, operations-few (length (s .args .diagonal .now)) (s .args .starts .now) (s .args .rows .now) (s .pre .plan) (s .pre .few) (l .loop .j) lt)
+    omega (arith, l .loop .inv .few, column k, s .pre .few, c .operations .ensures, operations-few (length (s .args .diagonal .now)) (s .args .starts .now) (s .args .rows .now) (s .pre .plan) (s .pre .few) (l .loop .j) (column k))
 
 loop-again : tie.Need-loop-again Inv-loop μ-loop
 loop-again c =
-    let l = c .before .before .before .before .before .before .before .before .before .before .before .before .before .before .before in
+    let k = c .before .before .before .before .before .before .before .before .before .before .before .before .before .before .before .before .before .before in
+    let l = k .before in
     let s = start l in
-    let p = c .before .before .before .before .before .before .before .before .before .before .before .before .is-pivot in
-    let q = c .before .before .before .before .before .before .before .factor-column in
-    let lt : l .loop .j < length (s .args .diagonal .now) = omega (arith, c .before .before .before .before .before .before .before .before .before .before .before .before .before .before .loop-test .taken, l .loop .inv .longDiagonal) in
-    columns-next (s .args .starts .now) (s .args .rows .now) (s .args .diagonal .now) (s .args .values .now) (l .before .«open» .result) (l .loop .diagonal) (l .loop .values) (l .loop .kept) (l .loop .report) (l .loop .j) (l .loop .inv) (s .pre .plan) (s .pre .few) lt (sym (p .ensures) ∙ not-false (p .result) (c .before .before .before .before .before .before .before .before .before .before .before .if1 .left))
-    (q .last .1 .1 .0) (q .last .1 .1 .1 .0) (q .last .1 .1 .1 .1 .0) (c .after .result) (c .before .operations .result) (q .ensures) (q .kept .1 .1 .0) (q .kept .1 .1 .1 .0) (q .kept .1 .1 .1 .1 .0) (c .before .operations .ensures) (c .after .ensures)
+    let p = c .before .before .before .before .before .before .before .before .before .before .before .before .before .before .before .before .is-pivot in
+    let q = c .before .before .before .before .before .before .before .before .before .factor-column in
+    columns-next (s .args .starts .now) (s .args .rows .now) (s .args .diagonal .now) (s .args .values .now) (l .before .«open» .result) (l .loop .diagonal) (l .loop .values) (l .loop .kept) (l .loop .lower) (l .loop .places) (l .loop .report) (l .loop .j) (l .loop .inv)
+    (s .pre .plan) (s .pre .few) (column k) (sym (p .ensures) ∙ not-false (p .result) (c .before .before .before .before .before .before .before .before .before .before .before .before .before .before .before .if1 .left))
+    (q .last .1 .1 .0) (q .last .1 .1 .1 .0) (q .last .1 .1 .1 .1 .0) (q .last .1 .1 .1 .1 .1 .0) (q .last .1 .1 .1 .1 .1 .1 .0) (c .after .result) (c .before .operations .result) (q .ensures)
+    (q .kept .1 .1 .0) (q .kept .1 .1 .1 .0) (q .kept .1 .1 .1 .1 .0) (q .kept .1 .1 .1 .1 .1 .0) (q .kept .1 .1 .1 .1 .1 .1 .0) (c .before .operations .ensures) (c .after .ensures)
 
 returns-2 : tie.Need-returns-2 Inv-loop μ-loop
 returns-2 c =
     let l = c .before in
     let s = start l in
-    columns-end (s .args .starts .now) (s .args .rows .now) (s .args .diagonal .now) (s .args .values .now) (l .before .«open» .result) (l .loop .diagonal) (l .loop .values) (l .loop .kept) (l .loop .report) (l .loop .j) (l .loop .inv) (l .before .«open» .ensures) (omega (arith, c .loop-test .left, l .loop .inv .longDiagonal))
+    columns-end (s .args .starts .now) (s .args .rows .now) (s .args .diagonal .now) (s .args .values .now) (l .before .«open» .result) (l .loop .diagonal) (l .loop .values) (l .loop .kept) (l .loop .lower) (l .loop .places) (l .loop .report) (l .loop .j) (l .loop .inv) (l .before .«open» .ensures) (omega (arith, c .loop-test .left, l .loop .inv .longDiagonal))
 
 pub factor-columns-spec : {M : Type 1} → statement M
 factor-columns-spec =
@@ -95,7 +104,9 @@ factor-columns-spec =
     (λ c. search needs)
     (λ c. search needs)
     returns
-    slice-aggregate-factor-column
+    (λ c. sym (c .before .before .before .before .before .before .before .loop .inv .longKept))
+    (λ c. sym (c .before .before .before .before .before .before .before .before .loop .inv .longLower))
+    (λ c. sym (c .before .before .before .before .before .before .before .before .before .loop .inv .longPlaces))
     factor-column-requires
     operations-requires
     after-requires
