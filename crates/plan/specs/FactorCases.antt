@@ -1,13 +1,13 @@
--- Document 02, E8: plans filled with numbers, what factoring answers and what both buffers hold afterwards, in one table, with where subtractions aim and
--- what stays; and the one statement that every row holds. A float is given by its bits, which another program computed.
+-- Document 02, E8: plans filled with numbers, what factoring answers and what both buffers hold afterwards, in one table, with where subtractions aim, in
+-- which order, and what stays; and the one statement that every row holds. A float is given by its bits, which another program computed.
 use mathlib.Core.Bool.{Bool, true, false}
 use mathlib.Core.Path.{_≡_, refl}
 use mathlib.Core.List.{List, [], _∷_, map}
 use Prim.Native.Nat.{ℕ}
-use lib.Ieee.{binary64, ofBits}
+use lib.Ieee.{Float, binary64, ofBits}
 use Rattle.plan.specs.Planning.{Contents, contents}
-use Rattle.plan.specs.Filling.{Filling, Place, onDiagonal, inSlot, noPlace, placeOf}
-use Rattle.plan.specs.Factoring.{FactorOutcome, factoring}
+use Rattle.plan.specs.Filling.{Filling, Place, onDiagonal, inSlot, noPlace, placeOf, heldAt}
+use Rattle.plan.specs.Factoring.{pairs, FactorOutcome, factoring}
 use Rattle.plan.specs.FactorStatements.{aimsAtPlaces, columnsDone, touches}
 use Rattle.plan.specs.Everything.{everything}
 
@@ -38,6 +38,10 @@ pub data FactorRow : Type 0 where
   fills : (c : Contents) → (diagonal values : List ℕ) → (expected : FactorOutcome) → FactorRow
   -- column starts and rows, a pair of positions, and its place
   stands : (columnStarts rows : List ℕ) → (a b : ℕ) → (expected : Place) → FactorRow
+  -- a place, both buffers, and the number held there
+  holds : (at : Place) → (diagonal values : List ℕ) → (expected : List ℕ) → FactorRow
+  -- the slots of a column, and their pairs in order
+  paired : (slots : List ℕ) → (expected : List (ℕ × ℕ)) → FactorRow
   -- n, column starts and rows, and whether every subtraction aims at a place
   aims : (n : ℕ) → (columnStarts rows : List ℕ) → (expected : Bool) → FactorRow
   -- a plan, both buffers, and how many columns are worked before a pivot is refused
@@ -49,12 +53,16 @@ pub data FactorRow : Type 0 where
 pub data Found : Type 0 where
   outcome : FactorOutcome → Found
   place : Place → Found
+  held : List Float → Found
+  slotPairs : List (ℕ × ℕ) → Found
   truth : Bool → Found
   number : ℕ → Found
 
 abbrev pub computed : FactorRow → Found
 computed (fills c diagonal values expected) = outcome (factoring c (filled diagonal values))
 computed (stands columnStarts rows a b expected) = place (placeOf columnStarts rows a b)
+computed (holds at diagonal values expected) = held (heldAt at (filled diagonal values))
+computed (paired slots expected) = slotPairs (pairs slots)
 computed (aims n columnStarts rows expected) = truth (aimsAtPlaces n columnStarts rows)
 computed (works c diagonal values expected) = number (columnsDone (c .columnStarts) (c .rows) 0 (c .nodes) (filled diagonal values))
 computed (touching columnStarts rows at j expected) = truth (touches columnStarts rows at j)
@@ -62,6 +70,8 @@ computed (touching columnStarts rows at j expected) = truth (touches columnStart
 abbrev pub told : FactorRow → Found
 told (fills c diagonal values expected) = outcome expected
 told (stands columnStarts rows a b expected) = place expected
+told (holds at diagonal values expected) = held (map (ofBits binary64) expected)
+told (paired slots expected) = slotPairs expected
 told (aims n columnStarts rows expected) = truth expected
 told (works c diagonal values expected) = number expected
 told (touching columnStarts rows at j expected) = truth expected
@@ -113,6 +123,11 @@ factorings =
     ∷ fills full (0x4022333333333333 ∷ 0x402099999999999a ∷ 0x4025666666666666 ∷ 0x4027cccccccccccd ∷ 0x3fd0000000000000 ∷ []) (0x3fd5555555555555 ∷ 0x3fe6666666666666 ∷ 0xbff4cccccccccccd ∷ 0x3feccccccccccccd ∷ 0x3ffb333333333333 ∷ 0xbfe3333333333333 ∷ 0x3fe5555555555555 ∷ 0x3fb999999999999a ∷ 0x3ff199999999999a ∷ 0xbffe666666666666 ∷ []) (stopped 31 (0x4022333333333333 ∷ 0x4020935935935936 ∷ 0x40249da3782649de ∷ 0x4027560ab1bd34dc ∷ 0xbfcd8f82f30f54a0 ∷ []) (0x3fa2c12c12c12c13 ∷ 0x3fb3b13b13b13b14 ∷ 0xbfc2492492492493 ∷ 0x3fb951951951951a ∷ 0x3fc9dc06f4670da0 ∷ 0xbfb10ff8f09029b2 ∷ 0x3fb39300ba57f983 ∷ 0x3f9ef45243a64ccf ∷ 0x3fb66b83caf0b7b9 ∷ 0xbfc344d1c3e032be ∷ []))
     -- "Each operation rounds once": a fused product and difference would leave another pivot than 2^-29
     ∷ fills edge (0x3ff0000000000000 ∷ 0x3ff0000001000000 ∷ []) (0x3ff0000000400000 ∷ []) (finished 0x3e20000000000000 0x3ff0000000000000 2 (0x3ff0000000000000 ∷ 0x3e20000000000000 ∷ []) (0x3ff0000000400000 ∷ []))
+    -- the product is l of i times v of k: v / d × d, v × v / d, l × l × d and v × (1 / d) × v would each leave another pivot
+    ∷ fills edge (0x4026000000000000 ∷ 0x3ff0000000000000 ∷ []) (0x4008cccccccccccd ∷ []) (finished 0x3fc02caf02caf02c 0x4026000000000000 2 (0x4026000000000000 ∷ 0x3fc02caf02caf02c ∷ []) (0x3fd2094f2094f209 ∷ []))
+    -- denormals are kept: an l, then a product and a difference
+    ∷ fills edge (0x4000000000000000 ∷ 0x3ff0000000000000 ∷ []) (0x3 ∷ []) (finished 0x3ff0000000000000 0x4000000000000000 2 (0x4000000000000000 ∷ 0x3ff0000000000000 ∷ []) (0x2 ∷ []))
+    ∷ fills edge (0x3ff0000000000000 ∷ 0x10000000000000 ∷ []) (0x1ed0000000000000 ∷ []) (finished 0xfffffffffc000 0x3ff0000000000000 2 (0x3ff0000000000000 ∷ 0xfffffffffc000 ∷ []) (0x1ed0000000000000 ∷ []))
     -- no pivots: 0, −0, an infinity, no number, −1, at the first column and at the last
     ∷ fills edge (0x0 ∷ 0x3ff0000000000000 ∷ []) (0x3ff0000000000000 ∷ []) (stopped 31 (0x0 ∷ 0x3ff0000000000000 ∷ []) (0x3ff0000000000000 ∷ []))
     ∷ fills edge (0x8000000000000000 ∷ 0x3ff0000000000000 ∷ []) (0x3ff0000000000000 ∷ []) (stopped 31 (0x8000000000000000 ∷ 0x3ff0000000000000 ∷ []) (0x3ff0000000000000 ∷ []))
@@ -128,6 +143,9 @@ factorings =
     -- pivots: the smallest number above zero, and the greatest
     ∷ fills edge (0x1 ∷ 0x3ff0000000000000 ∷ []) (0x0 ∷ []) (finished 0x1 0x3ff0000000000000 2 (0x1 ∷ 0x3ff0000000000000 ∷ []) (0x0 ∷ []))
     ∷ fills singles (0x7fefffffffffffff ∷ 0x1 ∷ []) [] (finished 0x1 0x7fefffffffffffff 0 (0x7fefffffffffffff ∷ 0x1 ∷ []) [])
+    -- a report of nothing but the smallest number above zero, and of nothing but the greatest
+    ∷ fills singles (0x1 ∷ 0x1 ∷ []) [] (finished 0x1 0x1 0 (0x1 ∷ 0x1 ∷ []) [])
+    ∷ fills singles (0x7fefffffffffffff ∷ 0x7fefffffffffffff ∷ []) [] (finished 0x7fefffffffffffff 0x7fefffffffffffff 0 (0x7fefffffffffffff ∷ 0x7fefffffffffffff ∷ []) [])
     -- one pivot is the smallest and the largest
     ∷ fills single (0x4008000000000000 ∷ []) [] (finished 0x4008000000000000 0x4008000000000000 0 (0x4008000000000000 ∷ []) [])
     -- numbers in slots that are refused only where they make a pivot bad; overflow and underflow on the way; −0 is kept
@@ -147,12 +165,24 @@ factorings =
     ∷ fills (contents 2 0 0 0 [] [] [] [] []) (0x3ff0000000000000 ∷ []) [] (stopped 13 (0x3ff0000000000000 ∷ []) [])
     ∷ fills (contents 2 2 1 1 (0 ∷ []) (2 ∷ []) (65535 ∷ []) (0 ∷ 1 ∷ 1 ∷ []) (1 ∷ [])) (0x3ff0000000000000 ∷ []) [] (stopped 13 (0x3ff0000000000000 ∷ []) [])
     ∷ fills (contents 1 2 1 1 (0 ∷ 1 ∷ []) (2 ∷ []) (65535 ∷ []) (0 ∷ 1 ∷ 1 ∷ []) []) (0x0 ∷ 0x3ff0000000000000 ∷ []) (0x3ff0000000000000 ∷ []) (stopped 13 (0x0 ∷ 0x3ff0000000000000 ∷ []) (0x3ff0000000000000 ∷ []))
+    -- 13 where one slice alone is at fault: order, sizes, parents or column starts shorter than the count
+    ∷ fills (contents 1 2 1 1 (0 ∷ []) (2 ∷ []) (65535 ∷ []) (0 ∷ 1 ∷ 1 ∷ []) (1 ∷ [])) (0x3ff0000000000000 ∷ 0x3ff0000000000000 ∷ []) (0x3ff0000000000000 ∷ []) (stopped 13 (0x3ff0000000000000 ∷ 0x3ff0000000000000 ∷ []) (0x3ff0000000000000 ∷ []))
+    ∷ fills (contents 1 2 1 1 (0 ∷ 1 ∷ []) [] (65535 ∷ []) (0 ∷ 1 ∷ 1 ∷ []) (1 ∷ [])) (0x3ff0000000000000 ∷ 0x3ff0000000000000 ∷ []) (0x3ff0000000000000 ∷ []) (stopped 13 (0x3ff0000000000000 ∷ 0x3ff0000000000000 ∷ []) (0x3ff0000000000000 ∷ []))
+    ∷ fills (contents 1 2 1 1 (0 ∷ 1 ∷ []) (2 ∷ []) [] (0 ∷ 1 ∷ 1 ∷ []) (1 ∷ [])) (0x3ff0000000000000 ∷ 0x3ff0000000000000 ∷ []) (0x3ff0000000000000 ∷ []) (stopped 13 (0x3ff0000000000000 ∷ 0x3ff0000000000000 ∷ []) (0x3ff0000000000000 ∷ []))
+    ∷ fills (contents 1 2 1 1 (0 ∷ 1 ∷ []) (2 ∷ []) (65535 ∷ []) (0 ∷ 1 ∷ []) (1 ∷ [])) (0x3ff0000000000000 ∷ 0x3ff0000000000000 ∷ []) (0x3ff0000000000000 ∷ []) (stopped 13 (0x3ff0000000000000 ∷ 0x3ff0000000000000 ∷ []) (0x3ff0000000000000 ∷ []))
     -- 15 to 19, each before 29 and 30
     ∷ fills (contents 2 2 1 1 (0 ∷ 0 ∷ []) (2 ∷ []) (65535 ∷ []) (0 ∷ 1 ∷ 1 ∷ []) (1 ∷ [])) (0x3ff0000000000000 ∷ []) [] (stopped 15 (0x3ff0000000000000 ∷ []) [])
     ∷ fills (contents 2 2 1 1 (0 ∷ 1 ∷ []) (1 ∷ []) (65535 ∷ []) (0 ∷ 1 ∷ 1 ∷ []) (1 ∷ [])) (0x3ff0000000000000 ∷ []) [] (stopped 16 (0x3ff0000000000000 ∷ []) [])
     ∷ fills (contents 2 2 1 1 (0 ∷ 1 ∷ []) (2 ∷ []) (65535 ∷ []) (0 ∷ 1 ∷ 1 ∷ []) (0 ∷ [])) (0x3ff0000000000000 ∷ []) [] (stopped 17 (0x3ff0000000000000 ∷ []) [])
     ∷ fills (contents 2 2 2 1 (0 ∷ 1 ∷ []) (1 ∷ 1 ∷ []) (65535 ∷ 65535 ∷ []) (0 ∷ 1 ∷ 1 ∷ []) (1 ∷ [])) (0x3ff0000000000000 ∷ []) [] (stopped 18 (0x3ff0000000000000 ∷ []) [])
     ∷ fills (contents 2 3 1 2 (0 ∷ 1 ∷ 2 ∷ []) (3 ∷ []) (65535 ∷ []) (0 ∷ 2 ∷ 2 ∷ 2 ∷ []) (1 ∷ 2 ∷ [])) (0x3ff0000000000000 ∷ []) [] (stopped 19 (0x3ff0000000000000 ∷ []) [])
+    -- faults of two checks that follow one another, from 28 and 13 to 18 and 19: the earlier check answers
+    ∷ fills (contents 7 2 1 1 (0 ∷ 1 ∷ []) [] (65535 ∷ []) (0 ∷ 1 ∷ 1 ∷ []) (1 ∷ [])) (0x3ff0000000000000 ∷ 0x3ff0000000000000 ∷ []) (0x3ff0000000000000 ∷ []) (stopped 28 (0x3ff0000000000000 ∷ 0x3ff0000000000000 ∷ []) (0x3ff0000000000000 ∷ []))
+    ∷ fills (contents 1 2 1 1 (0 ∷ 0 ∷ []) [] (65535 ∷ []) (0 ∷ 1 ∷ 1 ∷ []) (1 ∷ [])) (0x3ff0000000000000 ∷ 0x3ff0000000000000 ∷ []) (0x3ff0000000000000 ∷ []) (stopped 13 (0x3ff0000000000000 ∷ 0x3ff0000000000000 ∷ []) (0x3ff0000000000000 ∷ []))
+    ∷ fills (contents 1 2 1 1 (0 ∷ 0 ∷ []) (1 ∷ []) (65535 ∷ []) (0 ∷ 1 ∷ 1 ∷ []) (1 ∷ [])) (0x3ff0000000000000 ∷ 0x3ff0000000000000 ∷ []) (0x3ff0000000000000 ∷ []) (stopped 15 (0x3ff0000000000000 ∷ 0x3ff0000000000000 ∷ []) (0x3ff0000000000000 ∷ []))
+    ∷ fills (contents 1 2 1 1 (0 ∷ 1 ∷ []) (1 ∷ []) (65535 ∷ []) (0 ∷ 1 ∷ 1 ∷ []) (0 ∷ [])) (0x3ff0000000000000 ∷ 0x3ff0000000000000 ∷ []) (0x3ff0000000000000 ∷ []) (stopped 16 (0x3ff0000000000000 ∷ 0x3ff0000000000000 ∷ []) (0x3ff0000000000000 ∷ []))
+    ∷ fills (contents 1 3 3 2 (0 ∷ 1 ∷ 2 ∷ []) (1 ∷ 1 ∷ 1 ∷ []) (65535 ∷ 65535 ∷ 65535 ∷ []) (0 ∷ 1 ∷ 2 ∷ 2 ∷ []) (1 ∷ 1 ∷ [])) (0x3ff0000000000000 ∷ 0x3ff0000000000000 ∷ 0x3ff0000000000000 ∷ []) (0x3ff0000000000000 ∷ 0x3ff0000000000000 ∷ []) (stopped 17 (0x3ff0000000000000 ∷ 0x3ff0000000000000 ∷ 0x3ff0000000000000 ∷ []) (0x3ff0000000000000 ∷ 0x3ff0000000000000 ∷ []))
+    ∷ fills (contents 1 3 2 2 (0 ∷ 1 ∷ 2 ∷ []) (2 ∷ 1 ∷ []) (65535 ∷ 65535 ∷ []) (0 ∷ 2 ∷ 2 ∷ 2 ∷ []) (1 ∷ 2 ∷ [])) (0x3ff0000000000000 ∷ 0x3ff0000000000000 ∷ 0x3ff0000000000000 ∷ []) (0x3ff0000000000000 ∷ 0x3ff0000000000000 ∷ []) (stopped 18 (0x3ff0000000000000 ∷ 0x3ff0000000000000 ∷ 0x3ff0000000000000 ∷ []) (0x3ff0000000000000 ∷ 0x3ff0000000000000 ∷ []))
     -- 29: more than one unknown, before 30
     ∷ fills (edgeOf 2) [] [] (stopped 29 [] [])
     ∷ fills (edgeOf 6) (0x0 ∷ 0x3ff0000000000000 ∷ []) (0x3ff0000000000000 ∷ []) (stopped 29 (0x0 ∷ 0x3ff0000000000000 ∷ []) (0x3ff0000000000000 ∷ []))
@@ -162,12 +192,21 @@ factorings =
     ∷ fills edge (0x0 ∷ 0x3ff0000000000000 ∷ 0x3ff0000000000000 ∷ []) (0x3ff0000000000000 ∷ []) (stopped 30 (0x0 ∷ 0x3ff0000000000000 ∷ 0x3ff0000000000000 ∷ []) (0x3ff0000000000000 ∷ []))
     ∷ fills edge (0x0 ∷ 0x3ff0000000000000 ∷ []) [] (stopped 30 (0x0 ∷ 0x3ff0000000000000 ∷ []) [])
     ∷ fills edge (0x0 ∷ 0x3ff0000000000000 ∷ []) (0x3ff0000000000000 ∷ 0x3ff0000000000000 ∷ []) (stopped 30 (0x0 ∷ 0x3ff0000000000000 ∷ []) (0x3ff0000000000000 ∷ 0x3ff0000000000000 ∷ []))
+    -- 30 where both lengths are wrong and their sum is right
+    ∷ fills edge (0x3ff0000000000000 ∷ []) (0x3ff0000000000000 ∷ 0x3ff0000000000000 ∷ []) (stopped 30 (0x3ff0000000000000 ∷ []) (0x3ff0000000000000 ∷ 0x3ff0000000000000 ∷ []))
     -- the place of a pair, in either order
     ∷ stands (path .columnStarts) (path .rows) 4 2 (inSlot 3)
     ∷ stands (path .columnStarts) (path .rows) 2 4 (inSlot 3)
     ∷ stands (path .columnStarts) (path .rows) 3 3 (onDiagonal 3)
     ∷ stands (path .columnStarts) (path .rows) 0 4 noPlace
     ∷ stands (path .columnStarts) (path .rows) 1 3 noPlace
+    -- the number held at a place
+    ∷ holds (onDiagonal 1) (0x3ff0000000000000 ∷ 0x4000000000000000 ∷ 0x4008000000000000 ∷ []) (0x4010000000000000 ∷ 0x4014000000000000 ∷ 0x4018000000000000 ∷ []) (0x4000000000000000 ∷ [])
+    ∷ holds (inSlot 1) (0x3ff0000000000000 ∷ 0x4000000000000000 ∷ 0x4008000000000000 ∷ []) (0x4010000000000000 ∷ 0x4014000000000000 ∷ 0x4018000000000000 ∷ []) (0x4014000000000000 ∷ [])
+    ∷ holds noPlace (0x3ff0000000000000 ∷ 0x4000000000000000 ∷ 0x4008000000000000 ∷ []) (0x4010000000000000 ∷ 0x4014000000000000 ∷ 0x4018000000000000 ∷ []) []
+    -- "in ascending k and within it ascending i"; a column has each pair once, so another order inside it would leave the same bits
+    ∷ paired (2 ∷ 3 ∷ 4 ∷ []) ((2, 2) ∷ (2, 3) ∷ (2, 4) ∷ (3, 3) ∷ (3, 4) ∷ (4, 4) ∷ [])
+    ∷ paired [] []
     -- column 0 with rows 1 and 2 and column 1 without any, which is refused (19), aims at a pair without a slot
     ∷ aims 5 (path .columnStarts) (path .rows) true
     ∷ aims 6 (gaps .columnStarts) (gaps .rows) true
@@ -190,6 +229,12 @@ factorings =
     ∷ touching (path .columnStarts) (path .rows) (onDiagonal 3) 2 true
     ∷ touching (path .columnStarts) (path .rows) (onDiagonal 4) 2 true
     ∷ touching (path .columnStarts) (path .rows) noPlace 2 false
+    -- slot 1 is not position 1; a pair without a slot is no place that a column could touch
+    ∷ touching (path .columnStarts) (path .rows) (inSlot 1) 0 false
+    ∷ touching (path .columnStarts) (path .rows) (onDiagonal 1) 0 true
+    ∷ touching (0 ∷ 2 ∷ 2 ∷ 2 ∷ []) (1 ∷ 2 ∷ []) (onDiagonal 0) 0 false
+    ∷ touching (0 ∷ 2 ∷ 2 ∷ 2 ∷ []) (1 ∷ 2 ∷ []) (inSlot 2) 0 false
+    ∷ touching (0 ∷ 2 ∷ 2 ∷ 2 ∷ []) (1 ∷ 2 ∷ []) noPlace 0 false
     ∷ []
 
 -- every row holds
