@@ -3,9 +3,14 @@ use std::path::{Path, PathBuf};
 use std::process::Command;
 use std::{env, fs};
 
-const SOURCES: [&str; 4] =
-    ["bench/plain_plan.c", "bench/plain_file.c", "bench/plain_text.c", "bindings/rust/plain/src/text.c"];
-const HEADERS: [&str; 2] = ["bench/plain.h", "include/ndplan.h"];
+const SOURCES: [&str; 5] = [
+    "bench/plain_plan.c",
+    "bench/plain_checks.c",
+    "bench/plain_file.c",
+    "bench/plain_text.c",
+    "bindings/rust/plain/src/text.c",
+];
+const HEADERS: [&str; 3] = ["bench/plain.h", "bench/plain_checks.h", "include/ndplan.h"];
 
 fn main() {
     let root = Path::new(&env::var("CARGO_MANIFEST_DIR").unwrap()).join("../../..");
