@@ -30,7 +30,7 @@ pub fn family(number: u32) -> Family {
 }
 
 /// What each number means, from 0 on, in the words of `include/ndplan.h`.
-const TEXTS: [&str; 29] = [
+const TEXTS: [&str; 32] = [
     "accepted",
     "the number of nodes is not 1 to 4096",
     "there is not one start more than nodes, or the starts do not begin at 0, fall, or do not end at the number of neighbour entries",
@@ -60,6 +60,9 @@ const TEXTS: [&str; 29] = [
     "a list is longer than 26 entries",
     "a slot number is not below the number of slots",
     "the number of unknowns for each node is not 1 to 6",
+    "there is more than one unknown for each node",
+    "the diagonal's values are not as many as the nodes, or the values not as many as the slots",
+    "a pivot is not both finite and above zero",
 ];
 
 impl Refusal {
