@@ -1,9 +1,9 @@
-/* A plain C program of the same rules as the proved library, written apart from it; nothing in it is proved. The benchmark compares speed and
- * results with it, the tests of bindings/rust results, and tests/stored makes stored outputs with it. Its functions have the library's interface:
+/* A plain C program of the same rules as the proved libraries, written apart from them; nothing in it is proved. The benchmark compares speed and
+ * results with it, the tests of bindings/rust results, and tests/stored makes stored outputs with it. Its functions have the libraries' interface:
  * each is declared with the type of the function that it stands beside. Its working memory is static, so only one call may run at a time. */
 #ifndef PLAIN_H
 #define PLAIN_H
-#include "ndplan.h"
+#include "ndfactor.h"
 
 /* From libstages.a, for the benchmark alone: the checks of a mesh and the dissection, without the layout. Gives the number of parts, 0 where a
  * check refuses. */
@@ -20,4 +20,5 @@ __typeof__(ndp_rows) plain_rows;
 __typeof__(ndp_pair) plain_pair;
 __typeof__(ndp_matrix_market) plain_matrix_market;
 __typeof__(ndp_family) plain_family;
+__typeof__(ndf_factor) plain_factor;
 #endif

@@ -3,14 +3,15 @@ use std::path::{Path, PathBuf};
 use std::process::Command;
 use std::{env, fs};
 
-const SOURCES: [&str; 5] = [
+const SOURCES: [&str; 6] = [
     "bench/plain_plan.c",
     "bench/plain_checks.c",
     "bench/plain_file.c",
     "bench/plain_text.c",
+    "bench/plain_factor.c",
     "bindings/rust/plain/src/text.c",
 ];
-const HEADERS: [&str; 3] = ["bench/plain.h", "bench/plain_checks.h", "include/ndplan.h"];
+const HEADERS: [&str; 4] = ["bench/plain.h", "bench/plain_checks.h", "include/ndplan.h", "include/ndfactor.h"];
 
 fn main() {
     let root = Path::new(&env::var("CARGO_MANIFEST_DIR").unwrap()).join("../../..");
@@ -29,7 +30,11 @@ fn main() {
 fn compiled(root: &Path, out: &Path, source: &str) -> PathBuf {
     let object = out.join(Path::new(source).with_extension("o").file_name().unwrap());
     let mut command = Command::new(env::var("CC").unwrap_or("cc".into()));
-    command.args(["-c", "-std=c11", "-O2", "-Wall", "-Wextra"]).arg(root.join(source)).arg("-o").arg(&object);
+    command
+        .args(["-c", "-std=c11", "-O2", "-ffp-contract=off", "-Wall", "-Wextra"])
+        .arg(root.join(source))
+        .arg("-o")
+        .arg(&object);
     run(command.arg("-I").arg(root.join("include")).arg("-I").arg(root.join("bench")));
     object
 }
