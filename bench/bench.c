@@ -1,4 +1,4 @@
-/* Runs the proved library and the plain C program on the same meshes and texts, compares all their results, times both, and prints the table of
+/* Runs the proved libraries and the plain C program on the same meshes and texts, compares all their results, times both, and prints the table of
  * docs/PERFORMANCE.md. */
 #define _POSIX_C_SOURCE 199309L
 #include "plain.h"
@@ -20,7 +20,7 @@ enum { QUESTIONS = 16 };
 enum { TURNS = 6, MOST_ROUNDS = 500 };
 static const double SECONDS = 1.2;
 
-/* What one program writes to. */
+/* What one program writes to. The values are lent in exact length; what stands behind them is looked at all the same. */
 typedef struct {
     uint16_t order[NODES + GUARD], positions[NODES + GUARD], sizes[NODES + GUARD], parents[NODES + GUARD];
     uint32_t column_starts[NODES + 1 + GUARD];
@@ -28,6 +28,7 @@ typedef struct {
     uint32_t starts[NODES + 1 + GUARD];
     uint16_t neighbours[ENTRIES + GUARD];
     uint8_t file[FILE_BYTES + GUARD];
+    double diagonal[NODES + GUARD], values[SLOTS + GUARD];
 } Memory;
 
 /* One of the two programs: its functions, its memory and its last replies. */
@@ -40,6 +41,7 @@ typedef struct {
     __typeof__(ndp_rows) *rows;
     __typeof__(ndp_pair) *pair;
     __typeof__(ndp_matrix_market) *matrix_market;
+    __typeof__(ndf_factor) *factor;
     Memory *memory;
     NdpPlan reply, read_reply;
     size_t parts;
@@ -48,15 +50,16 @@ typedef struct {
     NdpRows columns[QUESTIONS];
     NdpPair slots[QUESTIONS];
     NdpMesh mesh_reply;
+    NdfReport factor_reply;
 } Program;
 
 enum { PLAIN, PROVED, PROGRAMS };
 static Memory plain_memory, proved_memory, untouched;
 static Program programs[PROGRAMS] = {
     {.plan = plain_plan, .stage_order = plain_stage_order, .write = plain_write, .read = plain_read, .slot = plain_slot, .rows = plain_rows,
-     .pair = plain_pair, .matrix_market = plain_matrix_market, .memory = &plain_memory},
+     .pair = plain_pair, .matrix_market = plain_matrix_market, .factor = plain_factor, .memory = &plain_memory},
     {.plan = ndp_plan, .stage_order = stage_order, .write = ndp_write, .read = ndp_read, .slot = ndp_slot, .rows = ndp_rows,
-     .pair = ndp_pair, .matrix_market = ndp_matrix_market, .memory = &proved_memory},
+     .pair = ndp_pair, .matrix_market = ndp_matrix_market, .factor = ndf_factor, .memory = &proved_memory},
 };
 
 /* The mesh, the text and the plan at hand, and the positions and slots that the questions ask about. */
@@ -65,6 +68,9 @@ static Text text;
 static NdpPlan plan;
 static uint16_t asked[QUESTIONS][2];
 static size_t asked_slots[QUESTIONS];
+
+/* The values that the plan at hand is filled with before each factoring. */
+static double full_diagonal[NODES], full_values[SLOTS];
 
 /* ---- the operations */
 
@@ -119,15 +125,36 @@ static void read_text(Program *p) {
     p->mesh_reply = p->matrix_market(text.bytes, text.length, m->starts, NODES + 1 + GUARD, m->neighbours, ENTRIES + GUARD);
 }
 
-/* The first four make the plan of a mesh, each as far as its name says; the next five need a plan, and the last a text. */
-enum { CHECK, ORDER, COUNT, PLAN, WRITE, READ, PAIR, COLUMN, SLOT, TEXT, OPERATIONS };
-static void (*const operations[OPERATIONS])(Program *) = {up_to_check, up_to_order, up_to_count, whole_plan, write_file,
-                                                          read_file,   ask_pairs,   ask_columns, ask_slots,  read_text};
+/* Fills the values, which a factoring leaves changed. */
+static void fill_values(Program *p) {
+    memcpy(p->memory->diagonal, full_diagonal, plan.nodes * sizeof *full_diagonal);
+    memcpy(p->memory->values, full_values, plan.slots * sizeof *full_values);
+}
+
+/* With one unknown for each node, since more are refused. */
+static void factor_values(Program *p) {
+    Memory *m = p->memory;
+    p->factor_reply = p->factor(1, plan.nodes, plan.parts, plan.slots, m->order, NODES + GUARD, m->sizes, NODES + GUARD, m->parents, NODES + GUARD,
+                                m->column_starts, NODES + 1 + GUARD, m->rows, SLOTS + GUARD, m->diagonal, plan.nodes, m->values, plan.slots);
+}
+
+/* The first four make the plan of a mesh, each as far as its name says; the next five need a plan, the next a text, and the last a filled plan. */
+enum { CHECK, ORDER, COUNT, PLAN, WRITE, READ, PAIR, COLUMN, SLOT, TEXT, FACTOR, OPERATIONS };
+static void (*const operations[OPERATIONS])(Program *) = {up_to_check, up_to_order, up_to_count, whole_plan, write_file,   read_file,
+                                                          ask_pairs,   ask_columns, ask_slots,   read_text,  factor_values};
 
 /* ---- comparing the results */
 
 static void fill_results(void) {
     for (int p = 0; p < PROGRAMS; p++) memset(programs[p].memory, FILL, offsetof(Memory, file));
+}
+
+static void fill_all_values(void) {
+    size_t from = offsetof(Memory, diagonal);
+    for (int p = 0; p < PROGRAMS; p++) {
+        memset((uint8_t *)programs[p].memory + from, FILL, sizeof(Memory) - from);
+        fill_values(&programs[p]);
+    }
 }
 
 static void run_both(int operation) {
@@ -225,6 +252,36 @@ static int compare_text(uint32_t refusal) {
            same_memory() && holds_mesh(&plain_memory, starts, entries, &mesh);
 }
 
+/* The values of the mesh's Laplacian with 1 more on the diagonal: a node's neighbours and 1, and -1 for each pair of neighbours. */
+static void make_values(void) {
+    const Memory *m = &plain_memory;
+    memset(full_values, 0, plan.slots * sizeof *full_values);
+    for (size_t v = 0; v < mesh.nodes; v++) {
+        full_diagonal[m->positions[v]] = 1.0 + (mesh.starts[v + 1] - mesh.starts[v]);
+        for (uint32_t e = mesh.starts[v]; e < mesh.starts[v + 1]; e++) {
+            size_t a = m->positions[v], b = m->positions[mesh.neighbours[e]];
+            if (a < b) full_values[plain_slot(plan.nodes, m->column_starts, plan.nodes + 1, m->rows, plan.slots, a, b).slot] = -1;
+        }
+    }
+}
+
+/* Whether nothing is written past the values that the plan uses. */
+static int values_end(const Memory *m) {
+    const Memory *u = &untouched;
+    size_t n = plan.nodes, s = plan.slots;
+    return memcmp(m->diagonal + n, u->diagonal + n, sizeof m->diagonal - n * sizeof *m->diagonal) == 0 &&
+           memcmp(m->values + s, u->values + s, sizeof m->values - s * sizeof *m->values) == 0;
+}
+
+/* Factoring of the plan in the memory of both programs: the same bits, the same reports, and as many operations as planned. */
+static int compare_factoring(void) {
+    const NdfReport *plain = &programs[PLAIN].factor_reply, *proved = &programs[PROVED].factor_reply;
+    fill_all_values();
+    run_both(FACTOR);
+    return plain->refusal == 0 && proved->refusal == 0 && plain->smallest == proved->smallest && plain->largest == proved->largest &&
+           plain->operations == plan.multiplications && proved->operations == plan.multiplications && same_memory() && values_end(&plain_memory);
+}
+
 /* ---- timing */
 
 /* A line of the table, of a mesh with its plan, or of a text. The times are in microseconds, for one question in the case of questions. */
@@ -237,12 +294,12 @@ typedef struct {
     int same;
 } Line;
 
-/* First the families, each at all its sizes; then the largest plan; then the other meshes; then the texts, from `first_text` on. The first FOOT_LIKE
- * families have plans like a foot's. */
+/* First the families, each at all its sizes; then the largest plan; then the other meshes; then the texts, from `first_text` on; then the filled
+ * plans, from `first_filled` on. The first FOOT_LIKE families have plans like a foot's. */
 enum { FAMILIES = 6, FOOT_LIKE = 4, SIZES = 5, LARGEST = FAMILIES * SIZES, MOST_LINES = 64 };
 static const char *const family_names[FAMILIES] = {"foot", "plate", "plate, holes", "grid", "path", "binary tree"};
 static Line lines[MOST_LINES];
-static int line_count, first_text;
+static int line_count, first_text, first_filled;
 
 /* The processor time of this program in microseconds. What other programs take on a busy machine does not count. */
 static double now(void) {
@@ -262,6 +319,7 @@ static void measure_clock(void) {
 }
 
 static void time_once(Line *line, int operation, int program) {
+    if (operation == FACTOR) fill_values(&programs[program]);
     double from = now();
     operations[operation](&programs[program]);
     double time = now() - from - clock_cost, *best = &line->best[operation][program];
@@ -389,6 +447,24 @@ static void measure_texts(void) {
     }
 }
 
+/* Plans the mesh at hand, and compares and times its factoring. */
+static void measure_factoring(const char *name) {
+    Line *line = new_line(name);
+    line->same = compare_planning();
+    make_values();
+    line->same = compare_factoring() && line->same;
+    line->plan = plan;
+    time_operations(line, FACTOR, FACTOR);
+}
+
+static void measure_filled_plans(void) {
+    first_filled = line_count;
+    make_foot(&mesh, 900); measure_factoring("foot 900");
+    make_plate(&mesh, 30, 900, 1, 0); measure_factoring("plate 900");
+    make_foot(&mesh, 4096); measure_factoring("foot 4096");
+    make_plate(&mesh, 64, 4096, 1, 0); measure_factoring("plate 4096");
+}
+
 /* ---- the table */
 
 /* The time of an operation by itself: the first ones are timed from the start of planning, so the operation before is taken off. */
@@ -444,11 +520,23 @@ static void print_planning(void) {
 static void print_texts(void) {
     printf("Reading Matrix Market texts, microseconds\n");
     printf("%-19s %-8s %5s %6s %7s %7s %8s %8s %5s\n", "text", "order", "nodes", "pairs", "bytes", "refusal", "plain", "proved", "ratio");
-    for (int l = first_text; l < line_count; l++) {
+    for (int l = first_text; l < first_filled; l++) {
         const Line *line = &lines[l];
         double plain = line->best[TEXT][PLAIN], proved = line->best[TEXT][PROVED];
         printf("%-19s %-8s", line->name, line->text.shuffled ? "shuffled" : "file");
         printf(" %5zu %6zu %7zu %7u", line->text.nodes, line->text.pairs, line->text.bytes, line->text.refusal);
+        printf(" %8.1f %8.1f %5.2f\n", plain, proved, proved / plain);
+    }
+    printf("\n");
+}
+
+static void print_factoring(void) {
+    printf("Factoring, microseconds\n");
+    printf("%-19s %5s %7s %10s %8s %8s %5s\n", "mesh", "nodes", "slots", "operations", "plain", "proved", "ratio");
+    for (int l = first_filled; l < line_count; l++) {
+        const Line *line = &lines[l];
+        double plain = line->best[FACTOR][PLAIN], proved = line->best[FACTOR][PROVED];
+        printf("%-19s %5u %7u %10llu", line->name, line->plan.nodes, line->plan.slots, (unsigned long long)line->plan.multiplications);
         printf(" %8.1f %8.1f %5.2f\n", plain, proved, proved / plain);
     }
     printf("\n");
@@ -537,10 +625,12 @@ int main(void) {
     measure_largest_plan();
     measure_others();
     measure_texts();
+    measure_filled_plans();
     print_block("Stages of planning", stages, CHECK, 4, LARGEST);
     print_planning();
     print_block("File and questions", uses, WRITE, 5, LARGEST + 1);
     print_texts();
+    print_factoring();
     print_growth();
     print_goal("Planning", PLAN, 1.5);
     print_mean_goal("Writing", WRITE, 1.2);
