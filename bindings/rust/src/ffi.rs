@@ -1,4 +1,4 @@
-//! The C interface as `include/ndplan.h` declares it. A slice is a pointer and a length in entries. The pointer of a slice
+//! The C interface as `include/ndplan.h` and `include/ndfactor.h` declare it. A slice is a pointer and a length in entries. The pointer of a slice
 //! of length 0 is not read, so the dangling pointer of an empty Rust slice will do.
 
 #[repr(C)]
@@ -49,6 +49,15 @@ pub struct NdpMesh {
     pub refusal: u32,
     pub nodes: u32,
     pub entries: u32,
+}
+
+#[repr(C)]
+#[derive(Clone, Copy, Debug, PartialEq)]
+pub struct NdfReport {
+    pub refusal: u32,
+    pub smallest: f64,
+    pub largest: f64,
+    pub operations: u64,
 }
 
 /// Values of `NdpSlot::kind`.
@@ -159,4 +168,25 @@ extern "C" {
     ) -> NdpMesh;
 
     pub fn ndp_family(number: u32) -> u32;
+
+    pub fn ndf_factor(
+        unknowns: usize,
+        n: usize,
+        p: usize,
+        s: usize,
+        order: *const u16,
+        order_length: usize,
+        sizes: *const u16,
+        sizes_length: usize,
+        parents: *const u16,
+        parents_length: usize,
+        column_starts: *const u32,
+        column_starts_length: usize,
+        rows: *const u16,
+        rows_length: usize,
+        diagonal: *mut f64,
+        diagonal_length: usize,
+        values: *mut f64,
+        values_length: usize,
+    ) -> NdfReport;
 }

@@ -1,10 +1,11 @@
-//! Nested dissection plans for symmetric meshes: a safe wrapper over the proved planner in `libndplan.a`.
+//! Nested dissection plans for symmetric meshes, and factoring by them: a safe wrapper over the proved planner in
+//! `libndplan.a` and the second library above it, `libndfactor.a`.
 //!
 //! A mesh is lent as neighbour lists. Its plan is an order of the nodes, a tree of parts, and the layout of the factor:
 //! for each column the rows that have a slot. It also carries the number of unknowns for each node, on which nothing else
 //! in it depends. The functions of this module work on the caller's memory and allocate nothing; [`Plan`] owns its memory.
 //! A [`Refusal`] has a number and says what it means. A mesh may also come as a Matrix Market text, which [`OwnedMesh`]
-//! reads.
+//! reads. [`factor`] fills a plan of one unknown for each node.
 //!
 //! ```
 //! use ndplan::{Mesh, OwnedMesh, Pair, PairAnswer, Plan, Refusal};
@@ -26,6 +27,13 @@
 //! let text = b"%%MatrixMarket matrix coordinate pattern symmetric\n5 5 4\n2 1\n3 2\n4 3\n5 4\n";
 //! let mesh = OwnedMesh::read_matrix_market(text)?;
 //! assert_eq!(Plan::of(1, &mesh.lists())?, plan);
+//!
+//! // The matrix with 2 on its diagonal and -1 for each pair of neighbours, by position and by slot. Slot 4 is of nodes 4 and 2,
+//! // which are no neighbours. Both lists become the factors: D, and L without its ones.
+//! let (mut diagonal, mut values) = ([2.0; 5], [-1.0, -1.0, -1.0, -1.0, 0.0]);
+//! let report = plan.factor(&mut diagonal, &mut values)?;
+//! assert_eq!((report.largest, report.operations), (2.0, plan.counts().multiplications));
+//! assert_eq!((diagonal[..4].to_vec(), values[2]), (vec![2.0, 1.5, 2.0, 1.5], -0.5));
 //! # Ok::<(), Refusal>(())
 //! ```
 
@@ -102,7 +110,7 @@ pub struct Counts {
     pub multiplications: u64,
 }
 
-/// A plan to be written. The slices may be longer than the counts say.
+/// A plan to be written or factored by. The slices may be longer than the counts say.
 #[derive(Clone, Copy, Debug)]
 pub struct PlanView<'a> {
     pub nodes: usize,
@@ -133,6 +141,15 @@ pub enum PairAnswer {
     /// The positions are equal.
     Diagonal,
     NoSlot,
+}
+
+/// What factoring tells: the smallest and the largest pivot, and the multiplications and divisions done, which are as many as
+/// [`Counts::multiplications`] says.
+#[derive(Clone, Copy, Debug, PartialEq)]
+pub struct Report {
+    pub smallest: f64,
+    pub largest: f64,
+    pub operations: u64,
 }
 
 /// The two positions of a slot. The row is the later one.
@@ -222,6 +239,48 @@ pub fn write(plan: &PlanView, file: &mut [u8]) -> Result<usize, Refusal> {
     };
     accepted(reply.refusal)?;
     Ok(reply.length as usize)
+}
+
+/// Factors by a plan of one unknown for each node, in the LDLᵀ form, in place. `diagonal` has exactly `plan.nodes` values, by
+/// position, and `values` exactly `plan.slots`, by slot; a slot that stands for no entry of the matrix holds 0. Afterwards
+/// `diagonal` is D and `values` is L, whose diagonal of ones is not written.
+///
+/// Columns go in ascending order. A column's pivot d is its entry of the diagonal, and every l is v / d, v being the value in the
+/// slot. Then for each pair of the column's rows k ≤ i, in ascending k and within it ascending i, l of i times v of k is
+/// subtracted at that pair. Every operation rounds once, to nearest, so the results are the same in every bit, but for the
+/// sign and the payload of a NaN. This needs the rounding mode and the treatment of denormal numbers that a program starts with.
+///
+/// Refuses with 28, 13, 15 to 19 as [`write`] does, with 29 where there is more than one unknown for each node, 30 where a
+/// list of values has another length, and 31 where a pivot is not both finite and above zero. On 31 both lists hold what was
+/// reached before the division by that pivot, which is the first such entry of `diagonal`: the columns before it are
+/// finished, its own values are not divided. On every other refusal they are as found. A NaN or an infinity in a slot is no
+/// refusal by itself.
+pub fn factor(plan: &PlanView, diagonal: &mut [f64], values: &mut [f64]) -> Result<Report, Refusal> {
+    // SAFETY: as in `plan`; the only slices written are `diagonal` and `values`.
+    let reply = unsafe {
+        ffi::ndf_factor(
+            plan.unknowns,
+            plan.nodes,
+            plan.parts,
+            plan.slots,
+            plan.order.as_ptr(),
+            plan.order.len(),
+            plan.sizes.as_ptr(),
+            plan.sizes.len(),
+            plan.parents.as_ptr(),
+            plan.parents.len(),
+            plan.column_starts.as_ptr(),
+            plan.column_starts.len(),
+            plan.rows.as_ptr(),
+            plan.rows.len(),
+            diagonal.as_mut_ptr(),
+            diagonal.len(),
+            values.as_mut_ptr(),
+            values.len(),
+        )
+    };
+    accepted(reply.refusal)?;
+    Ok(Report { smallest: reply.smallest, largest: reply.largest, operations: reply.operations })
 }
 
 /// What the positions a and b have, in either order. Refuses with 1, 22 and 21. It looks at the whole layout each time.

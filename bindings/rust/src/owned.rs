@@ -1,7 +1,7 @@
 //! A mesh and a plan that own their memory.
 
-use crate::{pair, plan, read, read_matrix_market, rows, slot, write};
-use crate::{Buffers, Counts, Layout, Mesh, MeshBuffers, Pair, PairAnswer, PlanView, Refusal};
+use crate::{factor, pair, plan, read, read_matrix_market, rows, slot, write};
+use crate::{Buffers, Counts, Layout, Mesh, MeshBuffers, Pair, PairAnswer, PlanView, Refusal, Report};
 use crate::{MAX_ENTRIES, MAX_NODES, MAX_SLOTS};
 
 /// A mesh with its own memory, each list as long as it is used.
@@ -149,6 +149,13 @@ impl Plan {
         let length = write(&self.view(), &mut file)?;
         file.truncate(length);
         Ok(file)
+    }
+
+    /// Factors by the plan, in place, as [`factor`] does: `diagonal` has a value for each position, `values` one for each slot.
+    /// Refuses with 29, 30 and 31. On 31 both lists hold what was reached before the division by the refused pivot, on 29
+    /// and 30 they are as found.
+    pub fn factor(&self, diagonal: &mut [f64], values: &mut [f64]) -> Result<Report, Refusal> {
+        factor(&self.view(), diagonal, values)
     }
 
     fn layout(&self) -> Layout<'_, '_> {

@@ -3,7 +3,8 @@
 use crate::ffi;
 use std::fmt;
 
-/// A refusal, by its number. Every refusal leaves the lent memory as found.
+/// A refusal, by its number. Every refusal but 31 leaves the lent memory as found; 31 leaves what [`factor`](crate::factor) has
+/// reached.
 #[derive(Clone, Copy, Debug, PartialEq, Eq, Hash)]
 pub struct Refusal(pub u32);
 

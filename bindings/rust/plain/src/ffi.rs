@@ -44,6 +44,14 @@ pub struct NdpMesh {
     pub entries: u32,
 }
 
+#[repr(C)]
+pub struct NdfReport {
+    pub refusal: u32,
+    pub smallest: f64,
+    pub largest: f64,
+    pub operations: u64,
+}
+
 extern "C" {
     pub fn plain_plan(
         unknowns: usize,
@@ -156,6 +164,27 @@ extern "C" {
         neighbours: *mut u16,
         neighbours_length: usize,
     ) -> NdpMesh;
+
+    pub fn plain_factor(
+        unknowns: usize,
+        n: usize,
+        p: usize,
+        s: usize,
+        order: *const u16,
+        order_length: usize,
+        sizes: *const u16,
+        sizes_length: usize,
+        parents: *const u16,
+        parents_length: usize,
+        column_starts: *const u32,
+        column_starts_length: usize,
+        rows: *const u16,
+        rows_length: usize,
+        diagonal: *mut f64,
+        diagonal_length: usize,
+        values: *mut f64,
+        values_length: usize,
+    ) -> NdfReport;
 
     pub fn plain_family(number: u32) -> u32;
 

@@ -1,9 +1,9 @@
-//! The plain C program of `bench/`, a planner, reader of files and texts, writer and answerer of questions that was written
-//! apart from the library, for the tests: each function takes lists and gives lists or the number of a refusal.
+//! The plain C program of `bench/`, a planner, reader of files and texts, writer, answerer of questions and factoring that was
+//! written apart from the libraries, for the tests: each function takes lists and gives lists or the number of a refusal.
 
 mod ffi;
 
-use ffi::{NdpMesh, NdpPair, NdpPlan, NdpRows, NdpSlot, NdpWritten};
+use ffi::{NdfReport, NdpMesh, NdpPair, NdpPlan, NdpRows, NdpSlot, NdpWritten};
 use std::ffi::CStr;
 use std::sync::{Mutex, MutexGuard, PoisonError};
 
@@ -211,6 +211,43 @@ pub fn write(plan: &FileParts, room: usize) -> Result<Vec<u8>, u32> {
     drop(turn);
     file.truncate(length as usize);
     accepted(refusal, file)
+}
+
+/// The smallest and the largest pivot, and the operations done.
+#[derive(Clone, Copy, Debug, PartialEq)]
+pub struct Factored {
+    pub smallest: f64,
+    pub largest: f64,
+    pub operations: u64,
+}
+
+/// Factors in these values, which on refusal 31 hold what was reached.
+pub fn factor(plan: &FileParts, diagonal: &mut [f64], values: &mut [f64]) -> Result<Factored, u32> {
+    let _turn = turn();
+    // SAFETY: as in `plan`.
+    let NdfReport { refusal, smallest, largest, operations } = unsafe {
+        ffi::plain_factor(
+            plan.unknowns,
+            plan.n,
+            plan.p,
+            plan.s,
+            plan.order.as_ptr(),
+            plan.order.len(),
+            plan.sizes.as_ptr(),
+            plan.sizes.len(),
+            plan.parents.as_ptr(),
+            plan.parents.len(),
+            plan.column_starts.as_ptr(),
+            plan.column_starts.len(),
+            plan.rows.as_ptr(),
+            plan.rows.len(),
+            diagonal.as_mut_ptr(),
+            diagonal.len(),
+            values.as_mut_ptr(),
+            values.len(),
+        )
+    };
+    accepted(refusal, Factored { smallest, largest, operations })
 }
 
 /// What a pair of positions has.
