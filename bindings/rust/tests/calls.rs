@@ -236,17 +236,17 @@ pub fn write_expecting(parts: &FileParts, room: usize, expected: &Result<Vec<u8>
     lent.check(parts);
 }
 
-/// What the writer is lent, between guards.
-struct LentPlan {
-    order: Guarded<u16>,
-    sizes: Guarded<u16>,
-    parents: Guarded<u16>,
-    column_starts: Guarded<u32>,
-    rows: Guarded<u16>,
+/// A plan as the writer and the factoring are lent it, between guards.
+pub struct LentPlan {
+    pub order: Guarded<u16>,
+    pub sizes: Guarded<u16>,
+    pub parents: Guarded<u16>,
+    pub column_starts: Guarded<u32>,
+    pub rows: Guarded<u16>,
 }
 
 impl LentPlan {
-    fn of(parts: &FileParts) -> LentPlan {
+    pub fn of(parts: &FileParts) -> LentPlan {
         LentPlan {
             order: Guarded::holding(&parts.order),
             sizes: Guarded::holding(&parts.sizes),
@@ -256,7 +256,7 @@ impl LentPlan {
         }
     }
 
-    fn view(&self, parts: &FileParts) -> PlanView<'_> {
+    pub fn view(&self, parts: &FileParts) -> PlanView<'_> {
         PlanView {
             nodes: parts.n,
             parts: parts.p,
@@ -294,7 +294,7 @@ impl LentPlan {
         }
     }
 
-    fn check(&self, parts: &FileParts) {
+    pub fn check(&self, parts: &FileParts) {
         self.order.check(&parts.order, "lent order");
         self.sizes.check(&parts.sizes, "lent sizes");
         self.parents.check(&parts.parents, "lent parents");

@@ -1,14 +1,16 @@
-//! Compares the library, through the wrapper and through the C interface, with a planner written apart from it,
+//! Compares the libraries, through the wrapper and through the C interface, with a program written apart from them,
 //! the plain C program of `bench/` (the package `plain`), and with the numbers of documents 01 and 02. Every function gets
 //! valid and damaged input, and all lent memory is compared after every call.
 
 mod calls;
 mod cliques;
+mod factor_calls;
 mod files;
 mod guarded;
 mod meshes;
 mod paths;
 mod random;
+mod sentence;
 mod texts;
 
 mod damaged_files;
@@ -16,6 +18,8 @@ mod damaged_layouts;
 mod damaged_meshes;
 mod damaged_texts;
 mod damaged_writings;
+mod factored;
+mod factoring;
 mod families;
 mod large;
 mod large_texts;

@@ -8,6 +8,11 @@ const GUARD: usize = 8;
 /// What stands in memory that nobody wrote. No result of a plan holds these numbers of 16 and 32 bits.
 pub trait Word: Copy + Debug + PartialEq {
     fn pattern(at: usize) -> Self;
+
+    /// Whether two words hold the same.
+    fn same(self, other: Self) -> bool {
+        self == other
+    }
 }
 
 impl Word for u8 {
@@ -25,6 +30,17 @@ impl Word for u16 {
 impl Word for u32 {
     fn pattern(at: usize) -> u32 {
         0xA5A5_0000 + at as u32
+    }
+}
+
+impl Word for f64 {
+    fn pattern(at: usize) -> f64 {
+        f64::from_bits(0x4A5A_5A5A_0000_0000 + at as u64)
+    }
+
+    /// The same bits, or NaN in both: sign and payload of a NaN are not fixed.
+    fn same(self, other: f64) -> bool {
+        self.to_bits() == other.to_bits() || self.is_nan() && other.is_nan()
     }
 }
 
@@ -67,9 +83,9 @@ impl<T: Word> Guarded<T> {
     pub fn check(&self, front: &[T], what: &str) {
         assert!(front.len() <= self.room, "{what}: {} entries expected where {} have room", front.len(), self.room);
         let behind = GUARD + front.len();
-        let untouched = |from: usize, to: usize| (from..to).find(|at| self.memory[*at] != T::pattern(*at));
+        let untouched = |from: usize, to: usize| (from..to).find(|at| !self.memory[*at].same(T::pattern(*at)));
         assert_eq!(untouched(0, GUARD), None, "{what}: a guard word before the slice has changed");
-        let differs = (0..front.len()).find(|at| self.memory[GUARD + at] != front[*at]);
+        let differs = (0..front.len()).find(|at| !self.memory[GUARD + at].same(front[*at]));
         if let Some(at) = differs {
             panic!("{what}: entry {at} is {:?}, expected {:?}", self.memory[GUARD + at], front[at]);
         }
@@ -90,5 +106,15 @@ fn every_word_is_watched() {
         memory.check(&[1, 2], "as found");
         memory.memory[at] ^= 1;
         assert!(std::panic::catch_unwind(|| memory.check(&[1, 2], "changed")).is_err());
+    }
+}
+
+/// Bits count, so that -0.0 is not 0.0, but those of a NaN do not.
+#[test]
+fn floats_are_compared_by_bits() {
+    let nan = f64::from_bits(0xFFF8_0000_0000_0001);
+    let pairs = [(0.0, -0.0, false), (-0.0, -0.0, true), (f64::NAN, nan, true), (nan, 1.0, false), (1.0, nan, false)];
+    for (a, b, same) in pairs {
+        assert_eq!(Word::same(a, b), same, "{a} and {b}");
     }
 }
