@@ -16,7 +16,7 @@ fn length_of(plan: &FileParts) -> usize {
 }
 
 /// One entry of one slice, changed.
-fn change_an_entry(plan: &mut FileParts, random: &mut Random) {
+pub fn change_an_entry(plan: &mut FileParts, random: &mut Random) {
     let (n, p, s) = (plan.n, plan.p, plan.s as u32);
     let list = match random.below(5) {
         0 => &mut plan.order,
@@ -36,7 +36,7 @@ fn change_an_entry(plan: &mut FileParts, random: &mut Random) {
 }
 
 /// Slices longer than their counts, with numbers behind that would be refused.
-fn lengthen(plan: &mut FileParts, random: &mut Random) {
+pub fn lengthen(plan: &mut FileParts, random: &mut Random) {
     for list in [&mut plan.order, &mut plan.sizes, &mut plan.parents, &mut plan.rows] {
         list.extend((0..random.below(4)).map(|_| 65000));
     }
@@ -44,7 +44,7 @@ fn lengthen(plan: &mut FileParts, random: &mut Random) {
 }
 
 /// A slice shorter than its count.
-fn shorten(plan: &mut FileParts, random: &mut Random) {
+pub fn shorten(plan: &mut FileParts, random: &mut Random) {
     let list = match random.below(5) {
         0 => &mut plan.order,
         1 => &mut plan.sizes,

@@ -1,8 +1,9 @@
 //! Factoring of generated plans and values: compared with plain C and with the sentence itself, bit for bit, and on sound
 //! matrices multiplied out again.
 
-use crate::calls::ample_room;
+use crate::calls::{ample_room, NO_UNKNOWNS};
 use crate::damaged_files::small_plans;
+use crate::damaged_writings::{change_an_entry, lengthen, shorten};
 use crate::factor_calls::{factor, factor_expecting, Factoring};
 use crate::factoring::NO_PIVOTS;
 use crate::files::parts_of;
@@ -156,6 +157,37 @@ fn refused_at_each_column() {
             }
         }
     }
+}
+
+/// Damaged plans are refused as the writer refuses them, with nothing written; 29 and 30 come behind.
+#[test]
+fn damaged_plans() {
+    let (mut random, mut met) = (Random(54), BTreeSet::new());
+    for plan in plans(60, 14, &mut random) {
+        for _ in 0..200 {
+            let mut changed = plan.clone();
+            (0..random.below(4)).for_each(|_| change_an_entry(&mut changed, &mut random));
+            match random.below(4) {
+                0 => lengthen(&mut changed, &mut random),
+                1 => shorten(&mut changed, &mut random),
+                _ => (),
+            }
+            changed.unknowns = random.pick(&[1, 1, 1, 2, 6, NO_UNKNOWNS[0], NO_UNKNOWNS[5]]);
+            let length = |needed: usize| [needed, needed, needed, needed + 1, needed / 2];
+            let diagonal = vec![2.5; random.pick(&length(plan.n))];
+            let values = vec![0.25; random.pick(&length(plan.s))];
+            let fits = (diagonal.len(), values.len()) == (plan.n, plan.s);
+            match (plain::write(&changed, 10_000), changed.unknowns, fits) {
+                (Ok(_), 1, true) => met.insert(factor(&changed, &diagonal, &values).answer.err().unwrap_or(0)),
+                (written, unknowns, _) => {
+                    let number = written.err().unwrap_or(if unknowns > 1 { 29 } else { 30 });
+                    factor_expecting(&changed, &diagonal, &values, &Factoring::refused(number, &diagonal, &values));
+                    met.insert(number)
+                }
+            };
+        }
+    }
+    assert!(met.is_superset(&BTreeSet::from([0, 13, 15, 16, 17, 18, 19, 28, 29, 30])), "{met:?}");
 }
 
 /// A plan's mesh, of one unknown for each node, with a matrix: a weight for each edge, and on the diagonal the weights of a
