@@ -8,7 +8,7 @@ use lib.Ieee.{Float, binary64, ofBits}
 use Rattle.plan.specs.Planning.{Contents, contents}
 use Rattle.plan.specs.Filling.{Filling, Place, onDiagonal, inSlot, noPlace, placeOf, heldAt}
 use Rattle.plan.specs.Factoring.{pairs, FactorOutcome, factoring}
-use Rattle.plan.specs.FactorStatements.{aimsAtPlaces, columnsDone, touches}
+use Rattle.plan.specs.FactorStatements.{aimsAtPlaces, columnsDone, afterColumns, touches}
 use Rattle.plan.specs.Everything.{everything}
 
 -- ---- the kinds of rows
@@ -46,6 +46,8 @@ pub data FactorRow : Type 0 where
   aims : (n : ℕ) → (columnStarts rows : List ℕ) → (expected : Bool) → FactorRow
   -- a plan, both buffers, and how many columns are worked before a pivot is refused
   works : (c : Contents) → (diagonal values : List ℕ) → (expected : ℕ) → FactorRow
+  -- a plan, both buffers, a column and a number of columns from there on, and what both buffers hold after them
+  reaches : (c : Contents) → (diagonal values : List ℕ) → (j m : ℕ) → (expected : Filling) → FactorRow
   -- column starts and rows, a place and a column, and whether the column touches the place
   touching : (columnStarts rows : List ℕ) → (at : Place) → (j : ℕ) → (expected : Bool) → FactorRow
 
@@ -57,6 +59,7 @@ pub data Found : Type 0 where
   slotPairs : List (ℕ × ℕ) → Found
   truth : Bool → Found
   number : ℕ → Found
+  both : Filling → Found
 
 abbrev pub computed : FactorRow → Found
 computed (fills c diagonal values expected) = outcome (factoring c (filled diagonal values))
@@ -65,6 +68,7 @@ computed (holds at diagonal values expected) = held (heldAt at (filled diagonal 
 computed (paired slots expected) = slotPairs (pairs slots)
 computed (aims n columnStarts rows expected) = truth (aimsAtPlaces n columnStarts rows)
 computed (works c diagonal values expected) = number (columnsDone (c .columnStarts) (c .rows) 0 (c .nodes) (filled diagonal values))
+computed (reaches c diagonal values j m expected) = both (afterColumns (c .columnStarts) (c .rows) j m (filled diagonal values))
 computed (touching columnStarts rows at j expected) = truth (touches columnStarts rows at j)
 
 abbrev pub told : FactorRow → Found
@@ -74,6 +78,7 @@ told (holds at diagonal values expected) = held (map (ofBits binary64) expected)
 told (paired slots expected) = slotPairs expected
 told (aims n columnStarts rows expected) = truth expected
 told (works c diagonal values expected) = number expected
+told (reaches c diagonal values j m expected) = both expected
 told (touching columnStarts rows at j expected) = truth expected
 
 -- ---- the plans
@@ -220,6 +225,10 @@ factorings =
     ∷ works edge (0x3ff0000000000000 ∷ 0x3ff0000000000000 ∷ []) (0x3ff0000000000000 ∷ []) 1
     ∷ works edge (0x0 ∷ 0x4000000000000000 ∷ []) (0x3ff0000000000000 ∷ []) 0
     ∷ works singles (0x0 ∷ 0x4000000000000000 ∷ []) [] 0
+    -- none, the first column, and the third alone
+    ∷ reaches path (0x4010000000000000 ∷ 0x3fd0000000000000 ∷ 0x4010000000000000 ∷ 0x4010000000000000 ∷ 0x4010000000000000 ∷ []) (0x3ff0000000000000 ∷ 0x4000000000000000 ∷ 0x4008000000000000 ∷ 0x4014000000000000 ∷ 0x401c000000000000 ∷ []) 0 0 (filled (0x4010000000000000 ∷ 0x3fd0000000000000 ∷ 0x4010000000000000 ∷ 0x4010000000000000 ∷ 0x4010000000000000 ∷ []) (0x3ff0000000000000 ∷ 0x4000000000000000 ∷ 0x4008000000000000 ∷ 0x4014000000000000 ∷ 0x401c000000000000 ∷ []))
+    ∷ reaches path (0x4010000000000000 ∷ 0x3fd0000000000000 ∷ 0x4010000000000000 ∷ 0x4010000000000000 ∷ 0x4010000000000000 ∷ []) (0x3ff0000000000000 ∷ 0x4000000000000000 ∷ 0x4008000000000000 ∷ 0x4014000000000000 ∷ 0x401c000000000000 ∷ []) 0 1 (filled (0x4010000000000000 ∷ 0x0 ∷ 0x4010000000000000 ∷ 0x4010000000000000 ∷ 0x4010000000000000 ∷ []) (0x3fd0000000000000 ∷ 0x4000000000000000 ∷ 0x4008000000000000 ∷ 0x4014000000000000 ∷ 0x401c000000000000 ∷ []))
+    ∷ reaches path (0x4010000000000000 ∷ 0x3fd0000000000000 ∷ 0x4010000000000000 ∷ 0x4010000000000000 ∷ 0x4010000000000000 ∷ []) (0x3ff0000000000000 ∷ 0x4000000000000000 ∷ 0x4008000000000000 ∷ 0x4014000000000000 ∷ 0x401c000000000000 ∷ []) 2 1 (filled (0x4010000000000000 ∷ 0x3fd0000000000000 ∷ 0x4010000000000000 ∷ 0x3ffc000000000000 ∷ 0xc002000000000000 ∷ []) (0x3ff0000000000000 ∷ 0x4000000000000000 ∷ 0x3fe8000000000000 ∷ 0x3ff4000000000000 ∷ 0x400a000000000000 ∷ []))
     -- column 2 of mesh 4 divides in slots 2 and 3, and subtracts at 3, 4 and slot 4
     ∷ touching (path .columnStarts) (path .rows) (inSlot 1) 2 false
     ∷ touching (path .columnStarts) (path .rows) (inSlot 2) 2 true

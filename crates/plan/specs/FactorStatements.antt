@@ -2,6 +2,7 @@
 -- stays.
 use mathlib.Core.Bool.{Bool, true, false, cond, _||_}
 use mathlib.Core.Path.{_≡_}
+use mathlib.Core.Logic.{_≢_}
 use mathlib.Core.List.{List, [], _∷_}
 use Prim.Native.Nat.{ℕ, zero, suc, _<_}
 use lib.ListN.{getD}
@@ -15,7 +16,7 @@ use Rattle.plan.specs.Writing.{used, suppliedChecks}
 use Rattle.plan.specs.Answers.{accepted, slotCase, diagonalCase, noSlotCase}
 use Rattle.plan.specs.Questions.{pairFound}
 use Rattle.plan.specs.Filling.{Filling, Place, onDiagonal, inSlot, noPlace, isPlace, samePlace, placeOf, slotsOf, heldAt}
-use Rattle.plan.specs.Factoring.{pairs, pairPlace, factorColumn, factoring}
+use Rattle.plan.specs.Factoring.{pairs, pairPlace, factorColumn, zeroReport, factorChecks, factoring}
 
 -- what the first question of document 01 answers for a place
 abbrev pub placeValues : Place → List ℕ
@@ -53,7 +54,7 @@ pub record Extremes (diagonal : List Float) (n : ℕ) (smallest largest : Float)
   pub is-smallest : (a : ℕ) × (a < n) × (smallest ≡ getD diagonal a nan)
   pub is-largest : (b : ℕ) × (b < n) × (largest ≡ getD diagonal b nan)
 
--- "a report of the smallest and the largest pivot": the pivots of a finished plan stand on its diagonal.
+-- "a report of the smallest and the largest pivot": of the numbers on the diagonal of a finished plan, which are its pivots (`PivotsStand`).
 abbrev pub ReportsExtremes : Type 0
 ReportsExtremes =
     (c : Contents) (f : Filling)
@@ -68,13 +69,53 @@ columnsDone columnStarts rows j (suc left) f =
     let later : ℕ = columnsDone columnStarts rows (suc j) left (factorColumn columnStarts rows j d f) in
     cond (positive d) (suc later) 0
 
+-- both buffers after so many columns, from j on
+unfoldable pub afterColumns : List ℕ → List ℕ → ℕ → ℕ → Filling → Filling
+afterColumns columnStarts rows j zero f = f
+afterColumns columnStarts rows j (suc m) f =
+    afterColumns columnStarts rows (suc j) m (factorColumn columnStarts rows j (getD (f .diagonal) j nan) f)
+
+-- Where no check before the first column finds a fault, both buffers are those after the worked columns; "on a refused pivot the value buffers hold
+-- what the definition has reached before dividing by it".
+abbrev pub HoldsReached : Type 0
+HoldsReached =
+    (c : Contents) (f : Filling)
+    → firstFault (factorChecks c f) ≡ 0
+    → factoring c f .filling ≡ afterColumns (used c .columnStarts) (used c .rows) 0 (columnsDone (used c .columnStarts) (used c .rows) 0 (c .nodes) f) f
+
+-- "a pivot that is not both finite and above zero": 31 is answered where not all columns are worked, and then the next one's is such.
+abbrev pub StopsAtPivot : Type 0
+StopsAtPivot =
+    (c : Contents) (f : Filling)
+    → factoring c f .answer .refusal ≡ 31 →
+    let m : ℕ = columnsDone (used c .columnStarts) (used c .rows) 0 (c .nodes) f in
+    (m < c .nodes) × (positive (getD (factoring c f .filling .diagonal) m nan) ≡ false)
+
+-- "On every refusal the report is all zeros"
+abbrev pub RefusalReportsNothing : Type 0
+RefusalReportsNothing = (c : Contents) (f : Filling) → factoring c f .answer .refusal ≢ 0 → factoring c f .answer .report ≡ zeroReport
+
+-- 31 is "the one departure from document 01's rule on refusals": any other leaves both buffers as found.
+abbrev pub RefusalLeavesBoth : Type 0
+RefusalLeavesBoth =
+    (c : Contents) (f : Filling)
+    → factoring c f .answer .refusal ≢ 0 → factoring c f .answer .refusal ≢ 31
+    → factoring c f .filling ≡ f
+
 -- whether column j divides at a place, or one of its pairs stands there
 unfoldable pub touches : List ℕ → List ℕ → Place → ℕ → Bool
 touches columnStarts rows at j =
     exists (λ s. samePlace at (inSlot s)) (slotsOf columnStarts j)
     || exists (λ p. samePlace at (pairPlace columnStarts rows p)) (pairs (slotsOf columnStarts j))
 
--- What none of these columns touches stays, whatever is answered.
+-- The number by which a column of a finished plan is divided, the one that its position has on the diagonal after the columns before, is there at the end.
+abbrev pub PivotsStand : Type 0
+PivotsStand =
+    (c : Contents) (f : Filling) (j : ℕ)
+    → factoring c f .answer .refusal ≡ 0 → j < c .nodes
+    → getD (factoring c f .filling .diagonal) j nan ≡ getD (afterColumns (used c .columnStarts) (used c .rows) 0 j f .diagonal) j nan
+
+-- What none of the worked columns touches stays; where a check before the first column finds a fault, that is said of columns that would be worked.
 abbrev pub UntouchedStays : Type 0
 UntouchedStays =
     (c : Contents) (f : Filling) (at : Place)

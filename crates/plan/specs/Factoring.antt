@@ -1,4 +1,5 @@
--- Document 02, E8: factoring in a plan's slots, "with the LDLᵀ form of document 002, in 64-bit floats". An operation of `lib.Ieee` on floats "rounds once".
+-- Document 02, E8: factoring in a plan's slots, "with the LDLᵀ form of document 002, in 64-bit floats". An operation of `lib.Ieee` on floats "rounds once",
+-- to the nearest, ties to even, and keeps denormal numbers. `getD .. nan` reads a buffer; in a plan that passes the checks no place is outside of it.
 use mathlib.Core.Bool.{Bool, false, not, cond, _||_}
 use mathlib.Core.Path.{_≡_}
 use mathlib.Core.List.{List, [], _∷_, _++_, map}
@@ -21,7 +22,8 @@ unfoldable pub divided : List ℕ → Float → List Float → List Float
 divided [] d v = v
 divided (s ∷ slots) d v = divided slots d (set v s (div binary64 (getD v s nan) d))
 
--- "for each pair of rows k ≤ i in that column, in ascending k and within it ascending i": the slots of k and of i
+-- "for each pair of rows k ≤ i in that column, in ascending k and within it ascending i": the slots of k and of i, which
+-- ascend with their rows (17)
 unfoldable pub pairs : List ℕ → List (ℕ × ℕ)
 pairs [] = []
 pairs (k ∷ slots) = map (λ i. (k, i)) (k ∷ slots) ++ pairs slots

@@ -26,6 +26,7 @@ isPlace (onDiagonal i) = true
 isPlace (inSlot s) = true
 isPlace noPlace = false
 
+-- whether two pairs have the same place; a pair without one shares none
 abbrev pub samePlace : Place → Place → Bool
 samePlace (onDiagonal i) (onDiagonal k) = eqb i k
 samePlace (onDiagonal i) (inSlot t) = false
@@ -45,11 +46,11 @@ placeBelow columnStarts rows i k =
 unfoldable pub placeOf : List ℕ → List ℕ → ℕ → ℕ → Place
 placeOf columnStarts rows a b = cond (eqb a b) (onDiagonal a) (placeBelow columnStarts rows (max a b) (min a b))
 
--- the slots of column j, one for each of its rows, ascending
+-- the slots of column j, ascending, one for each of its rows where the starts do not fall (17)
 unfoldable pub slotsOf : List ℕ → ℕ → List ℕ
 slotsOf columnStarts j = upFrom (getD columnStarts j 0) (getD columnStarts (j + 1) 0 - getD columnStarts j 0)
 
--- the number held at a place, none where there is no slot
+-- the number held at a place of the buffers, none where there is no slot
 unfoldable pub heldAt : Place → Filling → List Float
 heldAt (onDiagonal i) f = getD (f .diagonal) i nan ∷ []
 heldAt (inSlot s) f = getD (f .values) s nan ∷ []

@@ -67,3 +67,4 @@ pub mod FactorPlaces
 pub mod Factoring
 pub mod FactorHeld
 pub mod FactorReport
+pub mod FactorReached

@@ -1,14 +1,15 @@
 -- The first fault of a list of checks: 0 where no check finds one.
 use mathlib.Core.Path.{_≡_, refl, ap}
-use mathlib.Core.Bool.{Bool, true, false, cond}
+use mathlib.Core.Logic.{_≢_}
+use mathlib.Core.Bool.{Bool, true, false, not, cond}
 use mathlib.Core.List.{[], _∷_, _++_}
 use Prim.Native.Nat.{ℕ, _<_}
 use native.Mathlib.Omega.{arith}
-use lib.Dec.{ltb}
+use lib.Dec.{ltb, eqb}
 use borrow.Author.Tests.{ltb-true}
 use Rattle.plan.specs.Lists.{every}
 use Rattle.plan.specs.Refusals.{Checks, firstFault}
-use Rattle.theory.proofs.Bools.{and-left, and-right}
+use Rattle.theory.proofs.Bools.{and-left, and-right, not-eqb}
 
 -- of no checks there is none
 pub first-nil : firstFault [] ≡ 0
@@ -77,3 +78,13 @@ fault-below b (c ∷ cs) pos h = go (c .1) (fault-below b cs pos (and-right (ltb
     go : (t : Bool) → firstFault cs < b → cond t (c .0) (firstFault cs) < b
     go true later = ltb-true (c .0) b (and-left (ltb (c .0) b) _ h)
     go false later = later
+
+-- a number above 0 that no check has is not the first fault
+pub no-such : (cs : Checks) (k : ℕ) → 0 < k → every (λ (c : ℕ × Bool). not (eqb (c .0) k)) cs ≡ true → firstFault cs ≢ k
+unfolding firstFault
+no-such [] k some h e = absurd (omega (arith, e))
+no-such (c ∷ cs) k some h e = go (c .1) e (no-such cs k some (and-right (not (eqb (c .0) k)) _ h))
+  where
+    go : (b : Bool) → cond b (c .0) (firstFault cs) ≡ k → firstFault cs ≢ k → ⊥
+    go true e rest = not-eqb (c .0) k (and-left (not (eqb (c .0) k)) _ h) e
+    go false e rest = rest e
