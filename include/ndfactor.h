@@ -20,7 +20,7 @@
  * floating-point control the caller sees to two things, with which every program starts: the rounding mode is to nearest, and neither "flush to
  * zero" nor "denormals are zero" is set (a library that was built with -ffast-math may set them). Otherwise the bits may be others; nothing else is
  * harmed. Beyond that the function takes every number and every content, and ends. Nothing is allocated and there is no static state: threads may
- * call at once, each with values of its own. It needs less than 80 KB of stack.
+ * call at once, each with values of its own. It needs less than 112 KB of stack.
  *
  * REFUSALS. A reply has the number of the first check that fails, or 0; ndp_refusal_text says what each number means. The checks are 28, 13 and 15 to
  * 19 of the plan, made as ndp_write makes them, then 29, 30, and 31 when a column's pivot is reached. On every refusal the reply's other fields are
