@@ -636,5 +636,6 @@ int main(void) {
     print_mean_goal("Writing", WRITE, 1.2);
     print_mean_goal("Reading", READ, 1.2);
     print_goal("Reading texts", TEXT, 2.0);
+    print_goal("Factoring", FACTOR, 1.0);
     return print_differences() ? 1 : 0;
 }
