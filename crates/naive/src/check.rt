@@ -101,8 +101,8 @@ pub(crate) fn mesh(n: usize, starts: &[u32], neighbours: &[u16]) -> u32 {
     0
 }
 
-// The nodes of v's list.
-fn list(starts: &[u32], neighbours: &[u16], v: usize) -> u64 {
+// The nodes of v's list, or the rows of column v.
+pub(crate) fn list(starts: &[u32], neighbours: &[u16], v: usize) -> u64 {
     let mut s = 0u64;
     for e in start(starts, v)..end(starts, v) {
         s = s | only(entry(neighbours, e));

@@ -329,8 +329,8 @@ pub fn encode(
     }
 }
 
-// The first of 28, 13 and 15 to 19 that fails in what the writer is lent, or 0.
-fn lent_refusal(
+// The first of 28, 13 and 15 to 19 that fails in what the writer, or the factorization, is lent, or 0.
+pub(crate) fn lent_refusal(
     unknowns: usize,
     n: usize,
     p: usize,

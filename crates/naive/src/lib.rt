@@ -1,12 +1,13 @@
-// A second planner, a second reader and writer of plan files, a second reader of Matrix Market texts, answers to questions, and the rule for uncut
-// parts, written from documents 01 and 02 and the readings in docs/DECISIONS.md, without the book or the proved code: dense, literal and small, for
-// meshes of at most 64 nodes or texts of at most 2,200 pairs. Test programs compare the proved code with it. Proved safe; what it answers is tested,
-// and not proved.
+// A second planner, a second reader and writer of plan files, a second reader of Matrix Market texts, a second factorization, answers to questions,
+// and the rule for uncut parts, written from documents 01 and 02 and the readings in docs/DECISIONS.md, without the book or the proved code: dense,
+// literal and small, for meshes of at most 64 nodes or texts of at most 2,200 pairs. Test programs compare the proved code with it. Proved safe; what
+// it answers is tested, and not proved.
 // Cost: every function is polynomial in 64, in 2,200 and in the lengths of what it is lent.
 mod check;
 mod cliques;
 mod contents;
 mod elimination;
+mod factoring;
 mod file;
 mod head;
 mod lists;
@@ -18,6 +19,8 @@ mod words;
 
 use crate::elimination::eliminate;
 pub use cliques::uncut_cliques;
+pub use factoring::NaiveFactor;
+pub use factoring::factor;
 pub use file::LONGEST;
 pub use file::NaiveFile;
 pub use file::encode;
@@ -33,7 +36,7 @@ pub use questions::slot_of_pair;
 pub use text::NaiveMesh;
 pub use text::read_text;
 
-// The answer of reading or writing where a plan has more nodes, or a text more pairs, than this code takes.
+// The answer of reading, writing or factoring where a plan has more nodes, or a text more pairs, than this code takes.
 pub const TOO_LARGE: u32 = 65535;
 
 // What planning and reading hand out. `refusal` is 0 where there is a plan; otherwise everything else is 0.
