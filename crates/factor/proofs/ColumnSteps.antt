@@ -20,7 +20,7 @@ use Rattle.theory.proofs.Lists.{indexOf-lt}
 use Rattle.theory.proofs.Ascending.{ascending-tail, falls-getD}
 use Rattle.theory.proofs.ColumnRule.{column-few}
 use Rattle.theory.proofs.FactorPlaces.{kept, column-long, slot-row, slot-inside, slot-after, slot-later, pair-same, pair-held, pair-slot}
-use Rattle.factor.specs.Down.{slotIn, lessDown, Keeps, Beside, Placed, continued}
+use Rattle.factor.specs.Down.{slotIn, lessDown, Keeps, Beside, Placed, continued, above32}
 use Rattle.factor.specs.Working.{AtRow, Advanced, Twins, Ready, Worked}
 use Rattle.factor.proofs.Running.{Held, held-equal, segment-first, upFrom-first, beside-long}
 
@@ -75,7 +75,7 @@ row-beside starts rows n room keeps lower first s to a =
 
 -- the row in slot s, and the first rows of its column
 pub row-inside : (starts rows : List ℕ) (n room kept lower first s to : ℕ) → AtRow starts rows n room kept lower first s to
-    → (s < length rows) × (length rows < 4294967296) × (getD rows s 0 < n) × (getD rows s 0 + 1 < length starts) × (to ≤ length rows)
+    → (s < length rows) × (length rows < above32) × (getD rows s 0 < n) × (getD rows s 0 + 1 < length starts) × (to ≤ length rows)
     × (getD starts (getD rows s 0) 0 + (to - (s + 1)) ≤ length rows)
 row-inside starts rows n room keeps lower first s to a =
     let h : Covering n starts rows = a .plan in

@@ -23,6 +23,10 @@ lessDown starts rows l k x (t ∷ ts) values =
 abbrev pub Keeps : List Float → List Float → ℕ → ℕ → Type 0
 Keeps kept values first to = (s : ℕ) → first ≤ s → s < to → getD kept (s - first) nan ≡ getD values s nan
 
+-- the first number that 32 bits do not hold, in which a slot is noted
+abbrev pub above32 : ℕ
+above32 = 4294967296
+
 -- column k holds the rows in the slots from .. to of a column that begins at `first`; both are ascending
 pub record Beside (starts rows : List ℕ) (k first from to room kept : ℕ) : Type 0 where
   pub begin : first ≤ from
@@ -33,7 +37,7 @@ pub record Beside (starts rows : List ℕ) (k first from to room kept : ℕ) : T
   pub rising : getD starts k 0 ≤ getD starts (k + 1) 0
   pub inside : getD starts (k + 1) 0 ≤ length rows
   pub filled : length rows ≡ room
-  pub few : length rows < 4294967296
+  pub few : length rows < above32
   pub upper : ascending (segment rows from to) ≡ true
   pub lower : ascending (listAt starts rows k) ≡ true
   pub held : every (λ i. isIn i (listAt starts rows k)) (segment rows from to) ≡ true

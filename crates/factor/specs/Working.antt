@@ -9,7 +9,7 @@ use Rattle.plan.specs.Lists.{upFrom}
 use Rattle.plan.specs.Mesh.{maxNodes}
 use Rattle.plan.specs.Factoring.{pairs, subtracted, factorColumn, FactorOutcome}
 use Rattle.theory.specs.Covering.{Covering}
-use Rattle.factor.specs.Down.{Keeps}
+use Rattle.factor.specs.Down.{Keeps, above32}
 
 -- ---- a row, and rows one after the other
 
@@ -23,7 +23,7 @@ pub record AtRow (starts rows : List ℕ) (n room kept lower first s to : ℕ) :
   pub low : first ≤ s
   pub high : s < to
   pub slots : length rows ≡ room
-  pub few : length rows < 4294967296
+  pub few : length rows < above32
   pub roomKept : to - first ≤ kept
   pub roomLower : to - first ≤ lower
 
@@ -45,7 +45,7 @@ pub record Twins (starts rows : List ℕ) (k next : ℕ) : Type 0 where
   pub risingNext : getD starts next 0 ≤ getD starts (next + 1) 0
   pub some : getD starts k 0 < length rows
   pub insideNext : getD starts (next + 1) 0 ≤ length rows
-  pub few : length rows < 4294967296
+  pub few : length rows < above32
 
 -- ---- a column
 
@@ -54,7 +54,7 @@ pub record Ready (starts rows : List ℕ) (n room kept lower places j : ℕ) : T
   pub plan : Covering n starts rows
   pub column : j < n
   pub slots : length rows ≡ room
-  pub few : length rows < 4294967296
+  pub few : length rows < above32
   pub roomKept : n ≤ kept
   pub roomLower : n ≤ lower
   pub roomPlaces : n ≤ places
@@ -70,7 +70,7 @@ pub record Worked (starts rows : List ℕ) (j : ℕ) (d : Float) (diagonal value
 pub record Lent (starts rows : List ℕ) (diagonal values : List Float) : Type 0 where
   pub plan : Covering (length diagonal) starts rows
   pub few : length diagonal ≤ maxNodes
-  pub fewSlots : length rows < 4294967296
+  pub fewSlots : length rows < above32
   pub slots : length rows ≡ length values
 
 -- the answer and both buffers of an outcome

@@ -6,6 +6,7 @@ use borrow.Author.Needs.{needs}
 use lib.ListN.{length, getD}
 use Rattle.theory.proofs.FactorPlaces.{slot-inside}
 use Rattle.factor.specs.Working.{Ready}
+use Rattle.factor.specs.Down.{above32}
 use Rattle.factor.proofs.ColumnSteps.{row-inside, column-fits, column-worked, InColumn, in-column-begins, in-column-on}
 use Rattle.factor.proofs.column.factor_column.Statement.{statement}
 use Rattle.factor.proofs.column.factor_column.Tie as tie
@@ -62,7 +63,7 @@ inside : (c : tie.In-loop Inv-loop μ-loop) →
     let x = start l .args in
     let to = division l .before .before .before .before .index2 .result in
     let k = getD (x .rows .now) (l .loop .s) 0 in
-    (l .loop .s < length (x .rows .now)) × (length (x .rows .now) < 4294967296) × (k < length (l .loop .diagonal)) × (k + 1 < length (x .starts .now)) × (to ≤ length (x .rows .now)) × (getD (x .starts .now) k 0 + (to - (l .loop .s + 1)) ≤ length (x .rows .now))
+    (l .loop .s < length (x .rows .now)) × (length (x .rows .now) < above32) × (k < length (l .loop .diagonal)) × (k + 1 < length (x .starts .now)) × (to ≤ length (x .rows .now)) × (getD (x .starts .now) k 0 + (to - (l .loop .s + 1)) ≤ length (x .rows .now))
 inside c =
     let l = c .before in
     let x = start l .args in

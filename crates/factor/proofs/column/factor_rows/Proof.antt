@@ -6,7 +6,7 @@ use native.Mathlib.Omega.{arith}
 use borrow.Author.Needs.{needs}
 use borrow.Author.Tests.{not-false}
 use lib.ListN.{length, getD}
-use Rattle.factor.specs.Down.{continued}
+use Rattle.factor.specs.Down.{continued, above32}
 use Rattle.factor.proofs.ColumnSteps.{row-beside, row-inside, row-twins, advanced-on, Following, following-begins, known-on, following-on}
 use Rattle.factor.proofs.column.factor_rows.Statement.{statement}
 use Rattle.factor.proofs.column.factor_rows.Tie as tie
@@ -23,7 +23,7 @@ abbrev start : tie.At-loop Inv-loop μ-loop → tie.Start Inv-loop μ-loop
 start l = l .before .before .before .before .before .before .before .before .before .before .before .before .before .before .before .before .before .before .before .before
 
 -- slot s is one of the plan
-inside : (s : tie.Start Inv-loop μ-loop) → let x = s .args in (x .s < length (x .rows .now)) × (length (x .rows .now) < 4294967296)
+inside : (s : tie.Start Inv-loop μ-loop) → let x = s .args in (x .s < length (x .rows .now)) × (length (x .rows .now) < above32)
 inside s =
     let x = s .args in
     let i = row-inside (x .starts .now) (x .rows .now) (length (x .diagonal .now)) (length (x .values .now)) (length (x .kept .now)) (length (x .lower .now)) (x .first) (x .s) (x .to) (s .pre .0) in
@@ -33,7 +33,7 @@ inside s =
 inside-loop : (c : tie.In-loop Inv-loop μ-loop) →
     let l = c .before in
     let x = start l .args in
-    (l .loop .at < length (x .rows .now)) × (length (x .rows .now) < 4294967296) × (l .loop .k + 1 < length (x .starts .now)) × (getD (x .rows .now) (l .loop .at) 0 + 1 < length (x .starts .now))
+    (l .loop .at < length (x .rows .now)) × (length (x .rows .now) < above32) × (l .loop .k + 1 < length (x .starts .now)) × (getD (x .rows .now) (l .loop .at) 0 + 1 < length (x .starts .now))
 inside-loop c =
     let l = c .before in
     let x = start l .args in

@@ -4,7 +4,7 @@ use Prim.Native.Nat.{_+_, _-_, _≤_, _<_}
 use native.Mathlib.Omega.{arith}
 use borrow.Author.Needs.{needs}
 use lib.ListN.{length, getD, length-set}
-use Rattle.factor.specs.Down.{Placed}
+use Rattle.factor.specs.Down.{Placed, above32}
 use Rattle.factor.proofs.Running.{Lessening, lessening-begins, lessening-ends, lessening-steps, Running, running-begins, running-skips, running-steps, slot-found, room-left, placed-one}
 use Rattle.factor.proofs.rows.less_down.Statement.{statement}
 use Rattle.factor.proofs.rows.less_down.Tie as tie
@@ -37,7 +37,7 @@ loop-holds c =
 inside : (c : tie.In-loop Inv-loop μ-loop) →
     let l = c .before in
     let s = start l in
-    (l .loop .u < getD (s .args .starts .now) (s .args .k + 1) 0) × (getD (s .args .starts .now) (s .args .k + 1) 0 ≤ length (s .args .rows .now)) × (length (s .args .rows .now) ≡ length (l .loop .values)) × (length (s .args .rows .now) < 4294967296)
+    (l .loop .u < getD (s .args .starts .now) (s .args .k + 1) 0) × (getD (s .args .starts .now) (s .args .k + 1) 0 ≤ length (s .args .rows .now)) × (length (s .args .rows .now) ≡ length (l .loop .values)) × (length (s .args .rows .now) < above32)
 inside c =
     let l = c .before in
     let s = start l in

@@ -4,7 +4,7 @@ use Prim.Native.Nat.{_+_, _-_, _<_}
 use native.Mathlib.Omega.{arith}
 use borrow.Author.Needs.{needs}
 use lib.ListN.{length, getD}
-use Rattle.factor.specs.Down.{slotIn}
+use Rattle.factor.specs.Down.{slotIn, above32}
 use Rattle.factor.proofs.Running.{slot-within, Lessening, lessening-begins, lessening-ends, lessening-steps}
 use Rattle.factor.proofs.rows.less_known.Statement.{statement}
 use Rattle.factor.proofs.rows.less_known.Tie as tie
@@ -31,7 +31,7 @@ place : (c : tie.In-loop Inv-loop μ-loop) →
     let x = start l .args in
     (slotIn (x .starts .now) (x .rows .now) (x .k) (getD (x .rows .now) (l .loop .t) 0) ≡ getD (x .places .now) (l .loop .t - x .first) 0 + x .shift)
     × (slotIn (x .starts .now) (x .rows .now) (x .k) (getD (x .rows .now) (l .loop .t) 0) < length (l .loop .values))
-    × (length (l .loop .values) < 4294967296)
+    × (length (l .loop .values) < above32)
 place c =
     let l = c .before in
     let s = start l in
@@ -47,7 +47,7 @@ place c =
 slot : (c : tie.After-index Inv-loop μ-loop) →
     let l = c .before .before .before in
     let x = start l .args in
-    (slotIn (x .starts .now) (x .rows .now) (x .k) (getD (x .rows .now) (l .loop .t) 0) ≡ c .index .result + x .shift) × (c .index .result + x .shift < length (l .loop .values)) × (length (l .loop .values) < 4294967296)
+    (slotIn (x .starts .now) (x .rows .now) (x .k) (getD (x .rows .now) (l .loop .t) 0) ≡ c .index .result + x .shift) × (c .index .result + x .shift < length (l .loop .values)) × (length (l .loop .values) < above32)
 slot c = let p = place (c .before .before) in rw (c .index .ensures) (p .0, omega (arith, p .0, p .1), p .2)
 
 -- l is kept, and so is the place

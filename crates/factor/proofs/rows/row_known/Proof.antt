@@ -3,12 +3,13 @@ use Prim.Native.Nat.{_+_, _<_}
 use native.Mathlib.Omega.{arith}
 use borrow.Author.Needs.{needs}
 use lib.ListN.{length, getD}
+use Rattle.factor.specs.Down.{above32}
 use Rattle.factor.proofs.ColumnSteps.{row-beside, row-inside, row-advances}
 use Rattle.factor.proofs.rows.row_known.Statement.{statement}
 use Rattle.factor.proofs.rows.row_known.Tie as tie
 
 -- the row in slot s is a position
-inside : (s : tie.Start) → let x = s .args in (x .s < length (x .rows .now)) × (length (x .rows .now) < 4294967296) × (getD (x .rows .now) (x .s) 0 < length (x .diagonal .now)) × (getD (x .rows .now) (x .s) 0 + 1 < length (x .starts .now))
+inside : (s : tie.Start) → let x = s .args in (x .s < length (x .rows .now)) × (length (x .rows .now) < above32) × (getD (x .rows .now) (x .s) 0 < length (x .diagonal .now)) × (getD (x .rows .now) (x .s) 0 + 1 < length (x .starts .now))
 inside s =
     let x = s .args in
     let i = row-inside (x .starts .now) (x .rows .now) (length (x .diagonal .now)) (length (x .values .now)) (length (x .kept .now)) (length (x .lower .now)) (x .first) (x .s) (x .to) (s .pre .0 .0) in
