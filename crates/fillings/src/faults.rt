@@ -8,6 +8,7 @@ use crate::trial::try_filling;
 use crate::values::with_special;
 use meshes::less;
 use meshes::more;
+use plan::Plan;
 
 // How many wrong numbers there are, and faults in all.
 const WRONG_NUMBERS: usize = 8 * NUMBERS;
@@ -23,7 +24,7 @@ fn other(x: usize, n: usize, k: usize) -> usize {
         3 => x % 4294967296 + 4294967296,
         4 => 6,
         5 => 7,
-        6 => 4097,
+        6 => Plan::NODES + 1,
         _ => more(naive::most_slots(n)),
     }
 }
