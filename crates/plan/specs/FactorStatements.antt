@@ -1,8 +1,8 @@
--- Document 02, E8, as statements: where a pair's number stands, where subtractions aim, what a finished report says, and what
--- stays.
+-- Document 02, E8, as statements: where a pair's number stands, where subtractions aim, what a finished report says, what both buffers hold when it is
+-- refused, and what stays.
 use mathlib.Core.Bool.{Bool, true, false, cond, _||_}
 use mathlib.Core.Path.{_≡_}
-use mathlib.Core.Logic.{_≢_}
+use mathlib.Core.Logic.{_≢_, _⊎_}
 use mathlib.Core.List.{List, [], _∷_}
 use Prim.Native.Nat.{ℕ, zero, suc, _<_}
 use lib.ListN.{getD}
@@ -83,13 +83,21 @@ HoldsReached =
     → firstFault (factorChecks c f) ≡ 0
     → factoring c f .filling ≡ afterColumns (used c .columnStarts) (used c .rows) 0 (columnsDone (used c .columnStarts) (used c .rows) 0 (c .nodes) f) f
 
--- "a pivot that is not both finite and above zero": 31 is answered where not all columns are worked, and then the next one's is such.
+-- There, 0 is answered where all columns are worked, and 31 where not: the next one's is "a pivot that is not both finite and above zero".
+abbrev pub EndsOrStops : Type 0
+EndsOrStops =
+    (c : Contents) (f : Filling)
+    → firstFault (factorChecks c f) ≡ 0 →
+    let m : ℕ = columnsDone (used c .columnStarts) (used c .rows) 0 (c .nodes) f in
+    ((m ≡ c .nodes) × (factoring c f .answer .refusal ≡ 0))
+    ⊎ ((m < c .nodes) × (factoring c f .answer .refusal ≡ 31) × (positive (getD (factoring c f .filling .diagonal) m nan) ≡ false))
+
+-- And only there is 31 answered.
 abbrev pub StopsAtPivot : Type 0
 StopsAtPivot =
     (c : Contents) (f : Filling)
-    → factoring c f .answer .refusal ≡ 31 →
-    let m : ℕ = columnsDone (used c .columnStarts) (used c .rows) 0 (c .nodes) f in
-    (m < c .nodes) × (positive (getD (factoring c f .filling .diagonal) m nan) ≡ false)
+    → factoring c f .answer .refusal ≡ 31
+    → firstFault (factorChecks c f) ≡ 0
 
 -- "On every refusal the report is all zeros"
 abbrev pub RefusalReportsNothing : Type 0

@@ -1,6 +1,6 @@
 -- E8: what both buffers hold, finished or refused, and that the pivots stand on the diagonal at the end.
-use mathlib.Core.Path.{_≡_, refl, sym, ap, _∙_}
-use mathlib.Core.Logic.{_≢_}
+use mathlib.Core.Path.{_≡_, refl, ap, _∙_}
+use mathlib.Core.Logic.{_≢_, _⊎_, inl, inr}
 use mathlib.Core.Bool.{Bool, true, false, cond}
 use mathlib.Core.List.{List}
 use Prim.Native.Nat.{ℕ, zero, suc, _+_, _-_, _≤_, _<_}
@@ -15,8 +15,9 @@ use Rattle.plan.specs.File.{contentsChecks}
 use Rattle.plan.specs.Writing.{used, suppliedChecks}
 use Rattle.plan.specs.Filling.{Filling}
 use Rattle.plan.specs.Factoring.{factorColumn, columnOperations, zeroReport, openReport, afterColumn, FactorOutcome, notFactored, factorFrom, factorChecks, factorOut, factoring}
-use Rattle.plan.specs.FactorStatements.{columnsDone, afterColumns, HoldsReached, StopsAtPivot, RefusalReportsNothing, RefusalLeavesBoth, PivotsStand}
+use Rattle.plan.specs.FactorStatements.{columnsDone, afterColumns, HoldsReached, EndsOrStops, StopsAtPivot, RefusalReportsNothing, RefusalLeavesBoth, PivotsStand}
 use Rattle.theory.specs.Covering.{Covering}
+use Rattle.theory.proofs.Bools.{eq-or-ne}
 use Rattle.theory.proofs.Refusals.{no-such}
 use Rattle.theory.proofs.Factoring.{supplied-covering, factor-passed}
 use Rattle.theory.proofs.FactorHeld.{column-diagonal}
@@ -129,14 +130,23 @@ not-a-check : (c : Contents) (f : Filling) → firstFault (factorChecks c f) ≢
 unfolding factorChecks suppliedChecks contentsChecks
 not-a-check c f = no-such (factorChecks c f) 31 (omega arith) refl
 
--- 31 is answered at a pivot
+-- where no check finds a fault, 0 is answered where all columns are worked, and 31 where not
+pub ends-or-stops : EndsOrStops
+ends-or-stops c f none =
+    let m : ℕ = columnsDone (starts c f) (rows c f) 0 (c .nodes) f in
+    let at : 0 + m ≡ m = omega arith in
+    out c f (λ o. ((m ≡ c .nodes) × (o .answer .refusal ≡ 0)) ⊎ ((m < c .nodes) × (o .answer .refusal ≡ 31) × (positive (getD (o .filling .diagonal) m nan) ≡ false)))
+    (λ e. elim (eq-or-ne (factorFrom (starts c f) (rows c f) 0 (c .nodes) openReport f .answer .refusal) 0) [
+      | inl z ↦ inl (ended c f .all z, z)
+      | inr ne ↦ (let q = ended c f .refused ne in inr (q .2, q .0, rw at at (q .3)))
+    ])
+    (λ k e. absurd (omega (arith, none, e)))
+
+-- 31 is answered only there
 pub stops-at-pivot : StopsAtPivot
 stops-at-pivot c f =
-    out c f (λ o. o .answer .refusal ≡ 31 → (columnsDone (starts c f) (rows c f) 0 (c .nodes) f < c .nodes) × (positive (getD (o .filling .diagonal) (columnsDone (starts c f) (rows c f) 0 (c .nodes) f) nan) ≡ false))
-    (λ e h.
-    let q = ended c f .refused (λ z. absurd (omega (arith, h, z))) in
-    let at : 0 + columnsDone (starts c f) (rows c f) 0 (c .nodes) f ≡ columnsDone (starts c f) (rows c f) 0 (c .nodes) f = omega arith in
-    (q .2, rw at at (q .3)))
+    out c f (λ o. o .answer .refusal ≡ 31 → firstFault (factorChecks c f) ≡ 0)
+    (λ e h. e)
     (λ k e h. absurd (not-a-check c f (e ∙ h)))
 
 -- ---- the pivots
