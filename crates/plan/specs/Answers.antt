@@ -1,6 +1,7 @@
 -- Document 01, "Forms we want to see": "Where an answer is an enum, a definition states this paper's number and values for each of its cases".
 use mathlib.Core.List.{List, [], _∷_}
 use Prim.Native.Nat.{ℕ}
+use lib.Ieee.{Float}
 use Rattle.plan.specs.declared.PlanAnswer.{PlanAnswer}
 use Rattle.plan.specs.declared.PlanAnswer.the-variants as plan
 use Rattle.plan.specs.declared.WriteAnswer.{WriteAnswer}
@@ -11,6 +12,8 @@ use Rattle.plan.specs.declared.SlotAnswer.{SlotAnswer}
 use Rattle.plan.specs.declared.SlotAnswer.the-variants as slot
 use Rattle.plan.specs.declared.MeshAnswer.{MeshAnswer}
 use Rattle.plan.specs.declared.MeshAnswer.the-variants as mesh
+use Rattle.plan.specs.declared.HeldAnswer.{HeldAnswer}
+use Rattle.plan.specs.declared.HeldAnswer.the-variants as held
 
 -- An answer in document 01's terms: the number of the refusal, 0 for none, and the values where nothing is refused.
 pub record Reply : Type 0 where
@@ -59,3 +62,21 @@ slotReply (slot.Refused k) = refused k
 abbrev pub meshReply : MeshAnswer → Reply
 meshReply (mesh.Accepted m) = accepted (m .nodes ∷ m .entries ∷ [])
 meshReply (mesh.Refused k) = refused k
+
+-- Reading the factor at a pair "answers with the number held there, or that there is no slot": which of the two, by a number of the book's own, and with
+-- the first the number. A refusal has kind 0.
+pub record HeldReply : Type 0 where
+  pub number : ℕ
+  pub kind : ℕ
+  pub held : List Float
+
+abbrev pub heldCase : ℕ
+heldCase = 1
+
+abbrev pub emptyCase : ℕ
+emptyCase = 2
+
+abbrev pub heldReply : HeldAnswer → HeldReply
+heldReply (held.Value x) = record { number = 0; kind = heldCase; held = x ∷ [] }
+heldReply held.NoSlot = record { number = 0; kind = emptyCase; held = [] }
+heldReply (held.Refused k) = record { number = k; kind = 0; held = [] }

@@ -22,6 +22,9 @@ pub mod SlotsAndPairs
 pub mod Filling
 pub mod Factoring
 pub mod FactorStatements
+pub mod Solving
+pub mod Held
+pub mod SolveStatements
 pub mod Listing
 pub mod Enough
 pub mod MatrixMarket

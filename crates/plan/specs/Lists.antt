@@ -29,6 +29,11 @@ module _ {A : Type 0} where
   abbrev pub written : List A → List A → List A
   written entries found = entries ++ drop (length entries) found
 
+-- what a rule makes of y for each of some elements, one after the other
+abbrev pub inTurn : {A B : Type 0} → (A → B → B) → List A → B → B
+inTurn rule [] y = y
+inTurn rule (x ∷ xs) y = inTurn rule xs (rule x y)
+
 -- List v of compressed lists: the lists stand in `entries` one after the other, and list v runs from start v up to, not including, start v + 1.
 unfoldable pub listAt : List ℕ → List ℕ → ℕ → List ℕ
 listAt starts entries v = segment entries (getD starts v 0) (getD starts (v + 1) 0)
@@ -41,6 +46,11 @@ upFrom a (suc k) = a ∷ upFrom (suc a) k
 -- 0, 1, .. up to, not including, n
 abbrev pub below : ℕ → List ℕ
 below n = upFrom 0 n
+
+-- n - 1, n - 2, .. down to 0
+abbrev pub downFrom : ℕ → List ℕ
+downFrom zero = []
+downFrom (suc n) = n ∷ downFrom n
 
 abbrev pub isIn : ℕ → List ℕ → Bool
 isIn x l = exists (eqb x) l

@@ -195,6 +195,14 @@ pub struct FactorAnswer {
     pub report: Report,
 }
 
+// The answer to the question what the factor holds at a pair of positions: the number on the diagonal or in the slot, that there is no slot, or a
+// refusal.
+pub enum HeldAnswer {
+    Value(f64),
+    NoSlot,
+    Refused(u32),
+}
+
 // The family of a refusal's number.
 pub enum RefusalFamily {
     Mesh,

@@ -1,0 +1,30 @@
+-- Document 02, E9, as statements: what is factored to the end can be solved, the vector keeps its length, every entry of the solution comes of the
+-- solution's own later entries, and the order of a pair does not matter.
+use mathlib.Core.Path.{_≡_}
+use mathlib.Core.List.{List}
+use Prim.Native.Nat.{ℕ, _<_}
+use lib.ListN.{length}
+use lib.Ieee.{Float}
+use Rattle.plan.specs.Refusals.{firstFault}
+use Rattle.plan.specs.Planning.{Contents}
+use Rattle.plan.specs.Filling.{Filling}
+use Rattle.plan.specs.Factoring.{factoring}
+use Rattle.plan.specs.Solving.{solveChecks, solving}
+use Rattle.plan.specs.Held.{heldQuestion}
+
+-- "After E8 comes the solution": where factoring ends without a refusal, no vector of the length needed is refused.
+abbrev pub FactoredSolves : Type 0
+FactoredSolves =
+    (c : Contents) (f : Filling) (y : List Float)
+    → factoring c f .answer .refusal ≡ 0 → length y ≡ c .nodes
+    → firstFault (solveChecks c (factoring c f .filling) y) ≡ 0
+
+-- The vector keeps its length.
+abbrev pub SolvingKeepsLength : Type 0
+SolvingKeepsLength = (c : Contents) (f : Filling) (y : List Float) → length (solving c f y) ≡ length y
+
+-- "at a pair, in either order"
+abbrev pub HeldEitherOrder : Type 0
+HeldEitherOrder =
+    (n : ℕ) (columnStarts rows : List ℕ) (f : Filling) (a b : ℕ)
+    → heldQuestion n columnStarts rows f a b ≡ heldQuestion n columnStarts rows f b a
