@@ -2,11 +2,11 @@
 use mathlib.Core.Path.{_≡_, refl, sym, ap}
 use mathlib.Core.Bool.{Bool, true, false, not, cond, _&&_, _||_, false≢true, or-assoc}
 use mathlib.Core.List.{List, [], _∷_, _++_, map}
-use Prim.Native.Nat.{_+_, _<_}
+use Prim.Native.Nat.{ℕ, zero, suc, _+_, _<_}
 use native.Mathlib.Omega.{arith}
-use lib.ListN.{length}
+use lib.ListN.{length, getD}
 use Rattle.plan.specs.Lists.{exists, every, keep}
-use Rattle.theory.proofs.Bools.{or-false-left, or-false-right}
+use Rattle.theory.proofs.Bools.{or-left, or-right, or-false-left, or-false-right, or-neither}
 
 module _ {A : Type 0} where
   pub some-append : (p : A → Bool) (xs ys : List A) → exists p (xs ++ ys) ≡ (exists p xs || exists p ys)
@@ -35,6 +35,16 @@ module _ {A : Type 0} where
 
   pub none-rest : (p : A → Bool) (x : A) (xs : List A) → exists p (x ∷ xs) ≡ false → exists p xs ≡ false
   none-rest p x xs h = or-false-right (p x) _ h
+
+  -- an element by its place
+  pub some-at : (p : A → Bool) (l : List A) (d : A) (i : ℕ) → i < length l → p (getD l i d) ≡ true → exists p l ≡ true
+  some-at p [] d i lt h = absurd (omega arith)
+  some-at p (x ∷ xs) d zero lt h = or-left (p x) _ h
+  some-at p (x ∷ xs) d (suc i) lt h = or-right (p x) _ (some-at p xs d i (omega arith) h)
+
+  pub none-at : (p : A → Bool) (l : List A) (d : A) → ((i : ℕ) → i < length l → p (getD l i d) ≡ false) → exists p l ≡ false
+  none-at p [] d h = refl
+  none-at p (x ∷ xs) d h = or-neither (p x) _ (h 0 (omega arith)) (none-at p xs d (λ i lt. h (suc i) (omega arith)))
 
   -- a test of mapped elements
   pub some-map : {B : Type 0} (p : B → Bool) (f : A → B) (l : List A) → exists p (map f l) ≡ exists (λ x. p (f x)) l

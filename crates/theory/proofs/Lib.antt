@@ -68,3 +68,5 @@ pub mod Factoring
 pub mod FactorHeld
 pub mod FactorReport
 pub mod FactorReached
+pub mod Solving
+pub mod Held
