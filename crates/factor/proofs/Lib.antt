@@ -2,3 +2,6 @@ pub mod Running
 pub mod ColumnSteps
 pub mod AllColumns
 pub mod Checks
+pub mod PassSteps
+pub mod SolveChecks
+pub mod HeldChecks

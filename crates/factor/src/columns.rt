@@ -23,7 +23,7 @@ pub(crate) fn refused(number: u32) -> FactorAnswer
 }
 
 // Whether d is both finite and above zero. O(1).
-fn is_pivot(d: f64) -> bool
+pub(crate) fn is_pivot(d: f64) -> bool
     ensures { λ r. ⌜ r ≡ positive d ⌝ }
 {
     if 0.0 < d {

@@ -9,7 +9,7 @@ ghost use Rattle.plan.specs.Planning.{contents};
 ghost use Rattle.plan.specs.Factoring.{badFilling, factorChecks, Factored};
 
 // Check 30: a value buffer has another length than needed. O(1).
-fn bad_filling(n: usize, s: usize, diagonal: &[f64], values: &[f64]) -> bool
+pub(crate) fn bad_filling(n: usize, s: usize, diagonal: &[f64], values: &[f64]) -> bool
     ensures { λ r. ⌜ r ≡ badFilling n s (record { diagonal = now (diagonal .entry); values = now (values .entry) }) ⌝ }
 {
     if diagonal.len() != n {
@@ -19,7 +19,7 @@ fn bad_filling(n: usize, s: usize, diagonal: &[f64], values: &[f64]) -> bool
 }
 
 // The first refusal of the checks before the first column, 0 for none. O(4,096 + slots + the first rows' columns).
-fn refusal(
+pub(crate) fn refusal(
     unknowns: usize,
     n: usize,
     p: usize,
