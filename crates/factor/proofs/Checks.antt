@@ -66,7 +66,7 @@ module _ (c : Contents) (f : Filling) where
     unfolding used
     nodes-few = counts-few (used c) (supplied-sound c (passed .supplied) .header) .0
 
-    slots-few : c .slots ≤ 8386560
+    pub slots-few : c .slots ≤ 8386560
     unfolding used
     slots-few = counts-few (used c) (supplied-sound c (passed .supplied) .header) .2
 

@@ -5,3 +5,4 @@ pub mod Checks
 pub mod PassSteps
 pub mod SolveChecks
 pub mod HeldChecks
+pub mod TwoColumns

@@ -34,6 +34,12 @@ module _ (rule : ℕ → List Float → List Float) (from to : ℕ) (found : Lis
     same = sym (turn-next rule s to y lt) ∙ h .same;
   }
 
+  -- two at once
+  pub turning-steps-two : Keeping rule → (s : ℕ) (y : List Float) → Turning rule from to found s y → s + 1 < to → Turning rule from to found (s + 2) (rule (s + 1) (rule s y))
+  turning-steps-two keeps s y h lt =
+      let both : s + 2 ≡ s + 1 + 1 = omega arith in
+      rw both (turning-steps keeps (s + 1) (rule s y) (turning-steps keeps s y h (omega (arith, lt))) lt)
+
   pub turning-ends : (s : ℕ) (y : List Float) → Turning rule from to found s y → to ≤ s → y ≡ inTurn rule (upFrom from (to - from)) found
   turning-ends s y h le = sym (turn-end rule s to y le) ∙ h .same
 

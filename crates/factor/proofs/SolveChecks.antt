@@ -18,7 +18,7 @@ use Rattle.theory.proofs.Refusals.{no-fault, no-fault-first, fault-here, fault-
 use Rattle.theory.proofs.Factoring.{factor-passed, supplied-covering}
 use Rattle.theory.proofs.Solving.{forward-length, scaled-length}
 use Rattle.factor.specs.Passing.{Filled}
-use Rattle.factor.proofs.Checks.{rows-long}
+use Rattle.factor.proofs.Checks.{slots-few, rows-long}
 
 module _ (c : Contents) (f : Filling) (y : List Float) where
   abbrev later : Checks
@@ -69,6 +69,7 @@ module _ (c : Contents) (f : Filling) (y : List Float) where
     filled z long = record {
       plan = rw (long ∙ vector-long) (supplied-covering c (factor-passed c f factor-none .supplied));
       slots = rows-long c f factor-none ∙ sym (factor-passed c f factor-none .values);
+      few = omega (arith, rows-long c f factor-none, slots-few c f factor-none);
     }
 
     -- and each entry has a pivot
