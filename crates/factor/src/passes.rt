@@ -26,9 +26,9 @@ fn forward_column(starts: &[u32], rows: &[u16], values: &[f64], vector: &mut [f6
     }
 }
 
-// Whether column j + 1 is the first row of column j, which otherwise has the same rows. O(1).
-fn followed(starts: &[u32], rows: &[u16], values: &[f64], vector: &[f64], j: usize) -> bool
-    requires { ⌜ Filled (now starts) (now rows) (length (now values)) (length (now vector)) × (j < length (now vector)) ⌝ }
+// Whether column j + 1 is the first row of column j, which otherwise has the same rows. n is for the contract alone. O(1).
+fn followed(starts: &[u32], rows: &[u16], n: usize, j: usize) -> bool
+    requires { ⌜ Filled (now starts) (now rows) (length (now rows)) n × (j < n) ⌝ }
     ensures { λ r. ⌜ r ≡ continued (now (starts .entry)) (now (rows .entry)) j (j + 1) ⌝ }
 {
     if starts[j] == starts[j + 1] {
@@ -65,7 +65,7 @@ pub(crate) fn forward_columns(starts: &[u32], rows: &[u16], values: &[f64], vect
 {
     let mut j = 0;
     while j < vector.len() {
-        if followed(starts, rows, values, vector, j) {
+        if followed(starts, rows, vector.len(), j) {
             forward_two(starts, rows, values, vector, j);
             j += 2;
             continue;

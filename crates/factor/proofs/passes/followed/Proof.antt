@@ -19,15 +19,15 @@ and-false false b e = refl
 returns : tie.Need-returns
 unfolding continued
 returns c =
-    let x = c .before .before .before .before .before .before .before .args in
+    let x = c .before .before .before .before .before .args in
     let none : getD (x .starts .now) (x .j + 1) 0 - getD (x .starts .now) (x .j) 0 ≡ 0 = omega (arith, c .if1 .taken) in
     rw none (sym (and-false (eqb (getD (x .rows .now) (getD (x .starts .now) (x .j) 0) 0) (x .j + 1)) _ (ne-eqb 0 (getD (x .starts .now) (x .j + 1 + 1) 0 - getD (x .starts .now) (x .j + 1) 0 + 1) (λ e. omega (arith, e)))))
 
 continues-requires : tie.Need-continues-requires
 continues-requires c κs =
-    let s = c .before .before .before .before .before .before .before in
+    let s = c .before .before .before .before .before in
     let x = s .args in
-    let n = length (x .vector .now) in
+    let n = x .n in
     let f = s .pre .0 in
     let slots = slot-inside n (x .starts .now) (x .rows .now) (f .plan) (x .j) (s .pre .1) in
     let some : getD (x .starts .now) (x .j) 0 < getD (x .starts .now) (x .j + 1) 0 = omega (arith, slots, c .if1 .left) in

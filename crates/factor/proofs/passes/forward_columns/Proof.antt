@@ -1,5 +1,5 @@
 -- `factor::passes::forward_columns` meets its contract: the columns from j on are left.
-use mathlib.Core.Path.{_≡_, sym, _∙_}
+use mathlib.Core.Path.{_≡_, refl, sym, _∙_}
 use mathlib.Core.Bool.{true}
 use Prim.Native.Nat.{_+_, _-_, _<_}
 use native.Mathlib.Omega.{arith}
@@ -28,15 +28,15 @@ loop-holds c = let x = c .before .before .before .before .args in turning-begins
 
 followed-requires : tie.Need-followed-requires Inv-loop μ-loop
 followed-requires c κs =
-    let k = c .before in
-    let l = k .before in
-    (rw (l .loop .inv .long) (start l .pre), k .loop-test .taken)
+    let l = c .before in
+    let f = start l .pre in
+    (record { plan = rw (l .loop .inv .long) (f .plan); slots = refl; few = f .few }, c .loop-test .taken)
 
 -- column j is followed by the next, which is a column too
-two : (c : tie.Then1 Inv-loop μ-loop) → let l = c .before .before .before .before in let x = start l .args in
+two : (c : tie.Then1 Inv-loop μ-loop) → let l = c .before .before .before in let x = start l .args in
     (continued (x .starts .now) (x .rows .now) (l .loop .j) (l .loop .j + 1) ≡ true) × (l .loop .j + 1 < length (x .vector .now))
 two c =
-    let k = c .before .before .before in
+    let k = c .before .before in
     let l = k .before in
     let s = start l in
     let x = s .args in
@@ -46,26 +46,26 @@ two c =
 forward-two-requires : tie.Need-forward-two-requires Inv-loop μ-loop
 forward-two-requires c κs =
     let t = c .before in
-    let l = t .before .before .before .before in
+    let l = t .before .before .before in
     ((rw (l .loop .inv .long) (start l .pre), omega (arith, two t .1, l .loop .inv .long)), two t .0)
 
 loop-again : tie.Need-loop-again Inv-loop μ-loop
 loop-again c =
     let t = c .before .before .before .before in
-    let l = t .before .before .before .before in
+    let l = t .before .before .before in
     let x = start l .args in
     rw (c .before .before .forward-two .ensures)
     (turning-steps-two (forwardColumn (x .starts .now) (x .rows .now) (x .values .now)) 0 (length (x .vector .now)) (x .vector .now) (forwardColumn-keeps (x .starts .now) (x .rows .now) (x .values .now)) (l .loop .j) (l .loop .vector) (l .loop .inv) (two t .1))
 
 forward-column-requires : tie.Need-forward-column-requires Inv-loop μ-loop
 forward-column-requires c κs =
-    let k = c .before .before .before .before in
+    let k = c .before .before .before in
     let l = k .before in
     (rw (l .loop .inv .long) (start l .pre), k .loop-test .taken)
 
 loop-again-2 : tie.Need-loop-again-2 Inv-loop μ-loop
 loop-again-2 c =
-    let k = c .before .before .before .before .before .before .before in
+    let k = c .before .before .before .before .before .before in
     let l = k .before in
     let x = start l .args in
     rw (c .before .before .forward-column .ensures)
