@@ -64,7 +64,7 @@ meshReply (mesh.Accepted m) = accepted (m .nodes ∷ m .entries ∷ [])
 meshReply (mesh.Refused k) = refused k
 
 -- Reading the factor at a pair "answers with the number held there, or that there is no slot": which of the two, by a number of the book's own, and with
--- the first the number. A refusal has kind 0.
+-- the first the number. A refusal has kind 0, which keeps one of number 0 apart from "no slot": no question has that answer, so it keeps no promise.
 pub record HeldReply : Type 0 where
   pub number : ℕ
   pub kind : ℕ

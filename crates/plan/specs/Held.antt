@@ -14,7 +14,7 @@ unfoldable pub heldChecks : ℕ → List ℕ → List ℕ → Filling → ℕ �
 heldChecks n columnStarts rows f a b =
     layoutChecks n columnStarts rows ++ ((30, badFilling n (getD columnStarts n 0) f) ∷ positionChecks n (a ∷ b ∷ []))
 
--- what is answered where nothing is refused, by what is held at the pair's place
+-- what is answered where nothing is refused, by what is held at the pair's place: at most one number is held
 abbrev pub heldThere : List Float → HeldReply
 heldThere (x ∷ xs) = record { number = 0; kind = heldCase; held = x ∷ [] }
 heldThere [] = record { number = 0; kind = emptyCase; held = [] }

@@ -29,7 +29,7 @@ module _ {A : Type 0} where
   abbrev pub written : List A → List A → List A
   written entries found = entries ++ drop (length entries) found
 
--- what a rule makes of y for each of some elements, one after the other
+-- what a rule makes of y for each of some elements, one after the other: each step takes what the one before left
 abbrev pub inTurn : {A B : Type 0} → (A → B → B) → List A → B → B
 inTurn rule [] y = y
 inTurn rule (x ∷ xs) y = inTurn rule xs (rule x y)

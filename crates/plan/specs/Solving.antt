@@ -1,5 +1,6 @@
--- Document 02, E9: "the solution: forward through the columns, division by the pivots, then backward, in one lent vector in plan order". A slot holds l
--- where factoring is finished, and the diagonal the pivots; `getD .. nan` reads a buffer, as in `Factoring`.
+-- Document 02, E9: "the solution: forward through the columns, division by the pivots, then backward, in one lent vector in plan order": entry j of the
+-- vector, as of the diagonal, is position j's. A slot holds l where factoring is finished, and the diagonal the pivots; `getD .. nan` reads a buffer, as
+-- in `Factoring`.
 use mathlib.Core.Bool.{Bool, not}
 use mathlib.Core.Path.{_≡_}
 use mathlib.Core.List.{List, [], _∷_, _++_}
@@ -33,6 +34,7 @@ forward n columnStarts rows l y = inTurn (forwardColumn columnStarts rows l) (be
 unfoldable pub byPivot : List Float → ℕ → List Float → List Float
 byPivot pivots j y = set y j (div binary64 (getD y j nan) (getD pivots j nan))
 
+-- each entry once; their order does not matter
 unfoldable pub scaled : ℕ → List Float → List Float → List Float
 scaled n pivots y = inTurn (byPivot pivots) (below n) y
 
