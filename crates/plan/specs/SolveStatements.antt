@@ -1,8 +1,9 @@
--- Document 02, E9, as statements: what is factored to the end can be solved, the vector keeps its length, every entry of the solution comes of the
--- solution's own later entries, and the order of a pair does not matter.
+-- Document 02, E9, as statements: what is factored to the end can be solved; the vector keeps its length, and stays as found where it is refused; the order
+-- of a pair does not matter.
 use mathlib.Core.Path.{_≡_}
+use mathlib.Core.Logic.{_≢_}
 use mathlib.Core.List.{List}
-use Prim.Native.Nat.{ℕ, _<_}
+use Prim.Native.Nat.{ℕ}
 use lib.ListN.{length}
 use lib.Ieee.{Float}
 use Rattle.plan.specs.Refusals.{firstFault}
@@ -22,6 +23,10 @@ FactoredSolves =
 -- The vector keeps its length.
 abbrev pub SolvingKeepsLength : Type 0
 SolvingKeepsLength = (c : Contents) (f : Filling) (y : List Float) → length (solving c f y) ≡ length y
+
+-- The checks come "before anything is changed": a refusal leaves the vector as found.
+abbrev pub RefusalLeavesVector : Type 0
+RefusalLeavesVector = (c : Contents) (f : Filling) (y : List Float) → firstFault (solveChecks c f y) ≢ 0 → solving c f y ≡ y
 
 -- "at a pair, in either order"
 abbrev pub HeldEitherOrder : Type 0

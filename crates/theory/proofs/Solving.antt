@@ -1,5 +1,6 @@
 -- E9: what passes in turn keep, what a column's rows leave of its entry, and that what is factored to the end can be solved.
 use mathlib.Core.Path.{_≡_, refl, sym, ap, _∙_}
+use mathlib.Core.Logic.{_≢_}
 use mathlib.Core.Bool.{Bool, true, false, not}
 use mathlib.Core.List.{List, [], _∷_}
 use Prim.Native.Nat.{ℕ, zero, suc, _+_, _-_, _≤_, _<_}
@@ -17,7 +18,7 @@ use Rattle.plan.specs.Writing.{used, suppliedChecks}
 use Rattle.plan.specs.Filling.{Filling, slotsOf}
 use Rattle.plan.specs.Factoring.{less, badFilling, factorChecks, factorOut, factoring}
 use Rattle.plan.specs.Solving.{lessRow, forwardColumn, forward, byPivot, scaled, lessColumn, backwardColumn, backward, solved, badVector, badPivot, solveChecks, solveOut, solving}
-use Rattle.plan.specs.SolveStatements.{FactoredSolves, SolvingKeepsLength}
+use Rattle.plan.specs.SolveStatements.{FactoredSolves, SolvingKeepsLength, RefusalLeavesVector}
 use Rattle.theory.specs.Covering.{Covering}
 use Rattle.theory.proofs.Bools.{eqb-same}
 use Rattle.theory.proofs.AnyLists.{none-at}
@@ -99,6 +100,15 @@ solving-keeps-length c f y = go (firstFault (solveChecks c f y))
         ∙ scaled-length (c .nodes) (f .diagonal) _
         ∙ forward-length (c .nodes) starts rows (f .values) y
     go (suc k) = refl
+
+-- a refusal leaves it as found
+pub refusal-leaves-vector : RefusalLeavesVector
+unfolding solving solveOut
+refusal-leaves-vector c f y = go (firstFault (solveChecks c f y))
+  where
+    go : (k : ℕ) → k ≢ 0 → solveOut k c f y ≡ y
+    go zero some = absurd (some refl)
+    go (suc k) some = refl
 
 -- ---- a column's entry
 
