@@ -1,5 +1,5 @@
--- Document 02, E9, as statements: what is factored to the end can be solved; the vector keeps its length, and stays as found where it is refused; the order
--- of a pair does not matter.
+-- Document 02, E9, as statements: what is factored to the end can be solved; the vector keeps its length, and stays as found where it is refused; the pair
+-- that is read stands where document 01's question finds it, and its order does not matter.
 use mathlib.Core.Path.{_≡_}
 use mathlib.Core.Logic.{_≢_}
 use mathlib.Core.List.{List}
@@ -8,10 +8,13 @@ use lib.ListN.{length}
 use lib.Ieee.{Float}
 use Rattle.plan.specs.Refusals.{firstFault}
 use Rattle.plan.specs.Planning.{Contents}
-use Rattle.plan.specs.Filling.{Filling}
+use Rattle.plan.specs.Answers.{accepted}
+use Rattle.plan.specs.Questions.{pairQuestion}
+use Rattle.plan.specs.Filling.{Filling, Place, placeOf, heldAt}
 use Rattle.plan.specs.Factoring.{factoring}
+use Rattle.plan.specs.FactorStatements.{placeValues}
 use Rattle.plan.specs.Solving.{solveChecks, solving}
-use Rattle.plan.specs.Held.{heldQuestion}
+use Rattle.plan.specs.Held.{heldThere, heldQuestion}
 
 -- "After E8 comes the solution": where factoring ends without a refusal, no vector of the length needed is refused.
 abbrev pub FactoredSolves : Type 0
@@ -33,3 +36,11 @@ abbrev pub HeldEitherOrder : Type 0
 HeldEitherOrder =
     (n : ℕ) (columnStarts rows : List ℕ) (f : Filling) (a b : ℕ)
     → heldQuestion n columnStarts rows f a b ≡ heldQuestion n columnStarts rows f b a
+
+-- Where nothing is refused, this question and document 01's find the pair at the same place; so "there is no slot" is said by both or by neither.
+abbrev pub HeldWhereFound : Type 0
+HeldWhereFound =
+    (n : ℕ) (columnStarts rows : List ℕ) (f : Filling) (a b : ℕ)
+    → heldQuestion n columnStarts rows f a b .number ≡ 0 →
+    let at : Place = placeOf columnStarts rows a b in
+    (pairQuestion n columnStarts rows a b ≡ accepted (placeValues at)) × (heldQuestion n columnStarts rows f a b ≡ heldThere (heldAt at f))
