@@ -1,19 +1,20 @@
--- Document 02, E9, as statements: what is factored to the end can be solved; the vector keeps its length, and stays as found where it is refused; the pair
--- that is read stands where document 01's question finds it, and its order does not matter.
+-- Document 02, E9, as statements: what is factored to the end can be solved; the vector keeps its length, and stays as found where it is refused; a column's
+-- entry stands once the column is reached; the pair that is read stands where document 01's question finds it, and its order does not matter.
 use mathlib.Core.Path.{_≡_}
 use mathlib.Core.Logic.{_≢_}
 use mathlib.Core.List.{List}
-use Prim.Native.Nat.{ℕ}
-use lib.ListN.{length}
-use lib.Ieee.{Float}
+use Prim.Native.Nat.{ℕ, _≤_}
+use lib.ListN.{length, getD}
+use lib.Ieee.{Float, nan}
 use Rattle.plan.specs.Refusals.{firstFault}
 use Rattle.plan.specs.Planning.{Contents}
+use Rattle.plan.specs.Writing.{used}
 use Rattle.plan.specs.Answers.{accepted}
 use Rattle.plan.specs.Questions.{pairQuestion}
 use Rattle.plan.specs.Filling.{Filling, Place, placeOf, heldAt}
 use Rattle.plan.specs.Factoring.{factoring}
 use Rattle.plan.specs.FactorStatements.{placeValues}
-use Rattle.plan.specs.Solving.{solveChecks, solving}
+use Rattle.plan.specs.Solving.{forward, solveChecks, solving}
 use Rattle.plan.specs.Held.{heldThere, heldQuestion}
 
 -- "After E8 comes the solution": where factoring ends without a refusal, no vector of the length needed is refused.
@@ -30,6 +31,15 @@ SolvingKeepsLength = (c : Contents) (f : Filling) (y : List Float) → length (s
 -- The checks come "before anything is changed": a refusal leaves the vector as found.
 abbrev pub RefusalLeavesVector : Type 0
 RefusalLeavesVector = (c : Contents) (f : Filling) (y : List Float) → firstFault (solveChecks c f y) ≢ 0 → solving c f y ≡ y
+
+-- Forward, entry j after the columns before column j is that after any more of them, up to all: once its column is reached it does not change any more.
+-- So "the column's entry", read there or at the end, is one number.
+abbrev pub ForwardEntriesStand : Type 0
+ForwardEntriesStand =
+    (c : Contents) (f : Filling) (y : List Float) (j m : ℕ)
+    → firstFault (solveChecks c f y) ≡ 0 → j ≤ m → m ≤ c .nodes →
+    let after : ℕ → List Float = λ k. forward k (used c .columnStarts) (used c .rows) (f .values) y in
+    getD (after m) j nan ≡ getD (after j) j nan
 
 -- "at a pair, in either order"
 abbrev pub HeldEitherOrder : Type 0

@@ -69,4 +69,5 @@ pub mod FactorHeld
 pub mod FactorReport
 pub mod FactorReached
 pub mod Solving
+pub mod SolveEntries
 pub mod Held
