@@ -38,3 +38,4 @@ pub mod SlotCases
 pub mod RowFaultCases
 pub mod WorkedTexts
 pub mod FactorCases
+pub mod SolveCases
