@@ -29,7 +29,7 @@ pub struct NaiveFactor {
 }
 
 // The matrix has a cell for each column and row below 64.
-fn cell(m: &[f64; 4096], j: usize, i: usize) -> f64 {
+pub(crate) fn cell(m: &[f64; 4096], j: usize, i: usize) -> f64 {
     m[j % 64 * 64 + i % 64]
 }
 
@@ -38,7 +38,7 @@ fn put_cell(m: &mut [f64; 4096], j: usize, i: usize, x: f64) {
 }
 
 // A lent value; 0 beyond the end.
-fn value(list: &[f64], i: usize) -> f64 {
+pub(crate) fn value(list: &[f64], i: usize) -> f64 {
     if i < list.len() {
         return list[i];
     }
@@ -52,7 +52,7 @@ fn put_value(list: &mut [f64; 2016], e: usize, x: f64) {
 }
 
 // The first values that are lent.
-fn first_diagonal(lent: &[f64]) -> [f64; 64] {
+pub(crate) fn first_diagonal(lent: &[f64]) -> [f64; 64] {
     let mut list = [0.0; 64];
     for i in 0..64usize {
         list[i] = value(lent, i);
@@ -82,7 +82,7 @@ fn spread_column(
 }
 
 // The matrix of n nodes.
-fn spread(
+pub(crate) fn spread(
     n: usize,
     column_starts: &[u32],
     rows: &[u16],
@@ -129,7 +129,7 @@ fn gather_values(n: usize, column_starts: &[u32], rows: &[u16], m: &[f64; 4096])
 }
 
 // The rows of each of n columns.
-fn columns_of(n: usize, column_starts: &[u32], rows: &[u16]) -> [u64; 64] {
+pub(crate) fn columns_of(n: usize, column_starts: &[u32], rows: &[u16]) -> [u64; 64] {
     let mut columns = [0u64; 64];
     for j in 0..64usize {
         if j < n {
@@ -195,7 +195,7 @@ fn eliminate_column(m: &mut [f64; 4096], s: u64, j: usize) -> u64 {
 }
 
 // 31: "a pivot that is not both finite and above zero".
-fn pivot_fails(d: f64) -> bool {
+pub(crate) fn pivot_fails(d: f64) -> bool {
     !(0.0 < d && d <= GREATEST)
 }
 

@@ -1,5 +1,5 @@
-// A second planner, a second reader and writer of plan files, a second reader of Matrix Market texts, a second factorization, answers to questions,
-// and the rule for uncut parts, written from documents 01 and 02 and the readings in docs/DECISIONS.md, without the book or the proved code: dense,
+// A second planner, a second reader and writer of plan files, a second reader of Matrix Market texts, a second factorization and solution, answers to
+// questions, and the rule for uncut parts, written from documents 01 and 02 and the readings in docs/DECISIONS.md, without the book or the proved code: dense,
 // literal and small, for meshes of at most 64 nodes or texts of at most 2,200 pairs. Test programs compare the proved code with it. Proved safe; what
 // it answers is tested, and not proved.
 // Cost: every function is polynomial in 64, in 2,200 and in the lengths of what it is lent.
@@ -10,10 +10,12 @@ mod elimination;
 mod factoring;
 mod file;
 mod head;
+mod held;
 mod lists;
 mod parts;
 mod questions;
 mod sets;
+mod solving;
 mod text;
 mod words;
 
@@ -27,16 +29,20 @@ pub use file::encode;
 pub use file::read;
 pub use file::write;
 pub use head::most_slots;
+pub use held::NaiveHeld;
+pub use held::held_at;
 pub use questions::NaiveColumn;
 pub use questions::NaivePair;
 pub use questions::NaiveSlot;
 pub use questions::column;
 pub use questions::pair_of_slot;
 pub use questions::slot_of_pair;
+pub use solving::NaiveSolution;
+pub use solving::solve;
 pub use text::NaiveMesh;
 pub use text::read_text;
 
-// The answer of reading, writing or factoring where a plan has more nodes, or a text more pairs, than this code takes.
+// The answer of reading, writing, factoring or solving where a plan has more nodes, or a text more pairs, than this code takes.
 pub const TOO_LARGE: u32 = 65535;
 
 // What planning and reading hand out. `refusal` is 0 where there is a plan; otherwise everything else is 0.

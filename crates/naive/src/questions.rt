@@ -42,7 +42,7 @@ fn no_layout(n: usize, column_starts: &[u32], rows: &[u16]) -> bool {
 }
 
 // 1, then 22.
-fn layout_refusal(n: usize, column_starts: &[u32], rows: &[u16]) -> u32 {
+pub(crate) fn layout_refusal(n: usize, column_starts: &[u32], rows: &[u16]) -> u32 {
     if n == 0 || 4096 < n {
         return 1;
     }
