@@ -1,9 +1,11 @@
-// What the factorization is lent: four numbers, a plan's five lists and the two buffers of values, each the first entries of an array.
+// What the factorization, the solution and the question about a pair are lent: four numbers, a plan's five lists, the two buffers of values and the
+// vector, each the first entries of an array, and the pair.
 use meshes::Case;
 use meshes::first16;
 use meshes::first32;
 
-// Where the numbers stand: how many unknowns a node has, n, p and s, then the lengths of the lists, in their order, and of both buffers.
+// Where the numbers stand: how many unknowns a node has, n, p and s, then the lengths of the lists, in their order, of both buffers and of the vector,
+// and the two positions.
 pub(crate) const UNKNOWNS: usize = 0;
 
 pub(crate) const NODES: usize = 1;
@@ -16,11 +18,17 @@ pub(crate) const DIAGONAL: usize = 9;
 
 pub(crate) const VALUES: usize = 10;
 
-pub(crate) const NUMBERS: usize = 11;
+pub(crate) const VECTOR: usize = 11;
+
+pub(crate) const POSITION: usize = 12;
+
+pub(crate) const POSITION_2: usize = 13;
+
+pub(crate) const NUMBERS: usize = 14;
 
 // `multiplications` is the plan's own count, or 0 where it is not known.
 pub(crate) struct Filling {
-    pub(crate) numbers: [usize; 11],
+    pub(crate) numbers: [usize; 14],
     pub(crate) multiplications: u64,
     pub(crate) order: [u16; 64],
     pub(crate) sizes: [u16; 64],
@@ -29,10 +37,11 @@ pub(crate) struct Filling {
     pub(crate) rows: [u16; 2016],
     pub(crate) diagonal: [f64; 64],
     pub(crate) values: [f64; 2016],
+    pub(crate) vector: [f64; 64],
 }
 
 // The plan of a mesh, which is the planner's, for `compare` finds them the same. Its lists are longer than needed, and each 0 behind them would be a
-// fault in them; its buffers have the right lengths and hold zeros. A plan of no nodes where the mesh has none.
+// fault in them; its buffers have the right lengths and hold zeros, and the pair is the first of them. A plan of no nodes where the mesh has none.
 pub(crate) fn planned(c: Case) -> Filling {
     let starts = c.starts;
     let neighbours = c.neighbours;
@@ -58,7 +67,22 @@ pub(crate) fn planned(c: Case) -> Filling {
     let n = p.nodes as usize;
     let s = p.slots as usize;
     Filling {
-        numbers: [1, n, p.parts as usize, s, 64, 64, 64, 65, 2016, n, s],
+        numbers: [
+            1,
+            n,
+            p.parts as usize,
+            s,
+            64,
+            64,
+            64,
+            65,
+            2016,
+            n,
+            s,
+            n,
+            0,
+            0,
+        ],
         multiplications: p.multiplications,
         order: order,
         sizes: sizes,
@@ -67,6 +91,7 @@ pub(crate) fn planned(c: Case) -> Filling {
         rows: rows,
         diagonal: [0.0; 64],
         values: [0.0; 2016],
+        vector: [0.0; 64],
     }
 }
 
@@ -75,6 +100,15 @@ pub(crate) fn tight(mut f: Filling) -> Filling {
     let n = f.numbers[NODES];
     let p = f.numbers[PARTS];
     let s = f.numbers[SLOTS];
-    f.numbers = [1, n, p, s, n, p, p, n % 65536 + 1, s, n, s];
+    let a = f.numbers[POSITION];
+    let b = f.numbers[POSITION_2];
+    f.numbers = [1, n, p, s, n, p, p, n % 65536 + 1, s, n, s, n, a, b];
+    f
+}
+
+// The same with another pair.
+pub(crate) fn asking(mut f: Filling, a: usize, b: usize) -> Filling {
+    f.numbers[POSITION] = a;
+    f.numbers[POSITION_2] = b;
     f
 }

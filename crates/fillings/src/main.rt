@@ -1,9 +1,10 @@
-// Factors some 200,000 fillings of plans with the library and with `naive`, which is written apart from it: counts the answers, and the fillings on
-// which they differ in an answer, in the report or in a bit of either buffer.
+// Factors, solves and reads some 300,000 fillings of plans with the library and with `naive`, which is written apart from it: counts the answers, and
+// the fillings on which they differ in an answer, in the report or in a bit of a buffer or of the vector.
 // Cost: a fixed run; every function is polynomial in 64 and in the lengths of what it is lent.
 mod counts;
 mod faults;
 mod filling;
+mod solution;
 mod trial;
 mod values;
 
@@ -11,8 +12,11 @@ use crate::counts::Counts;
 use crate::counts::none;
 use crate::counts::print;
 use crate::filling::Filling;
+use crate::filling::NODES;
+use crate::filling::asking;
 use crate::filling::planned;
 use crate::filling::tight;
+use crate::solution::try_reading;
 use crate::trial::try_filling;
 use crate::values::KINDS;
 use crate::values::ZEROS;
@@ -25,6 +29,18 @@ fn every_kind(c: Counts, f: Filling, seed: u64) -> Counts {
     for kind in 0..KINDS {
         let g = with_values(f, kind, seed);
         d = try_filling(try_filling(d, g), tight(g));
+    }
+    d
+}
+
+// Every two of the positions up to n, which is none, in either order.
+fn every_pair(c: Counts, f: Filling) -> Counts {
+    let n = f.numbers[NODES];
+    let mut d = c;
+    for k in 0..4225usize {
+        if k / 65 <= n && k % 65 <= n {
+            d = try_reading(d, asking(f, k / 65, k % 65));
+        }
     }
     d
 }
@@ -56,11 +72,17 @@ fn mesh(number: u64) -> Case {
     }
 }
 
+// How many are read at every pair: those of up to five nodes, those that are damaged, and ten more.
+const ALL_PAIRS: u64 = 1042;
+
 fn every_mesh(c: Counts) -> Counts {
     let mut d = c;
     for number in 0..1332u64 {
         let f = planned(mesh(number));
         d = every_kind(d, f, number);
+        if number < ALL_PAIRS {
+            d = every_pair(d, tight(with_values(f, 0, number)));
+        }
         if number < DAMAGED {
             d = every_fault(d, f, number);
         }

@@ -1,5 +1,6 @@
-// A filling factored by the proved library and by `naive`.
+// A filling factored by the proved library and by `naive`, and solved and read, before it and with what it leaves.
 use crate::counts::Counts;
+use crate::counts::FACTOR;
 use crate::counts::Outcome;
 use crate::counts::counted;
 use crate::filling::DIAGONAL;
@@ -9,18 +10,20 @@ use crate::filling::PARTS;
 use crate::filling::SLOTS;
 use crate::filling::UNKNOWNS;
 use crate::filling::VALUES;
+use crate::solution::try_reading;
+use crate::solution::try_solution;
 use meshes::first16;
 use meshes::first32;
 use naive::NaiveFactor;
 
-fn first64<'a>(s: &'a [f64], k: usize) -> &'a [f64] {
+pub(crate) fn first64<'a>(s: &'a [f64], k: usize) -> &'a [f64] {
     if k <= s.len() {
         return &s[0..k];
     }
     s
 }
 
-fn front64<'a>(s: &'a mut [f64], k: usize) -> &'a mut [f64] {
+pub(crate) fn front64<'a>(s: &'a mut [f64], k: usize) -> &'a mut [f64] {
     if k <= s.len() {
         return &mut s[0..k];
     }
@@ -92,7 +95,7 @@ fn factor_naively(f: Filling, diagonal: [f64; 64], values: [f64; 2016]) -> Naive
 }
 
 // Whether two floats have the same bits; one NaN is taken for another. Equal floats have, but for the two zeros, whose reciprocals differ.
-fn same(a: f64, b: f64) -> bool {
+pub(crate) fn same(a: f64, b: f64) -> bool {
     if a != a {
         return b != b;
     }
@@ -119,7 +122,12 @@ fn holds(left: &[f64], want: &[f64], lent: usize, found: &[f64]) -> bool {
     true
 }
 
-fn holds_diagonal(left: [f64; 64], want: [f64; 64], lent: usize, found: [f64; 64]) -> bool {
+pub(crate) fn holds_diagonal(
+    left: [f64; 64],
+    want: [f64; 64],
+    lent: usize,
+    found: [f64; 64],
+) -> bool {
     holds(&left, &want, lent, &found)
 }
 
@@ -145,16 +153,34 @@ fn agree(f: Filling, b: Left, w: NaiveFactor) -> bool {
         & holds_values(left_values, want_values, l[VALUES], found_values)
 }
 
-// A filling that is factored by both.
+// The filling with the buffers that the library left.
+fn with_left(mut f: Filling, b: Left) -> Filling {
+    let diagonal = b.diagonal;
+    let values = b.values;
+    f.diagonal = diagonal;
+    f.values = values;
+    f
+}
+
+fn try_passes(c: Counts, f: Filling) -> Counts {
+    try_reading(try_solution(c, f), f)
+}
+
+// A filling that is factored by both, solved and read. Where buffers were changed, which 31 does too, it is solved and read with these as well.
 pub(crate) fn try_filling(c: Counts, f: Filling) -> Counts {
     let diagonal = f.diagonal;
     let values = f.values;
     let b = factor(f, diagonal, values);
     let w = factor_naively(f, diagonal, values);
     let o = Outcome {
+        asked: FACTOR,
         refusal: w.refusal,
         same: agree(f, b, w),
-        as_planned: f.multiplications == 0 || b.operations == f.multiplications,
+        noted: f.multiplications != 0 && b.operations != f.multiplications,
     };
-    counted(c, o)
+    let d = try_passes(counted(c, o), f);
+    if w.refusal == 0 || w.refusal == 31 {
+        return try_passes(d, with_left(f, b));
+    }
+    d
 }

@@ -1,5 +1,7 @@
-// Values of many kinds, drawn from a seed: by kind and place, for the diagonal and for the slots.
+// Values of many kinds, drawn from a seed: by kind and place, for the diagonal, for the slots and for the vector.
 use crate::filling::Filling;
+use crate::filling::NODES;
+use crate::filling::asking;
 use meshes::draw;
 
 // The kinds: sound; sound for few rows only; denormal; tiny; huge; of every magnitude; sound with a few special slots; special values alone; slots of
@@ -134,13 +136,29 @@ fn values_of(kind: usize, seed: u64) -> [f64; 2016] {
     values
 }
 
-// The filling with values of a kind, in the buffers and behind them.
+fn vector_of(kind: usize, seed: u64) -> [f64; 64] {
+    let mut vector = [0.0; 64];
+    for i in 0..64usize {
+        vector[i] = slot_value(kind, seed, i + 2080);
+    }
+    vector
+}
+
+// The kind of the vector: each, over the seeds, with each kind of values.
+fn vector_kind(kind: usize, seed: u64) -> usize {
+    (kind % KINDS + seed as usize % KINDS) % KINDS
+}
+
+// The filling with values of a kind, in the buffers and behind them, a vector of a kind, and a drawn pair.
 pub(crate) fn with_values(mut f: Filling, kind: usize, seed: u64) -> Filling {
+    let n = f.numbers[NODES];
     let diagonal = diagonal_of(kind, seed);
     let values = values_of(kind, seed);
+    let vector = vector_of(vector_kind(kind, seed), seed);
     f.diagonal = diagonal;
     f.values = values;
-    f
+    f.vector = vector;
+    asking(f, draw(seed, kind, 32, n), draw(seed, kind, 33, n))
 }
 
 // The filling with a special value on the diagonal.

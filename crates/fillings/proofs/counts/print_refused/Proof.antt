@@ -5,10 +5,10 @@ use Rattle.fillings.proofs.counts.print_refused.Statement.{statement}
 use Rattle.fillings.proofs.counts.print_refused.Tie as tie
 
 abbrev Inv-loop : tie.InvT-loop
-Inv-loop refused number₀ t4 t5 number = Unit {0}
+Inv-loop asked refused number₀ t6 t7 number = Unit {0}
 
 abbrev μ-loop : tie.MeasureT-loop
-μ-loop refused number₀ t4 t5 number = 32 - number
+μ-loop asked refused number₀ t6 t7 number = 32 - number
 
 pub print-refused-spec : {M : Type 1} → statement M
 print-refused-spec =
@@ -20,10 +20,10 @@ print-refused-spec =
     (λ c. search needs)
     (λ c. search needs)
     (λ c. search needs)
-    (λ c κs. search needs)
-    (λ c κs. search needs)
     (λ c. search needs)
     (λ c. search needs)
+    (λ c κs. search needs)
+    (λ c κs. search needs)
     (λ c. search needs)
     (λ c κs. search needs)
     (λ c. search needs)

@@ -8,7 +8,7 @@ abbrev Inv-loop : tie.InvT-loop
 Inv-loop f d₀ k₀ d k = Unit {0}
 
 abbrev μ-loop : tie.MeasureT-loop
-μ-loop f d₀ k₀ d k = 12321 - k
+μ-loop f d₀ k₀ d k = 18225 - k
 
 pub every-two-spec : {M : Type 1} → statement M
 every-two-spec =
