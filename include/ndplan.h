@@ -153,8 +153,8 @@ uint32_t ndp_family(uint32_t number);
 
 /* What a refusal's number means. 8 is about the five other results of planning and reading, about the writer's file, or about a text's starts and
  * neighbours. In 17 the column starts fit where they begin at 0, never fall and end at s; in 22 where they are n + 1 exactly, begin at 0, never fall
- * and end at the length of `rows` or below. 20 comes from the listing program only, 29 to 31 from factoring (ndfactor.h), where 13 is about the plan's
- * lists as it is in writing. */
+ * and end at the length of `rows` or below. 20 comes from the listing program only, 29 to 31 from the second library (ndfactor.h), where 13 is about
+ * the plan's lists as it is in writing. */
 static inline const char *ndp_refusal_text(uint32_t number) {
     static const char *const texts[] = {
         /*  0 */ "accepted",
@@ -187,7 +187,7 @@ static inline const char *ndp_refusal_text(uint32_t number) {
         /* 27 */ "a slot number is not below the number of slots",
         /* 28 */ "the number of unknowns for each node is not 1 to 6",
         /* 29 */ "there is more than one unknown for each node",
-        /* 30 */ "the diagonal's values are not as many as the nodes, or the values not as many as the slots",
+        /* 30 */ "the diagonal's values or the vector's are not as many as the nodes, or the slots' values not as many as the slots",
         /* 31 */ "a pivot is not both finite and above zero",
     };
     return number < sizeof texts / sizeof *texts ? texts[number] : "unknown refusal";

@@ -62,7 +62,7 @@ const TEXTS: [&str; 32] = [
     "a slot number is not below the number of slots",
     "the number of unknowns for each node is not 1 to 6",
     "there is more than one unknown for each node",
-    "the diagonal's values are not as many as the nodes, or the values not as many as the slots",
+    "the diagonal's values or the vector's are not as many as the nodes, or the slots' values not as many as the slots",
     "a pivot is not both finite and above zero",
 ];
 
