@@ -28,7 +28,7 @@ typedef struct {
     uint32_t starts[NODES + 1 + GUARD];
     uint16_t neighbours[ENTRIES + GUARD];
     uint8_t file[FILE_BYTES + GUARD];
-    double diagonal[NODES + GUARD], values[SLOTS + GUARD];
+    double diagonal[NODES + GUARD], values[SLOTS + GUARD], vector[NODES + GUARD];
 } Memory;
 
 /* One of the two programs: its functions, its memory and its last replies. */
@@ -42,6 +42,8 @@ typedef struct {
     __typeof__(ndp_pair) *pair;
     __typeof__(ndp_matrix_market) *matrix_market;
     __typeof__(ndf_factor) *factor;
+    __typeof__(ndf_solve) *solve;
+    __typeof__(ndf_held) *held;
     Memory *memory;
     NdpPlan reply, read_reply;
     size_t parts;
@@ -51,15 +53,18 @@ typedef struct {
     NdpPair slots[QUESTIONS];
     NdpMesh mesh_reply;
     NdfReport factor_reply;
+    uint32_t solve_reply;
+    NdfHeld numbers[QUESTIONS];
 } Program;
 
 enum { PLAIN, PROVED, PROGRAMS };
 static Memory plain_memory, proved_memory, untouched;
 static Program programs[PROGRAMS] = {
     {.plan = plain_plan, .stage_order = plain_stage_order, .write = plain_write, .read = plain_read, .slot = plain_slot, .rows = plain_rows,
-     .pair = plain_pair, .matrix_market = plain_matrix_market, .factor = plain_factor, .memory = &plain_memory},
+     .pair = plain_pair, .matrix_market = plain_matrix_market, .factor = plain_factor, .solve = plain_solve, .held = plain_held,
+     .memory = &plain_memory},
     {.plan = ndp_plan, .stage_order = stage_order, .write = ndp_write, .read = ndp_read, .slot = ndp_slot, .rows = ndp_rows,
-     .pair = ndp_pair, .matrix_market = ndp_matrix_market, .factor = ndf_factor, .memory = &proved_memory},
+     .pair = ndp_pair, .matrix_market = ndp_matrix_market, .factor = ndf_factor, .solve = ndf_solve, .held = ndf_held, .memory = &proved_memory},
 };
 
 /* The mesh, the text and the plan at hand, and the positions and slots that the questions ask about. */
@@ -69,8 +74,8 @@ static NdpPlan plan;
 static uint16_t asked[QUESTIONS][2];
 static size_t asked_slots[QUESTIONS];
 
-/* The values that the plan at hand is filled with before each factoring. */
-static double full_diagonal[NODES], full_values[SLOTS];
+/* The values that the plan at hand is filled with before each factoring, and what the vector holds before each solution. */
+static double full_diagonal[NODES], full_values[SLOTS], full_vector[NODES];
 
 /* ---- the operations */
 
@@ -138,10 +143,28 @@ static void factor_values(Program *p) {
                                 m->column_starts, NODES + 1 + GUARD, m->rows, SLOTS + GUARD, m->diagonal, plan.nodes, m->values, plan.slots);
 }
 
-/* The first four make the plan of a mesh, each as far as its name says; the next five need a plan, the next a text, and the last a filled plan. */
-enum { CHECK, ORDER, COUNT, PLAN, WRITE, READ, PAIR, COLUMN, SLOT, TEXT, FACTOR, OPERATIONS };
-static void (*const operations[OPERATIONS])(Program *) = {up_to_check, up_to_order, up_to_count, whole_plan, write_file,   read_file,
-                                                          ask_pairs,   ask_columns, ask_slots,   read_text,  factor_values};
+static void fill_vector(Program *p) { memcpy(p->memory->vector, full_vector, plan.nodes * sizeof *full_vector); }
+
+/* With the factor in the memory, as factoring left it. */
+static void solve_vector(Program *p) {
+    Memory *m = p->memory;
+    p->solve_reply = p->solve(1, plan.nodes, plan.parts, plan.slots, m->order, NODES + GUARD, m->sizes, NODES + GUARD, m->parents, NODES + GUARD,
+                              m->column_starts, NODES + 1 + GUARD, m->rows, SLOTS + GUARD, m->diagonal, plan.nodes, m->values, plan.slots, m->vector,
+                              plan.nodes);
+}
+
+static void ask_numbers(Program *p) {
+    const Memory *m = p->memory;
+    for (int k = 0; k < QUESTIONS; k++)
+        p->numbers[k] = p->held(plan.nodes, m->column_starts, plan.nodes + 1, m->rows, plan.slots, m->diagonal, plan.nodes, m->values, plan.slots,
+                                asked[k][0], asked[k][1]);
+}
+
+/* The first four make the plan of a mesh, each as far as its name says; the next five need a plan, the next a text, the next a filled plan, and the
+ * last two a factored one. */
+enum { CHECK, ORDER, COUNT, PLAN, WRITE, READ, PAIR, COLUMN, SLOT, TEXT, FACTOR, SOLVE, HELD, OPERATIONS };
+static void (*const operations[OPERATIONS])(Program *) = {up_to_check, up_to_order, up_to_count, whole_plan,    write_file,   read_file,  ask_pairs,
+                                                          ask_columns, ask_slots,   read_text,   factor_values, solve_vector, ask_numbers};
 
 /* ---- comparing the results */
 
@@ -154,6 +177,7 @@ static void fill_all_values(void) {
     for (int p = 0; p < PROGRAMS; p++) {
         memset((uint8_t *)programs[p].memory + from, FILL, sizeof(Memory) - from);
         fill_values(&programs[p]);
+        fill_vector(&programs[p]);
     }
 }
 
@@ -252,11 +276,13 @@ static int compare_text(uint32_t refusal) {
            same_memory() && holds_mesh(&plain_memory, starts, entries, &mesh);
 }
 
-/* The values of the mesh's Laplacian with 1 more on the diagonal: a node's neighbours and 1, and -1 for each pair of neighbours. */
+/* The values of the mesh's Laplacian with 1 more on the diagonal: a node's neighbours and 1, and -1 for each pair of neighbours. In the vector a
+ * number from 1 to 2 for each node. */
 static void make_values(void) {
     const Memory *m = &plain_memory;
     memset(full_values, 0, plan.slots * sizeof *full_values);
     for (size_t v = 0; v < mesh.nodes; v++) {
+        full_vector[m->positions[v]] = 1.0 + (double)v / mesh.nodes;
         full_diagonal[m->positions[v]] = 1.0 + (mesh.starts[v + 1] - mesh.starts[v]);
         for (uint32_t e = mesh.starts[v]; e < mesh.starts[v + 1]; e++) {
             size_t a = m->positions[v], b = m->positions[mesh.neighbours[e]];
@@ -270,7 +296,8 @@ static int values_end(const Memory *m) {
     const Memory *u = &untouched;
     size_t n = plan.nodes, s = plan.slots;
     return memcmp(m->diagonal + n, u->diagonal + n, sizeof m->diagonal - n * sizeof *m->diagonal) == 0 &&
-           memcmp(m->values + s, u->values + s, sizeof m->values - s * sizeof *m->values) == 0;
+           memcmp(m->values + s, u->values + s, sizeof m->values - s * sizeof *m->values) == 0 &&
+           memcmp(m->vector + n, u->vector + n, sizeof m->vector - n * sizeof *m->vector) == 0;
 }
 
 /* Factoring of the plan in the memory of both programs: the same bits, the same reports, and as many operations as planned. */
@@ -280,6 +307,22 @@ static int compare_factoring(void) {
     run_both(FACTOR);
     return plain->refusal == 0 && proved->refusal == 0 && plain->smallest == proved->smallest && plain->largest == proved->largest &&
            plain->operations == plan.multiplications && proved->operations == plan.multiplications && same_memory() && values_end(&plain_memory);
+}
+
+/* The solution by the factor in the memory of both programs: the same bits, and the factor as it was. */
+static int compare_solving(void) {
+    static Memory factored;
+    memcpy(&factored, &plain_memory, sizeof factored);
+    run_both(SOLVE);
+    return programs[PLAIN].solve_reply == 0 && programs[PROVED].solve_reply == 0 && same_memory() && values_end(&plain_memory) &&
+           memcmp(&plain_memory, &factored, offsetof(Memory, vector)) == 0;
+}
+
+/* Numbers of the factor at the pairs that are asked about. */
+static int compare_numbers(void) {
+    draw_questions();
+    run_both(HELD);
+    return memcmp(programs[PLAIN].numbers, programs[PROVED].numbers, sizeof programs[PLAIN].numbers) == 0;
 }
 
 /* ---- timing */
@@ -320,10 +363,11 @@ static void measure_clock(void) {
 
 static void time_once(Line *line, int operation, int program) {
     if (operation == FACTOR) fill_values(&programs[program]);
+    if (operation == SOLVE) fill_vector(&programs[program]);
     double from = now();
     operations[operation](&programs[program]);
     double time = now() - from - clock_cost, *best = &line->best[operation][program];
-    if (PAIR <= operation && operation <= SLOT) time /= QUESTIONS;
+    if ((PAIR <= operation && operation <= SLOT) || operation == HELD) time /= QUESTIONS;
     if (*best == 0 || time < *best) *best = time;
 }
 
@@ -447,14 +491,18 @@ static void measure_texts(void) {
     }
 }
 
-/* Plans the mesh at hand, and compares and times its factoring. */
+/* Plans the mesh at hand, and compares and times its factoring; then, with the factor that each factoring leaves, the solution and the numbers that are
+ * asked for. */
 static void measure_factoring(const char *name) {
     Line *line = new_line(name);
     line->same = compare_planning();
     make_values();
     line->same = compare_factoring() && line->same;
+    line->same = compare_solving() && line->same;
+    line->same = compare_numbers() && line->same;
     line->plan = plan;
     time_operations(line, FACTOR, FACTOR);
+    time_operations(line, SOLVE, HELD);
 }
 
 static void measure_filled_plans(void) {
@@ -538,6 +586,18 @@ static void print_factoring(void) {
         double plain = line->best[FACTOR][PLAIN], proved = line->best[FACTOR][PROVED];
         printf("%-19s %5u %7u %10llu", line->name, line->plan.nodes, line->plan.slots, (unsigned long long)line->plan.multiplications);
         printf(" %8.1f %8.1f %5.2f\n", plain, proved, proved / plain);
+    }
+    printf("\n");
+}
+
+static void print_solving(void) {
+    printf("Solving, and a number of the factor, microseconds\n%-19s %5s %7s %21s %21s\n", "", "", "", "solving", "question: number");
+    printf("%-19s %5s %7s %7s %7s %5s %7s %7s %5s\n", "mesh", "nodes", "slots", "plain", "proved", "ratio", "plain", "proved", "ratio");
+    for (int l = first_filled; l < line_count; l++) {
+        printf("%-19s %5u %7u", lines[l].name, lines[l].plan.nodes, lines[l].plan.slots);
+        print_alone(&lines[l], SOLVE);
+        print_alone(&lines[l], HELD);
+        printf("\n");
     }
     printf("\n");
 }
@@ -631,11 +691,13 @@ int main(void) {
     print_block("File and questions", uses, WRITE, 5, LARGEST + 1);
     print_texts();
     print_factoring();
+    print_solving();
     print_growth();
     print_goal("Planning", PLAN, 1.5);
     print_mean_goal("Writing", WRITE, 1.2);
     print_mean_goal("Reading", READ, 1.2);
     print_goal("Reading texts", TEXT, 2.0);
     print_goal("Factoring", FACTOR, 1.0);
+    print_goal("Solving", SOLVE, 1.2);
     return print_differences() ? 1 : 0;
 }

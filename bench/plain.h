@@ -21,4 +21,6 @@ __typeof__(ndp_pair) plain_pair;
 __typeof__(ndp_matrix_market) plain_matrix_market;
 __typeof__(ndp_family) plain_family;
 __typeof__(ndf_factor) plain_factor;
+__typeof__(ndf_solve) plain_solve;
+__typeof__(ndf_held) plain_held;
 #endif

@@ -1,4 +1,4 @@
-/* Plain C: the checks of a plan that the reader, the writer, the questions and the factoring share. Their working memory is static. */
+/* Plain C: the checks of a plan that the reader, the writer, the questions, factoring and solving share. Their working memory is static. */
 #ifndef PLAIN_CHECKS_H
 #define PLAIN_CHECKS_H
 #include "ndplan.h"
