@@ -60,10 +60,22 @@ pub struct NdfReport {
     pub operations: u64,
 }
 
+#[repr(C)]
+#[derive(Clone, Copy, Debug, PartialEq)]
+pub struct NdfHeld {
+    pub refusal: u32,
+    pub kind: u32,
+    pub value: f64,
+}
+
 /// Values of `NdpSlot::kind`.
 pub const NDP_SLOT: u32 = 1;
 pub const NDP_DIAGONAL: u32 = 2;
 pub const NDP_NO_SLOT: u32 = 3;
+
+/// Values of `NdfHeld::kind`.
+pub const NDF_NUMBER: u32 = 1;
+pub const NDF_NO_SLOT: u32 = 2;
 
 /// Answers of `ndp_family`.
 pub const NDP_NONE: u32 = 0;
@@ -189,4 +201,41 @@ extern "C" {
         values: *mut f64,
         values_length: usize,
     ) -> NdfReport;
+
+    pub fn ndf_solve(
+        unknowns: usize,
+        n: usize,
+        p: usize,
+        s: usize,
+        order: *const u16,
+        order_length: usize,
+        sizes: *const u16,
+        sizes_length: usize,
+        parents: *const u16,
+        parents_length: usize,
+        column_starts: *const u32,
+        column_starts_length: usize,
+        rows: *const u16,
+        rows_length: usize,
+        diagonal: *const f64,
+        diagonal_length: usize,
+        values: *const f64,
+        values_length: usize,
+        vector: *mut f64,
+        vector_length: usize,
+    ) -> u32;
+
+    pub fn ndf_held(
+        n: usize,
+        column_starts: *const u32,
+        column_starts_length: usize,
+        rows: *const u16,
+        rows_length: usize,
+        diagonal: *const f64,
+        diagonal_length: usize,
+        values: *const f64,
+        values_length: usize,
+        a: usize,
+        b: usize,
+    ) -> NdfHeld;
 }

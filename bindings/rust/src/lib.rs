@@ -1,14 +1,14 @@
-//! Nested dissection plans for symmetric meshes, and factoring by them: a safe wrapper over the proved planner in
-//! `libndplan.a` and the second library above it, `libndfactor.a`.
+//! Nested dissection plans for symmetric meshes, and factoring and solving by them: a safe wrapper over the proved planner
+//! in `libndplan.a` and the second library above it, `libndfactor.a`.
 //!
 //! A mesh is lent as neighbour lists. Its plan is an order of the nodes, a tree of parts, and the layout of the factor:
 //! for each column the rows that have a slot. It also carries the number of unknowns for each node, on which nothing else
 //! in it depends. The functions of this module work on the caller's memory and allocate nothing; [`Plan`] owns its memory.
 //! A [`Refusal`] has a number and says what it means. A mesh may also come as a Matrix Market text, which [`OwnedMesh`]
-//! reads. [`factor`] fills a plan of one unknown for each node.
+//! reads. [`factor`] fills a plan of one unknown for each node, [`solve`] solves by what it leaves, and [`held`] reads it.
 //!
 //! ```
-//! use ndplan::{Mesh, OwnedMesh, Pair, PairAnswer, Plan, Refusal};
+//! use ndplan::{Held, Mesh, OwnedMesh, Pair, PairAnswer, Plan, Refusal};
 //!
 //! // The path 0-1-2-3-4.
 //! let mesh = Mesh { nodes: 5, starts: &[0, 1, 3, 5, 7, 8], neighbours: &[1, 0, 2, 1, 3, 2, 4, 3] };
@@ -34,6 +34,17 @@
 //! let report = plan.factor(&mut diagonal, &mut values)?;
 //! assert_eq!((report.largest, report.operations), (2.0, plan.counts().multiplications));
 //! assert_eq!((diagonal[..4].to_vec(), values[2]), (vec![2.0, 1.5, 2.0, 1.5], -0.5));
+//!
+//! // What the factor holds at a pair of positions.
+//! assert_eq!(plan.held(&diagonal, &values, 2, 3)?, Held::Value(-0.5));
+//! assert_eq!(plan.held(&diagonal, &values, 0, 2)?, Held::NoSlot);
+//!
+//! // The solution for a load of 1 on the first node alone, which is at position 0: 5/6, 4/6, 3/6, 2/6 and 1/6 along the path.
+//! let mut vector = [1.0, 0.0, 0.0, 0.0, 0.0];
+//! plan.solve(&diagonal, &values, &mut vector)?;
+//! for (place, &node) in plan.order().iter().enumerate() {
+//!     assert!((vector[place] - f64::from(5 - node) / 6.0).abs() < 1e-15);
+//! }
 //! # Ok::<(), Refusal>(())
 //! ```
 
@@ -110,7 +121,7 @@ pub struct Counts {
     pub multiplications: u64,
 }
 
-/// A plan to be written or factored by. The slices may be longer than the counts say.
+/// A plan to be written, or factored or solved by. The slices may be longer than the counts say.
 #[derive(Clone, Copy, Debug)]
 pub struct PlanView<'a> {
     pub nodes: usize,
@@ -150,6 +161,14 @@ pub struct Report {
     pub smallest: f64,
     pub largest: f64,
     pub operations: u64,
+}
+
+/// What a factor holds at a pair of positions.
+#[derive(Clone, Copy, Debug, PartialEq)]
+pub enum Held {
+    /// The number on the diagonal, where the positions are equal, or in the pair's slot.
+    Value(f64),
+    NoSlot,
 }
 
 /// The two positions of a slot. The row is the later one.
@@ -281,6 +300,75 @@ pub fn factor(plan: &PlanView, diagonal: &mut [f64], values: &mut [f64]) -> Resu
     };
     accepted(reply.refusal)?;
     Ok(Report { smallest: reply.smallest, largest: reply.largest, operations: reply.operations })
+}
+
+/// Solves L D Lᵀ x = b by a plan of one unknown for each node and its factor, as [`factor`] left it. `vector` has exactly
+/// `plan.nodes` values, b at first and x afterwards, both by position and not by node. `diagonal`, exactly `plan.nodes` values,
+/// and `values`, exactly `plan.slots`, are only read, so one factor serves for any number of vectors.
+///
+/// Columns go in ascending order, and in each of them, for its rows ascending, l times the column's entry is subtracted from the
+/// row's. Then each entry is divided by its pivot. Then columns go in descending order, and in each of them, for its rows
+/// ascending, l times the row's entry is subtracted from the column's. Every operation rounds once, as in [`factor`], so the
+/// results are the same in every bit, but for the sign and the payload of a NaN.
+///
+/// Refuses with 28, 13, 15 to 19 as [`write`] does, with 29 where there is more than one unknown for each node, 30 where a list
+/// of values or the vector has another length, and 31 where a pivot, any one, is not both finite and above zero; what a
+/// finished [`factor`] leaves passes 31. On every refusal, 31 too, `vector` is as found. A NaN or an infinity in a slot or in the
+/// vector is no refusal: it runs through.
+pub fn solve(plan: &PlanView, diagonal: &[f64], values: &[f64], vector: &mut [f64]) -> Result<(), Refusal> {
+    // SAFETY: as in `plan`; the only slice written is `vector`.
+    let refusal = unsafe {
+        ffi::ndf_solve(
+            plan.unknowns,
+            plan.nodes,
+            plan.parts,
+            plan.slots,
+            plan.order.as_ptr(),
+            plan.order.len(),
+            plan.sizes.as_ptr(),
+            plan.sizes.len(),
+            plan.parents.as_ptr(),
+            plan.parents.len(),
+            plan.column_starts.as_ptr(),
+            plan.column_starts.len(),
+            plan.rows.as_ptr(),
+            plan.rows.len(),
+            diagonal.as_ptr(),
+            diagonal.len(),
+            values.as_ptr(),
+            values.len(),
+            vector.as_mut_ptr(),
+            vector.len(),
+        )
+    };
+    accepted(refusal)
+}
+
+/// What the factor holds at positions a and b, in either order. `diagonal` has exactly `layout.nodes` values and `values` as many
+/// as there are slots, which is the last column start, however long `rows` is. Before factoring it is the matrix that they hold.
+/// Refuses with 1, 22, 30 where either has another length, and 21. It looks at the whole layout each time.
+pub fn held(layout: &Layout, diagonal: &[f64], values: &[f64], a: usize, b: usize) -> Result<Held, Refusal> {
+    // SAFETY: each pointer and length is that of a slice, and nothing is written.
+    let reply = unsafe {
+        ffi::ndf_held(
+            layout.nodes,
+            layout.column_starts.as_ptr(),
+            layout.column_starts.len(),
+            layout.rows.as_ptr(),
+            layout.rows.len(),
+            diagonal.as_ptr(),
+            diagonal.len(),
+            values.as_ptr(),
+            values.len(),
+            a,
+            b,
+        )
+    };
+    accepted(reply.refusal)?;
+    Ok(match reply.kind {
+        ffi::NDF_NUMBER => Held::Value(reply.value),
+        _ => Held::NoSlot,
+    })
 }
 
 /// What the positions a and b have, in either order. Refuses with 1, 22 and 21. It looks at the whole layout each time.

@@ -1,7 +1,7 @@
 //! A mesh and a plan that own their memory.
 
-use crate::{factor, pair, plan, read, read_matrix_market, rows, slot, write};
-use crate::{Buffers, Counts, Layout, Mesh, MeshBuffers, Pair, PairAnswer, PlanView, Refusal, Report};
+use crate::{factor, held, pair, plan, read, read_matrix_market, rows, slot, solve, write};
+use crate::{Buffers, Counts, Held, Layout, Mesh, MeshBuffers, Pair, PairAnswer, PlanView, Refusal, Report};
 use crate::{MAX_ENTRIES, MAX_NODES, MAX_SLOTS};
 
 /// A mesh with its own memory, each list as long as it is used.
@@ -156,6 +156,17 @@ impl Plan {
     /// and 30 they are as found.
     pub fn factor(&self, diagonal: &mut [f64], values: &mut [f64]) -> Result<Report, Refusal> {
         factor(&self.view(), diagonal, values)
+    }
+
+    /// Solves by the plan and its factor, as [`solve`] does: `vector`, by position, holds the load and then the solution; `diagonal`
+    /// and `values` are what [`factor`](Plan::factor) left. Refuses with 29, 30 and 31, and then leaves `vector` as found.
+    pub fn solve(&self, diagonal: &[f64], values: &[f64], vector: &mut [f64]) -> Result<(), Refusal> {
+        solve(&self.view(), diagonal, values, vector)
+    }
+
+    /// What the factor holds at positions a and b, in either order, as [`held`] tells it. Refuses with 30 and 21.
+    pub fn held(&self, diagonal: &[f64], values: &[f64], a: usize, b: usize) -> Result<Held, Refusal> {
+        held(&self.layout(), diagonal, values, a, b)
     }
 
     fn layout(&self) -> Layout<'_, '_> {

@@ -3,8 +3,8 @@
 use crate::ffi;
 use std::fmt;
 
-/// A refusal, by its number. Every refusal but 31 leaves the lent memory as found; 31 leaves what [`factor`](crate::factor) has
-/// reached.
+/// A refusal, by its number. Every refusal leaves the lent memory as found, but for 31 of [`factor`](crate::factor), which leaves
+/// what was reached.
 #[derive(Clone, Copy, Debug, PartialEq, Eq, Hash)]
 pub struct Refusal(pub u32);
 
