@@ -3,12 +3,14 @@ use std::path::{Path, PathBuf};
 use std::process::Command;
 use std::{env, fs};
 
-const SOURCES: [&str; 6] = [
+const SOURCES: [&str; 8] = [
     "bench/plain_plan.c",
     "bench/plain_checks.c",
     "bench/plain_file.c",
     "bench/plain_text.c",
     "bench/plain_factor.c",
+    "bench/plain_solve.c",
+    "bench/plain_held.c",
     "bindings/rust/plain/src/text.c",
 ];
 const HEADERS: [&str; 4] = ["bench/plain.h", "bench/plain_checks.h", "include/ndplan.h", "include/ndfactor.h"];

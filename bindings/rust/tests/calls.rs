@@ -236,7 +236,7 @@ pub fn write_expecting(parts: &FileParts, room: usize, expected: &Result<Vec<u8>
     lent.check(parts);
 }
 
-/// A plan as the writer and the factoring are lent it, between guards.
+/// A plan as the writer, factoring and solving are lent it, between guards.
 pub struct LentPlan {
     pub order: Guarded<u16>,
     pub sizes: Guarded<u16>,

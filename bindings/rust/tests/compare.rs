@@ -11,6 +11,7 @@ mod meshes;
 mod paths;
 mod random;
 mod sentence;
+mod solve_calls;
 mod texts;
 
 mod damaged_files;
@@ -29,6 +30,7 @@ mod plans;
 mod replies;
 mod row_faults;
 mod settled;
+mod solving;
 mod versions;
 mod worked;
 mod worked_texts;

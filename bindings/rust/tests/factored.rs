@@ -14,7 +14,7 @@ use plain::{FileParts, MeshLists, Planned};
 use std::collections::BTreeSet;
 
 /// Small plans of meshes, half of them not our planner's, of one unknown for each node.
-fn plans(count: usize, size: usize, random: &mut Random) -> Vec<FileParts> {
+pub fn plans(count: usize, size: usize, random: &mut Random) -> Vec<FileParts> {
     let one = |planned: &Planned| FileParts { unknowns: 1, ..parts_of(planned) };
     small_plans(count, size, random).iter().map(one).chain((0..count).map(|_| any_layout(size, random))).collect()
 }
@@ -67,12 +67,12 @@ fn planned_operations(plan: &FileParts) -> u64 {
 }
 
 /// A number between -1 and 1 with all bits of its fraction drawn.
-fn fraction(random: &mut Random) -> f64 {
+pub fn fraction(random: &mut Random) -> f64 {
     (random.next() >> 11) as f64 / (1u64 << 52) as f64 - 1.0
 }
 
 /// A value of one of the kinds: about 1, huge, tiny, denormal, of any exponent, with few bits, or special.
-fn any_value(kind: usize, random: &mut Random) -> f64 {
+pub fn any_value(kind: usize, random: &mut Random) -> f64 {
     let sound = fraction(random);
     match kind {
         0 => sound,
@@ -97,7 +97,7 @@ fn any_value(kind: usize, random: &mut Random) -> f64 {
 }
 
 /// A diagonal that is mostly large beside the values, so that the work goes far.
-fn any_diagonal(kind: usize, n: usize, random: &mut Random) -> Vec<f64> {
+pub fn any_diagonal(kind: usize, n: usize, random: &mut Random) -> Vec<f64> {
     let scale = [n as f64, 1e300, 1e-300, 1e-308, 1.0, 40.0, 1e150, 1e3][kind];
     (0..n).map(|_| scale * (1.0 + fraction(random).abs())).collect()
 }

@@ -12,7 +12,7 @@ use std::ptr::{null, null_mut};
 const NONE: u16 = 65535;
 
 /// Document 01's mesh 4, the path 0-1-2-3-4, of one unknown for each node.
-fn mesh_4() -> FileParts {
+pub fn mesh_4() -> FileParts {
     FileParts {
         unknowns: 1,
         n: 5,
@@ -27,7 +27,7 @@ fn mesh_4() -> FileParts {
 }
 
 /// So many nodes in one part, with a slot for every pair.
-fn clique(n: usize) -> FileParts {
+pub fn clique(n: usize) -> FileParts {
     FileParts {
         unknowns: 1,
         n,
@@ -42,7 +42,7 @@ fn clique(n: usize) -> FileParts {
 }
 
 /// Nodes without neighbours: each is a part, and there are no slots.
-fn apart(n: usize) -> FileParts {
+pub fn apart(n: usize) -> FileParts {
     let (sizes, parents, column_starts) = (vec![1; n], vec![NONE; n], vec![0; n + 1]);
     FileParts {
         unknowns: 1,

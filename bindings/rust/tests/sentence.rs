@@ -1,5 +1,5 @@
-//! Factoring word for word after document 02's sentence, on a table of all pairs of positions: slow, and written apart from
-//! both the library and plain C. A subtraction at a pair of two different positions without a slot ends the program.
+//! Factoring and solving word for word after document 02's sentences, on a table of all pairs of positions: slow, and written
+//! apart from both the library and plain C. A subtraction at a pair of two different positions without a slot ends the program.
 
 use crate::factor_calls::Factoring;
 use plain::{Factored, FileParts};
@@ -74,4 +74,29 @@ pub fn by_sentence(plan: &FileParts, diagonal: &[f64], values: &[f64]) -> Factor
     });
     let (diagonal, values) = table.lists();
     Factoring { answer, diagonal, values }
+}
+
+/// Solves by a plan and its factor that pass every check before 31. Gives the solution, or 31.
+pub fn solved_by_sentence(plan: &FileParts, diagonal: &[f64], values: &[f64], vector: &[f64]) -> Result<Vec<f64>, u32> {
+    let mut table = Table::of(plan, diagonal, values);
+    let mut entries = vector.to_vec();
+    if (0..plan.n).any(|j| !table.at(j, j).is_finite() || *table.at(j, j) <= 0.0) {
+        return Err(31);
+    }
+    for column in 0..plan.n {
+        for row in table.rows(column) {
+            let product = *table.at(column, row) * entries[column];
+            entries[row] = entries[row] - product;
+        }
+    }
+    for place in 0..plan.n {
+        entries[place] = entries[place] / *table.at(place, place);
+    }
+    for column in (0..plan.n).rev() {
+        for row in table.rows(column) {
+            let product = *table.at(column, row) * entries[row];
+            entries[column] = entries[column] - product;
+        }
+    }
+    Ok(entries)
 }

@@ -52,6 +52,13 @@ pub struct NdfReport {
     pub operations: u64,
 }
 
+#[repr(C)]
+pub struct NdfHeld {
+    pub refusal: u32,
+    pub kind: u32,
+    pub value: f64,
+}
+
 extern "C" {
     pub fn plain_plan(
         unknowns: usize,
@@ -185,6 +192,43 @@ extern "C" {
         values: *mut f64,
         values_length: usize,
     ) -> NdfReport;
+
+    pub fn plain_solve(
+        unknowns: usize,
+        n: usize,
+        p: usize,
+        s: usize,
+        order: *const u16,
+        order_length: usize,
+        sizes: *const u16,
+        sizes_length: usize,
+        parents: *const u16,
+        parents_length: usize,
+        column_starts: *const u32,
+        column_starts_length: usize,
+        rows: *const u16,
+        rows_length: usize,
+        diagonal: *const f64,
+        diagonal_length: usize,
+        values: *const f64,
+        values_length: usize,
+        vector: *mut f64,
+        vector_length: usize,
+    ) -> u32;
+
+    pub fn plain_held(
+        n: usize,
+        column_starts: *const u32,
+        column_starts_length: usize,
+        rows: *const u16,
+        rows_length: usize,
+        diagonal: *const f64,
+        diagonal_length: usize,
+        values: *const f64,
+        values_length: usize,
+        a: usize,
+        b: usize,
+    ) -> NdfHeld;
 
     pub fn plain_family(number: u32) -> u32;
 

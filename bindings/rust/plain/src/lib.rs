@@ -1,9 +1,9 @@
-//! The plain C program of `bench/`, a planner, reader of files and texts, writer, answerer of questions and factoring that was
-//! written apart from the libraries, for the tests: each function takes lists and gives lists or the number of a refusal.
+//! The plain C program of `bench/`, a planner, reader of files and texts, writer, answerer of questions, factoring and solving
+//! that was written apart from the libraries, for the tests: each function takes lists and gives lists or the number of a refusal.
 
 mod ffi;
 
-use ffi::{NdfReport, NdpMesh, NdpPair, NdpPlan, NdpRows, NdpSlot, NdpWritten};
+use ffi::{NdfHeld, NdfReport, NdpMesh, NdpPair, NdpPlan, NdpRows, NdpSlot, NdpWritten};
 use std::ffi::CStr;
 use std::sync::{Mutex, MutexGuard, PoisonError};
 
@@ -248,6 +248,69 @@ pub fn factor(plan: &FileParts, diagonal: &mut [f64], values: &mut [f64]) -> Res
         )
     };
     accepted(refusal, Factored { smallest, largest, operations })
+}
+
+/// Solves in this vector, which on a refusal is as it was.
+pub fn solve(plan: &FileParts, diagonal: &[f64], values: &[f64], vector: &mut [f64]) -> Result<(), u32> {
+    let _turn = turn();
+    // SAFETY: as in `plan`.
+    let refusal = unsafe {
+        ffi::plain_solve(
+            plan.unknowns,
+            plan.n,
+            plan.p,
+            plan.s,
+            plan.order.as_ptr(),
+            plan.order.len(),
+            plan.sizes.as_ptr(),
+            plan.sizes.len(),
+            plan.parents.as_ptr(),
+            plan.parents.len(),
+            plan.column_starts.as_ptr(),
+            plan.column_starts.len(),
+            plan.rows.as_ptr(),
+            plan.rows.len(),
+            diagonal.as_ptr(),
+            diagonal.len(),
+            values.as_ptr(),
+            values.len(),
+            vector.as_mut_ptr(),
+            vector.len(),
+        )
+    };
+    accepted(refusal, ())
+}
+
+/// A layout with the values that it holds.
+#[derive(Clone, Debug)]
+pub struct Filled {
+    pub n: usize,
+    pub starts: Vec<u32>,
+    pub rows: Vec<u16>,
+    pub diagonal: Vec<f64>,
+    pub values: Vec<f64>,
+}
+
+/// The number that is held at a pair of positions, none where there is no slot.
+pub fn held(filled: &Filled, a: usize, b: usize) -> Result<Option<f64>, u32> {
+    let _turn = turn();
+    // SAFETY: each pointer and length is that of a list, and no other call runs.
+    let NdfHeld { refusal, kind, value } = unsafe {
+        ffi::plain_held(
+            filled.n,
+            filled.starts.as_ptr(),
+            filled.starts.len(),
+            filled.rows.as_ptr(),
+            filled.rows.len(),
+            filled.diagonal.as_ptr(),
+            filled.diagonal.len(),
+            filled.values.as_ptr(),
+            filled.values.len(),
+            a,
+            b,
+        )
+    };
+    accepted(refusal, (kind == 1).then_some(value))
 }
 
 /// What a pair of positions has.
