@@ -30,6 +30,7 @@ mod plans;
 mod replies;
 mod row_faults;
 mod settled;
+mod solve_refusals;
 mod solving;
 mod versions;
 mod worked;
