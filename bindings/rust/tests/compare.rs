@@ -30,6 +30,7 @@ mod list_lengths;
 mod pairs;
 mod plans;
 mod replies;
+mod residuals;
 mod row_faults;
 mod settled;
 mod solve_refusals;
