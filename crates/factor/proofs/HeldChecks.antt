@@ -13,7 +13,7 @@ use Rattle.plan.specs.declared.PairAnswer.{PairAnswer}
 use Rattle.plan.specs.declared.PairAnswer.the-variants as pair
 use Rattle.plan.specs.Lists.{isIn, indexOf, listAt}
 use Rattle.plan.specs.Refusals.{Checks, firstFault}
-use Rattle.plan.specs.Answers.{Reply, accepted, slotCase, diagonalCase, noSlotCase, pairReply, HeldReply, heldCase, emptyCase}
+use Rattle.plan.specs.Answers.{Reply, accepted, slotCase, diagonalCase, noSlotCase, pairReply, HeldReply, heldCase, slotlessCase}
 use Rattle.plan.specs.Questions.{layoutChecks, positionOutside, positionChecks, questionChecks, pairFound, pairQuestion}
 use Rattle.plan.specs.Filling.{Filling, Place, onDiagonal, inSlot, noPlace, placeBelow, placeOf, heldAt}
 use Rattle.plan.specs.Factoring.{badFilling}
@@ -220,7 +220,7 @@ module _ (n : ℕ) (starts rows : List ℕ) (f : Filling) (a b : ℕ) where
               ]
             ]
 
-        pub held-none : answer ≡ pair.NoSlot → record { number = 0; kind = emptyCase; held = [] } ≡ heldQuestion n starts rows f a b
+        pub held-none : answer ≡ pair.NoSlot → record { number = 0; kind = slotlessCase; held = [] } ≡ heldQuestion n starts rows f a b
         unfolding heldFound heldAt
         held-none e =
             let none : number ≡ 0 = rw e in

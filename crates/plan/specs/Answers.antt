@@ -73,10 +73,10 @@ pub record HeldReply : Type 0 where
 abbrev pub heldCase : ℕ
 heldCase = 1
 
-abbrev pub emptyCase : ℕ
-emptyCase = 2
+abbrev pub slotlessCase : ℕ
+slotlessCase = 2
 
 abbrev pub heldReply : HeldAnswer → HeldReply
 heldReply (held.Value x) = record { number = 0; kind = heldCase; held = x ∷ [] }
-heldReply held.NoSlot = record { number = 0; kind = emptyCase; held = [] }
+heldReply held.NoSlot = record { number = 0; kind = slotlessCase; held = [] }
 heldReply (held.Refused k) = record { number = k; kind = 0; held = [] }

@@ -4,7 +4,7 @@ use Prim.Native.Nat.{ℕ, zero, suc}
 use lib.ListN.{getD}
 use lib.Ieee.{Float}
 use Rattle.plan.specs.Refusals.{Checks, firstFault}
-use Rattle.plan.specs.Answers.{HeldReply, heldCase, emptyCase}
+use Rattle.plan.specs.Answers.{HeldReply, heldCase, slotlessCase}
 use Rattle.plan.specs.Questions.{layoutChecks, positionChecks}
 use Rattle.plan.specs.Filling.{Filling, Place, placeOf, heldAt}
 use Rattle.plan.specs.Factoring.{badFilling}
@@ -17,7 +17,7 @@ heldChecks n columnStarts rows f a b =
 -- what is answered where nothing is refused, by what is held at the pair's place: at most one number is held
 abbrev pub heldThere : List Float → HeldReply
 heldThere (x ∷ xs) = record { number = 0; kind = heldCase; held = x ∷ [] }
-heldThere [] = record { number = 0; kind = emptyCase; held = [] }
+heldThere [] = record { number = 0; kind = slotlessCase; held = [] }
 
 -- by the number of the first fault, 0 for none
 unfoldable pub heldFound : ℕ → Place → Filling → HeldReply
