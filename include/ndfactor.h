@@ -20,9 +20,9 @@
  *   division   Every vector[j] is divided by diagonal[j].
  *   backward   Columns go in descending order. In column j, for each of its rows i, ascending, (l of i) * vector[i] is subtracted from vector[j].
  *
- * THE BITS. Every quotient, every product and every difference, of both, is rounded to 64 bits, to nearest, ties to even, and denormal numbers are
- * kept; no operation is fused with another. So what is left is the same in every bit on every machine, but for NaN: where a result is NaN, its sign
- * and its other free bits are not fixed.
+ * THE BITS. In factoring and in solving every quotient, every product and every difference is rounded to 64 bits, to nearest, ties to even, and
+ * denormal numbers are kept; no operation is fused with another. So what is left is the same in every bit on every machine, but for NaN: where a
+ * result is NaN, its sign and its other free bits are not fixed.
  *
  * THE CALLS. A buffer is a pointer and a length in entries, and what ndplan.h asks of the caller under THE CALLS holds here: a pointer is valid for
  * its length and aligned, null only where the length is 0, and no buffer that is written (`diagonal` and `values` by ndf_factor, `vector` by

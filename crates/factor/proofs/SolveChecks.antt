@@ -4,7 +4,6 @@ use mathlib.Core.Bool.{true, false}
 use mathlib.Core.List.{List, [], _∷_}
 use Prim.Native.Nat.{ℕ, zero, suc}
 use native.Mathlib.Omega.{arith}
-use borrow.Author.Tests.{eqb-true, not-false}
 use lib.ListN.{length}
 use lib.Ieee.{Float}
 use Rattle.plan.specs.Refusals.{Checks, firstFault}
@@ -14,9 +13,10 @@ use Rattle.plan.specs.Writing.{used, suppliedChecks}
 use Rattle.plan.specs.Filling.{Filling}
 use Rattle.plan.specs.Factoring.{factorChecks}
 use Rattle.plan.specs.Solving.{forward, scaled, backward, solved, badVector, badPivot, solveChecks, solveOut, solving, Solved}
-use Rattle.theory.proofs.Refusals.{no-fault, no-fault-first, fault-here, fault-later, first-nil, first-some, first-none}
-use Rattle.theory.proofs.Factoring.{factor-passed, supplied-covering}
+use Rattle.theory.proofs.Refusals.{no-fault-first, fault-here, fault-later, first-nil, first-some, first-none}
+use Rattle.theory.proofs.Factoring.{factor-passed}
 use Rattle.theory.proofs.Solving.{forward-length, scaled-length}
+use Rattle.theory.proofs.SolveEntries.{SolvePassed, solve-passed}
 use Rattle.factor.specs.Passing.{Filled}
 use Rattle.factor.proofs.Checks.{slots-few, rows-long}
 
@@ -60,21 +60,20 @@ module _ (c : Contents) (f : Filling) (y : List Float) where
     unfolding solveChecks
     factor-none = no-fault-first (factorChecks c f) later none
 
-    vector-long : length y ≡ c .nodes
-    unfolding badVector
-    vector-long = eqb-true _ _ (not-false _ (no-fault 30 (badVector (c .nodes) y) _ (omega arith) (sym (left factor-none) ∙ none) .0))
+    passed : SolvePassed c y
+    passed = solve-passed c f y none
 
     -- a vector of that length can be passed through
     pub filled : (z : List Float) → length z ≡ length y → Filled (used c .columnStarts) (used c .rows) (length (f .values)) (length z)
     filled z long = record {
-      plan = rw (long ∙ vector-long) (supplied-covering c (factor-passed c f factor-none .supplied));
+      plan = rw (long ∙ passed .vector) (passed .plan);
       slots = rows-long c f factor-none ∙ sym (factor-passed c f factor-none .values);
       few = omega (arith, rows-long c f factor-none, slots-few c f factor-none);
     }
 
     -- and each entry has a pivot
     pub pivots-long : length (f .diagonal) ≡ length y
-    pivots-long = factor-passed c f factor-none .diagonal ∙ sym vector-long
+    pivots-long = factor-passed c f factor-none .diagonal ∙ sym (passed .vector)
 
     pub solve-reached : (y₁ y₂ y₃ : List Float)
         → y₁ ≡ forward (length y) (used c .columnStarts) (used c .rows) (f .values) y
@@ -83,7 +82,7 @@ module _ (c : Contents) (f : Filling) (y : List Float) where
         → Solved c f 0 y y₃
     unfolding solving solveOut solved
     solve-reached y₁ y₂ y₃ e₁ e₂ e₃ =
-        let l₁ : length y₁ ≡ c .nodes = ap length e₁ ∙ forward-length (length y) (used c .columnStarts) (used c .rows) (f .values) y ∙ vector-long in
+        let l₁ : length y₁ ≡ c .nodes = ap length e₁ ∙ forward-length (length y) (used c .columnStarts) (used c .rows) (f .values) y ∙ passed .vector in
         let l₂ : length y₂ ≡ c .nodes = ap length e₂ ∙ scaled-length (length y₁) (f .diagonal) y₁ ∙ l₁ in
         let whole : solving c f y ≡ solved (c .nodes) (used c .columnStarts) (used c .rows) f y = ap (λ (k : ℕ). solveOut k c f y) none in
-        record { number = sym none; vector = e₃ ∙ rw (l₂, e₂, l₁, e₁, vector-long) (sym whole) }
+        record { number = sym none; vector = e₃ ∙ rw (l₂, e₂, l₁, e₁, passed .vector) (sym whole) }
