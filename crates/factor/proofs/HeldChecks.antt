@@ -7,19 +7,19 @@ use Prim.Native.Nat.{ℕ, zero, suc, _+_, _-_, _<_, min, max}
 use native.Mathlib.Omega.{arith}
 use lib.Dec.{eqb}
 use lib.ListN.{length, getD}
-use lib.Ieee.{Float, nan}
+use lib.Ieee.{nan}
 use borrow.Author.Tests.{eqb-true, eq-eqb, ne-eqb, not-false}
 use Rattle.plan.specs.declared.PairAnswer.{PairAnswer}
 use Rattle.plan.specs.declared.PairAnswer.the-variants as pair
 use Rattle.plan.specs.Lists.{isIn, indexOf, listAt}
 use Rattle.plan.specs.Refusals.{Checks, firstFault}
-use Rattle.plan.specs.Answers.{Reply, accepted, slotCase, diagonalCase, noSlotCase, pairReply, HeldReply, heldCase, slotlessCase}
+use Rattle.plan.specs.Answers.{Reply, accepted, slotCase, diagonalCase, noSlotCase, pairReply, heldCase, slotlessCase}
 use Rattle.plan.specs.Questions.{layoutChecks, positionOutside, positionChecks, questionChecks, pairFound, pairQuestion}
 use Rattle.plan.specs.Filling.{Filling, Place, onDiagonal, inSlot, noPlace, placeBelow, placeOf, heldAt}
 use Rattle.plan.specs.Factoring.{badFilling}
 use Rattle.plan.specs.FactorStatements.{placeValues}
 use Rattle.plan.specs.Held.{heldChecks, heldFound, heldQuestion}
-use Rattle.theory.proofs.Bools.{cond-true, cond-false, eqb-same, tested, eq-or-ne, or-false-left, or-false-right}
+use Rattle.theory.proofs.Bools.{cond-true, cond-false, tested, eq-or-ne, or-false-left, or-false-right}
 use Rattle.theory.proofs.Lists.{isIn-head, isIn-tail, indexOf-lt}
 use Rattle.theory.proofs.Ascending.{falls-getD}
 use Rattle.theory.proofs.Refusals.{no-such, fault-here, fault-later, first-some, first-none}

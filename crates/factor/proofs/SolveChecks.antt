@@ -31,7 +31,7 @@ module _ (c : Contents) (f : Filling) (y : List Float) where
 
   -- none of them: the vector's length and the pivots are left
   module _ (passed : firstFault (factorChecks c f) ≡ 0) where
-    pub left : firstFault (solveChecks c f y) ≡ firstFault later
+    left : firstFault (solveChecks c f y) ≡ firstFault later
     unfolding solveChecks factorChecks suppliedChecks contentsChecks
     left = first-none (factorChecks c f) later refl passed
 

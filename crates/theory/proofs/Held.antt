@@ -19,7 +19,7 @@ use Rattle.theory.proofs.Refusals.{no-fault, no-fault-first, first-none
 use Rattle.theory.proofs.FactorHeld.{question-finds-place}
 
 -- a pair has one place
-pub place-either : (starts rows : List ℕ) (a b : ℕ) → placeOf starts rows a b ≡ placeOf starts rows b a
+place-either : (starts rows : List ℕ) (a b : ℕ) → placeOf starts rows a b ≡ placeOf starts rows b a
 unfolding placeOf
 place-either starts rows a b = elim (eq-or-ne a b) [
   | inl e ↦ rw e

@@ -1,17 +1,16 @@
 -- E9: what passes in turn keep, what a column's rows leave of its entry, and that what is factored to the end can be solved.
-use mathlib.Core.Path.{_≡_, refl, sym, ap, _∙_}
+use mathlib.Core.Path.{_≡_, refl, ap, _∙_}
 use mathlib.Core.Logic.{_≢_}
-use mathlib.Core.Bool.{Bool, true, false, not}
+use mathlib.Core.Bool.{false, not}
 use mathlib.Core.List.{List, [], _∷_}
 use Prim.Native.Nat.{ℕ, zero, suc, _+_, _-_, _≤_, _<_}
 use native.Mathlib.Omega.{arith}
-use lib.Dec.{eqb}
 use lib.ListN.{length, getD, set, length-set}
-use lib.Seq.{getD-set-same, getD-set-other, set-set, set-getD}
+use lib.Seq.{getD-set-same, getD-set-other, set-set}
 use lib.Ieee.{Float, nan, sub, mul, binary64}
 use lib.Ieee.Positive.{positive}
 use Rattle.plan.specs.Lists.{inTurn, upFrom, below, downFrom}
-use Rattle.plan.specs.Refusals.{Checks, firstFault}
+use Rattle.plan.specs.Refusals.{firstFault}
 use Rattle.plan.specs.Planning.{Contents}
 use Rattle.plan.specs.File.{contentsChecks}
 use Rattle.plan.specs.Writing.{used, suppliedChecks}
@@ -19,11 +18,9 @@ use Rattle.plan.specs.Filling.{Filling, slotsOf}
 use Rattle.plan.specs.Factoring.{less, badFilling, factorChecks, factorOut, factoring}
 use Rattle.plan.specs.Solving.{lessRow, forwardColumn, forward, byPivot, scaled, lessColumn, backwardColumn, backward, solved, badVector, badPivot, solveChecks, solveOut, solving}
 use Rattle.plan.specs.SolveStatements.{FactoredSolves, SolvingKeepsLength, RefusalLeavesVector}
-use Rattle.theory.specs.Covering.{Covering}
 use Rattle.theory.proofs.Bools.{eqb-same}
 use Rattle.theory.proofs.AnyLists.{none-at}
 use Rattle.theory.proofs.Refusals.{first-nil, first-none, fault-later}
-use Rattle.theory.proofs.FactorPlaces.{slot-after}
 use Rattle.theory.proofs.Factoring.{factor-passed, SameLengths, factoring-lengths}
 use Rattle.theory.proofs.FactorReport.{reports-extremes}
 
@@ -45,7 +42,7 @@ turn-end rule s to y le = let none : to - s ≡ 0 = omega arith in rw none
 abbrev pub Keeping : (ℕ → List Float → List Float) → Type 0
 Keeping rule = (k : ℕ) (y : List Float) → length (rule k y) ≡ length y
 
-pub turn-keeps : (rule : ℕ → List Float → List Float) → Keeping rule → (ks : List ℕ) (y : List Float) → length (inTurn rule ks y) ≡ length y
+turn-keeps : (rule : ℕ → List Float → List Float) → Keeping rule → (ks : List ℕ) (y : List Float) → length (inTurn rule ks y) ≡ length y
 turn-keeps rule h [] y = refl
 turn-keeps rule h (k ∷ ks) y = turn-keeps rule h ks (rule k y) ∙ h k y
 
@@ -79,7 +76,7 @@ pub scaled-length : (n : ℕ) (pivots y : List Float) → length (scaled n pivot
 unfolding scaled
 scaled-length n pivots y = turn-keeps (byPivot pivots) (byPivot-keeps pivots) (below n) y
 
-pub backward-length : (n : ℕ) (starts rows : List ℕ) (l y : List Float) → length (backward n starts rows l y) ≡ length y
+backward-length : (n : ℕ) (starts rows : List ℕ) (l y : List Float) → length (backward n starts rows l y) ≡ length y
 unfolding backward
 backward-length n starts rows l y = turn-keeps (backwardColumn starts rows l) (backwardColumn-keeps starts rows l) (downFrom n) y
 

@@ -1,10 +1,9 @@
 -- `factor::passes::backward_column` meets its contract: with x in the column's place, the rows from slot s on are left.
-use mathlib.Core.Path.{_≡_, refl, sym, ap, _∙_}
-use Prim.Native.Nat.{ℕ, _+_, _-_, _<_}
+use mathlib.Core.Path.{_≡_}
+use Prim.Native.Nat.{_+_, _-_, _<_}
 use native.Mathlib.Omega.{arith}
 use borrow.Author.Needs.{needs}
 use lib.ListN.{length, getD}
-use lib.Ieee.{nan}
 use Rattle.theory.proofs.FactorPlaces.{slot-inside, slot-after}
 use Rattle.factor.proofs.PassSteps.{Summing, summing-begins, summing-steps, summing-ends}
 use Rattle.factor.proofs.passes.backward_column.Statement.{statement}

@@ -1,5 +1,4 @@
 -- `factor::passes::backward_columns` meets its contract: the columns below j are left.
-use mathlib.Core.Path.{_≡_, _∙_}
 use Prim.Native.Nat.{_-_}
 use native.Mathlib.Omega.{arith}
 use borrow.Author.Needs.{needs}

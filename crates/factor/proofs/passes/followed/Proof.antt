@@ -1,12 +1,12 @@
 -- `factor::passes::followed` meets its contract: a column without rows is followed by none.
-use mathlib.Core.Path.{_≡_, refl, sym, _∙_}
+use mathlib.Core.Path.{_≡_, refl, sym}
 use mathlib.Core.Bool.{Bool, true, false, _&&_}
 use Prim.Native.Nat.{_+_, _-_, _<_}
 use native.Mathlib.Omega.{arith}
 use borrow.Author.Needs.{needs}
 use borrow.Author.Tests.{ne-eqb}
 use lib.Dec.{eqb}
-use lib.ListN.{length, getD}
+use lib.ListN.{getD}
 use Rattle.theory.proofs.FactorPlaces.{slot-inside, slot-after}
 use Rattle.factor.specs.Down.{continued}
 use Rattle.factor.proofs.passes.followed.Statement.{statement}

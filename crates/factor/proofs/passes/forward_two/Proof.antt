@@ -1,5 +1,5 @@
 -- `factor::passes::forward_two` meets its contract: the rows from slot s of the one column and slot t of the other on are left.
-use mathlib.Core.Path.{_≡_, refl, sym, ap, _∙_}
+use mathlib.Core.Path.{_≡_, refl, _∙_}
 use Prim.Native.Nat.{_+_, _-_, _<_}
 use native.Mathlib.Omega.{arith}
 use borrow.Author.Needs.{needs}
