@@ -4,6 +4,7 @@ use crate::counts::Counts;
 use crate::filling::Filling;
 use crate::filling::NODES;
 use crate::filling::NUMBERS;
+use crate::filling::asking;
 use crate::trial::try_filling;
 use crate::values::with_special;
 use meshes::less;
@@ -102,11 +103,12 @@ pub(crate) fn every_entry(c: Counts, f: Filling) -> Counts {
     d
 }
 
-// Each special value at each position.
+// Each special value at each position; and read at every pair of positions below 27, in either order.
 pub(crate) fn every_pivot(c: Counts, f: Filling) -> Counts {
     let mut d = c;
     for k in 0..768usize {
-        d = try_filling(d, with_special(f, k / 12, k % 12));
+        let g = with_special(f, k / 12, k % 12);
+        d = try_filling(d, asking(g, k / 27, k % 27));
     }
     d
 }

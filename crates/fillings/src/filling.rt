@@ -4,8 +4,8 @@ use meshes::Case;
 use meshes::first16;
 use meshes::first32;
 
-// Where the numbers stand: how many unknowns a node has, n, p and s, then the lengths of the lists, in their order, of both buffers and of the vector,
-// and the two positions.
+// Where the numbers stand: how many unknowns a node has, n, p and s, then the lengths of the lists, in their order, of both buffers and of the
+// vector, and the two positions.
 pub(crate) const UNKNOWNS: usize = 0;
 
 pub(crate) const NODES: usize = 1;
@@ -41,7 +41,8 @@ pub(crate) struct Filling {
 }
 
 // The plan of a mesh, which is the planner's, for `compare` finds them the same. Its lists are longer than needed, and each 0 behind them would be a
-// fault in them; its buffers have the right lengths and hold zeros, and the pair is the first of them. A plan of no nodes where the mesh has none.
+// fault in them; its buffers and the vector have the right lengths and hold zeros, and the pair is 0 and 0. A plan of no nodes where the mesh has
+// none.
 pub(crate) fn planned(c: Case) -> Filling {
     let starts = c.starts;
     let neighbours = c.neighbours;

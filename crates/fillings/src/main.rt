@@ -12,11 +12,8 @@ use crate::counts::Counts;
 use crate::counts::none;
 use crate::counts::print;
 use crate::filling::Filling;
-use crate::filling::NODES;
-use crate::filling::asking;
 use crate::filling::planned;
 use crate::filling::tight;
-use crate::solution::try_reading;
 use crate::trial::try_filling;
 use crate::values::KINDS;
 use crate::values::ZEROS;
@@ -29,18 +26,6 @@ fn every_kind(c: Counts, f: Filling, seed: u64) -> Counts {
     for kind in 0..KINDS {
         let g = with_values(f, kind, seed);
         d = try_filling(try_filling(d, g), tight(g));
-    }
-    d
-}
-
-// Every two of the positions up to n, which is none, in either order.
-fn every_pair(c: Counts, f: Filling) -> Counts {
-    let n = f.numbers[NODES];
-    let mut d = c;
-    for k in 0..4225usize {
-        if k / 65 <= n && k % 65 <= n {
-            d = try_reading(d, asking(f, k / 65, k % 65));
-        }
     }
     d
 }
@@ -72,17 +57,11 @@ fn mesh(number: u64) -> Case {
     }
 }
 
-// How many are read at every pair: those of up to five nodes, those that are damaged, and ten more.
-const ALL_PAIRS: u64 = 1042;
-
 fn every_mesh(c: Counts) -> Counts {
     let mut d = c;
     for number in 0..1332u64 {
         let f = planned(mesh(number));
         d = every_kind(d, f, number);
-        if number < ALL_PAIRS {
-            d = every_pair(d, tight(with_values(f, 0, number)));
-        }
         if number < DAMAGED {
             d = every_fault(d, f, number);
         }

@@ -1,8 +1,10 @@
 // A filling solved, and read at a pair, by the proved library and by `naive`. The buffers need not hold what factoring leaves.
 use crate::counts::Counts;
+use crate::counts::NO_SLOT;
+use crate::counts::NOT_FINITE;
 use crate::counts::Outcome;
 use crate::counts::READ;
-use crate::counts::SOLVE;
+use crate::counts::SOLVED;
 use crate::counts::counted;
 use crate::filling::DIAGONAL;
 use crate::filling::Filling;
@@ -24,134 +26,133 @@ use naive::NaiveHeld;
 use naive::NaiveSolution;
 use plan::HeldAnswer;
 
-// The library's work on a filling whose arrays of values are these, in this vector.
-fn solve(f: Filling, diagonal: [f64; 64], values: [f64; 2016], vector: &mut [f64]) -> u32 {
-    let order = f.order;
-    let sizes = f.sizes;
-    let parents = f.parents;
-    let column_starts = f.column_starts;
-    let rows = f.rows;
-    let l = f.numbers;
-    factor::solve(
-        l[UNKNOWNS],
-        l[NODES],
-        l[PARTS],
-        l[SLOTS],
-        first16(&order, l[4]),
-        first16(&sizes, l[5]),
-        first16(&parents, l[6]),
-        first32(&column_starts, l[7]),
-        first16(&rows, l[8]),
-        first64(&diagonal, l[DIAGONAL]),
-        first64(&values, l[VALUES]),
-        vector,
-    )
+// Whether what the library reads is what `naive` does.
+fn same_reading(b: HeldAnswer, w: NaiveHeld) -> bool {
+    match b {
+        HeldAnswer::Value(x) => w.refusal == 0 && w.held && same(x, w.value),
+        HeldAnswer::NoSlot => w.refusal == 0 && !w.held,
+        HeldAnswer::Refused(number) => w.refusal == number,
+    }
 }
 
-fn solve_naively(
-    f: Filling,
-    diagonal: [f64; 64],
-    values: [f64; 2016],
-    vector: &[f64],
-) -> NaiveSolution {
-    let order = f.order;
-    let sizes = f.sizes;
-    let parents = f.parents;
-    let column_starts = f.column_starts;
-    let rows = f.rows;
-    let l = f.numbers;
-    naive::solve(
-        l[UNKNOWNS],
-        l[NODES],
-        l[PARTS],
-        l[SLOTS],
-        first16(&order, l[4]),
-        first16(&sizes, l[5]),
-        first16(&parents, l[6]),
-        first32(&column_starts, l[7]),
-        first16(&rows, l[8]),
-        first64(&diagonal, l[DIAGONAL]),
-        first64(&values, l[VALUES]),
-        vector,
-    )
+fn reading_place(w: NaiveHeld) -> usize {
+    if w.refusal == 0 && !w.held {
+        return NO_SLOT;
+    }
+    READ + w.refusal as usize % 32
 }
 
-// A filling that is solved by both.
-pub(crate) fn try_solution(c: Counts, f: Filling) -> Counts {
+// The pair at positions a and b, read by both.
+fn read(
+    n: usize,
+    column_starts: &[u32],
+    rows: &[u16],
+    diagonal: &[f64],
+    values: &[f64],
+    a: usize,
+    b: usize,
+) -> Outcome {
+    let found = factor::held_at(n, column_starts, rows, diagonal, values, a, b);
+    let w = naive::held_at(n, column_starts, rows, diagonal, values, a, b);
+    Outcome {
+        place: reading_place(w),
+        same: same_reading(found, w),
+        as_planned: true,
+    }
+}
+
+// What became of both: what `naive` hands out, the library's answer to solving, and the reading.
+struct Passed {
+    solution: NaiveSolution,
+    refusal: u32,
+    reading: Outcome,
+}
+
+// The filling with these rows and buffers, solved by `naive`, then by the library in `vector`, and read.
+fn pass(f: Filling, rows: &[u16], diagonal: &[f64], values: &[f64], vector: &mut [f64]) -> Passed {
+    let order_array = f.order;
+    let sizes_array = f.sizes;
+    let parents_array = f.parents;
+    let starts_array = f.column_starts;
+    let l = f.numbers;
+    let order = first16(&order_array, l[4]);
+    let sizes = first16(&sizes_array, l[5]);
+    let parents = first16(&parents_array, l[6]);
+    let starts = first32(&starts_array, l[7]);
+    let unknowns = l[UNKNOWNS];
+    let n = l[NODES];
+    let p = l[PARTS];
+    let s = l[SLOTS];
+    Passed {
+        solution: naive::solve(
+            unknowns,
+            n,
+            p,
+            s,
+            order,
+            sizes,
+            parents,
+            starts,
+            rows,
+            diagonal,
+            values,
+            vector,
+        ),
+        refusal: factor::solve(
+            unknowns,
+            n,
+            p,
+            s,
+            order,
+            sizes,
+            parents,
+            starts,
+            rows,
+            diagonal,
+            values,
+            vector,
+        ),
+        reading: read(
+            n,
+            starts,
+            rows,
+            diagonal,
+            values,
+            l[POSITION],
+            l[POSITION_2],
+        ),
+    }
+}
+
+fn solution_place(refusal: u32, first: f64) -> usize {
+    if refusal == 0 && first - first != 0.0 {
+        return NOT_FINITE;
+    }
+    SOLVED + refusal as usize % 32
+}
+
+// A filling that is solved and read by both.
+pub(crate) fn try_passes(c: Counts, f: Filling) -> Counts {
+    let rows = f.rows;
     let diagonal = f.diagonal;
     let values = f.values;
     let found = f.vector;
-    let lent = f.numbers[VECTOR];
     let mut left = f.vector;
-    let refusal = solve(f, diagonal, values, front64(&mut left, lent));
-    let w = solve_naively(f, diagonal, values, first64(&found, lent));
-    let want = w.vector;
-    let o = Outcome {
-        asked: SOLVE,
-        refusal: w.refusal,
-        same: refusal == w.refusal && holds_diagonal(left, want, lent, found),
-        noted: want[0] - want[0] == 0.0,
-    };
-    counted(c, o)
-}
-
-fn held(refusal: u32, held: bool, value: f64) -> NaiveHeld {
-    NaiveHeld {
-        refusal: refusal,
-        held: held,
-        value: value,
-    }
-}
-
-// What the library reads.
-fn read(f: Filling) -> NaiveHeld {
-    let column_starts = f.column_starts;
-    let rows = f.rows;
-    let diagonal = f.diagonal;
-    let values = f.values;
     let l = f.numbers;
-    let answer = factor::held_at(
-        l[NODES],
-        first32(&column_starts, l[7]),
+    let lent = l[VECTOR];
+    let b = pass(
+        f,
         first16(&rows, l[8]),
         first64(&diagonal, l[DIAGONAL]),
         first64(&values, l[VALUES]),
-        l[POSITION],
-        l[POSITION_2],
+        front64(&mut left, lent),
     );
-    match answer {
-        HeldAnswer::Value(x) => held(0, true, x),
-        HeldAnswer::NoSlot => held(0, false, 0.0),
-        HeldAnswer::Refused(number) => held(number, false, 0.0),
-    }
-}
-
-fn read_naively(f: Filling) -> NaiveHeld {
-    let column_starts = f.column_starts;
-    let rows = f.rows;
-    let diagonal = f.diagonal;
-    let values = f.values;
-    let l = f.numbers;
-    naive::held_at(
-        l[NODES],
-        first32(&column_starts, l[7]),
-        first16(&rows, l[8]),
-        first64(&diagonal, l[DIAGONAL]),
-        first64(&values, l[VALUES]),
-        l[POSITION],
-        l[POSITION_2],
-    )
-}
-
-// A filling that is read at a pair by both.
-pub(crate) fn try_reading(c: Counts, f: Filling) -> Counts {
-    let b = read(f);
-    let w = read_naively(f);
+    let want = b.solution.vector;
+    let refusal = b.solution.refusal;
     let o = Outcome {
-        asked: READ,
-        refusal: w.refusal,
-        same: b.refusal == w.refusal && b.held == w.held && same(b.value, w.value),
-        noted: !w.held,
+        place: solution_place(refusal, want[0]),
+        same: b.refusal == refusal && holds_diagonal(left, want, lent, found),
+        as_planned: true,
     };
-    counted(c, o)
+    counted(counted(c, o), b.reading)
 }

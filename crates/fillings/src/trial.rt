@@ -1,6 +1,6 @@
 // A filling factored by the proved library and by `naive`, and solved and read, before it and with what it leaves.
 use crate::counts::Counts;
-use crate::counts::FACTOR;
+use crate::counts::FACTORED;
 use crate::counts::Outcome;
 use crate::counts::counted;
 use crate::filling::DIAGONAL;
@@ -10,8 +10,7 @@ use crate::filling::PARTS;
 use crate::filling::SLOTS;
 use crate::filling::UNKNOWNS;
 use crate::filling::VALUES;
-use crate::solution::try_reading;
-use crate::solution::try_solution;
+use crate::solution::try_passes;
 use meshes::first16;
 use meshes::first32;
 use naive::NaiveFactor;
@@ -162,10 +161,6 @@ fn with_left(mut f: Filling, b: Left) -> Filling {
     f
 }
 
-fn try_passes(c: Counts, f: Filling) -> Counts {
-    try_reading(try_solution(c, f), f)
-}
-
 // A filling that is factored by both, solved and read. Where buffers were changed, which 31 does too, it is solved and read with these as well.
 pub(crate) fn try_filling(c: Counts, f: Filling) -> Counts {
     let diagonal = f.diagonal;
@@ -173,10 +168,9 @@ pub(crate) fn try_filling(c: Counts, f: Filling) -> Counts {
     let b = factor(f, diagonal, values);
     let w = factor_naively(f, diagonal, values);
     let o = Outcome {
-        asked: FACTOR,
-        refusal: w.refusal,
+        place: FACTORED + w.refusal as usize % 32,
         same: agree(f, b, w),
-        noted: f.multiplications != 0 && b.operations != f.multiplications,
+        as_planned: w.refusal != 0 || f.multiplications == 0 || b.operations == f.multiplications,
     };
     let d = try_passes(counted(c, o), f);
     if w.refusal == 0 || w.refusal == 31 {

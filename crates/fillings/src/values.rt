@@ -136,6 +136,7 @@ fn values_of(kind: usize, seed: u64) -> [f64; 2016] {
     values
 }
 
+// As for slots, at places behind theirs.
 fn vector_of(kind: usize, seed: u64) -> [f64; 64] {
     let mut vector = [0.0; 64];
     for i in 0..64usize {

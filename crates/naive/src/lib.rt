@@ -1,7 +1,7 @@
 // A second planner, a second reader and writer of plan files, a second reader of Matrix Market texts, a second factorization and solution, answers to
-// questions, and the rule for uncut parts, written from documents 01 and 02 and the readings in docs/DECISIONS.md, without the book or the proved code: dense,
-// literal and small, for meshes of at most 64 nodes or texts of at most 2,200 pairs. Test programs compare the proved code with it. Proved safe; what
-// it answers is tested, and not proved.
+// questions, and the rule for uncut parts, written from documents 01 and 02 and the readings in docs/DECISIONS.md, without the book or the proved
+// code: dense, literal and small, for meshes of at most 64 nodes or texts of at most 2,200 pairs. Test programs compare the proved code with it.
+// Proved safe; what it answers is tested, and not proved.
 // Cost: every function is polynomial in 64, in 2,200 and in the lengths of what it is lent.
 mod check;
 mod cliques;

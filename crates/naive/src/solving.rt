@@ -69,7 +69,49 @@ fn unsolved(number: u32, vector: &[f64]) -> NaiveSolution {
     }
 }
 
-// What solving hands out. "Checks are those of E8 up to 30, the vector (n long) included, then 31 for every pivot, before anything is changed."
+// The solution of a plan whose checks pass.
+fn solved(
+    n: usize,
+    column_starts: &[u32],
+    rows: &[u16],
+    diagonal: &[f64],
+    values: &[f64],
+    vector: &[f64],
+) -> NaiveSolution {
+    let m = spread(n, column_starts, rows, diagonal, values);
+    let columns = columns_of(n, column_starts, rows);
+    let mut x = first_diagonal(vector);
+    forward(&mut x, &m, &columns);
+    divide(&mut x, &m, n);
+    backward(&mut x, &m, &columns);
+    NaiveSolution {
+        refusal: 0,
+        vector: x,
+    }
+}
+
+// The first of 29, 30 and 31 that fails, or 0: "the vector (n long) included, then 31 for every pivot, before anything is changed".
+fn late_refusal(
+    unknowns: usize,
+    n: usize,
+    s: usize,
+    diagonal: &[f64],
+    values: &[f64],
+    vector: &[f64],
+) -> u32 {
+    if 1 < unknowns {
+        return 29;
+    }
+    if diagonal.len() != n || values.len() != s || vector.len() != n {
+        return 30;
+    }
+    if pivots_fail(n, diagonal) {
+        return 31;
+    }
+    0
+}
+
+// What solving hands out, with the checks of the factorization first.
 pub fn solve(
     unknowns: usize,
     n: usize,
@@ -98,23 +140,9 @@ pub fn solve(
     if number != 0 {
         return unsolved(number, vector);
     }
-    if 1 < unknowns {
-        return unsolved(29, vector);
+    let late = late_refusal(unknowns, n, s, diagonal, values, vector);
+    if late != 0 {
+        return unsolved(late, vector);
     }
-    if diagonal.len() != n || values.len() != s || vector.len() != n {
-        return unsolved(30, vector);
-    }
-    if pivots_fail(n, diagonal) {
-        return unsolved(31, vector);
-    }
-    let m = spread(n, column_starts, rows, diagonal, values);
-    let columns = columns_of(n, column_starts, rows);
-    let mut x = first_diagonal(vector);
-    forward(&mut x, &m, &columns);
-    divide(&mut x, &m, n);
-    backward(&mut x, &m, &columns);
-    NaiveSolution {
-        refusal: 0,
-        vector: x,
-    }
+    solved(n, column_starts, rows, diagonal, values, vector)
 }

@@ -5,10 +5,10 @@ use Rattle.fillings.proofs.counts.print_refused.Statement.{statement}
 use Rattle.fillings.proofs.counts.print_refused.Tie as tie
 
 abbrev Inv-loop : tie.InvT-loop
-Inv-loop asked refused number₀ t6 t7 number = Unit {0}
+Inv-loop from answers number₀ t6 t7 number = Unit {0}
 
 abbrev μ-loop : tie.MeasureT-loop
-μ-loop asked refused number₀ t6 t7 number = 32 - number
+μ-loop from answers number₀ t6 t7 number = 32 - number
 
 pub print-refused-spec : {M : Type 1} → statement M
 print-refused-spec =
@@ -16,7 +16,6 @@ print-refused-spec =
     (tie.spec
     Inv-loop
     μ-loop
-    (λ c. search needs)
     (λ c. search needs)
     (λ c. search needs)
     (λ c. search needs)
