@@ -256,24 +256,25 @@ fn each_fault_alone() {
     }
 }
 
-/// Of two faults the earlier check's is told, whichever was made first. A number of unknowns cannot be 7 and 2, so the
-/// later fault of the same field is made first there.
-#[test]
-fn two_faults() {
-    for (k, (number, fault)) in FAULTS.iter().enumerate() {
-        for (_, later) in &FAULTS[k + 1..] {
+/// Of two faults the earlier check's is told. The later one is made first, since both may be of one field. Then all faults at once
+/// but those before one of them.
+pub fn the_earlier_is_told<C>(faults: &[(u32, fn(&mut C))], sound: fn() -> C, expect: fn(&C, u32)) {
+    for (k, (number, fault)) in faults.iter().enumerate() {
+        for (_, later) in &faults[k + 1..] {
             let mut case = sound();
             later(&mut case);
             fault(&mut case);
-            case.expect(*number);
+            expect(&case, *number);
         }
-    }
-    // All faults at once but those before one of them.
-    for k in 0..FAULTS.len() {
         let mut case = sound();
-        FAULTS[k..].iter().rev().for_each(|(_, fault)| fault(&mut case));
-        case.expect(FAULTS[k].0);
+        faults[k..].iter().rev().for_each(|(_, fault)| fault(&mut case));
+        expect(&case, *number);
     }
+}
+
+#[test]
+fn two_faults() {
+    the_earlier_is_told(&FAULTS, sound, Case::expect);
 }
 
 #[test]

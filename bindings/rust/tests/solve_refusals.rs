@@ -5,7 +5,7 @@ use crate::calls::NO_UNKNOWNS;
 use crate::damaged_writings::{change_an_entry, lengthen, shorten};
 use crate::factor_calls::factor;
 use crate::factored::{any_diagonal, fraction, plans};
-use crate::factoring::{apart, clique, mesh_4, NO_PIVOTS};
+use crate::factoring::{apart, clique, mesh_4, the_earlier_is_told, NO_PIVOTS};
 use crate::random::Random;
 use crate::solve_calls::{solve, solve_expecting};
 use ndplan::ffi::ndf_solve;
@@ -91,23 +91,9 @@ fn each_fault_alone() {
     }
 }
 
-/// Of two faults the earlier check's is told. The later one is made first, since both may be of one field.
 #[test]
 fn two_faults() {
-    for (k, (number, fault)) in FAULTS.iter().enumerate() {
-        for (_, later) in &FAULTS[k + 1..] {
-            let mut case = sound();
-            later(&mut case);
-            fault(&mut case);
-            case.expect(*number);
-        }
-    }
-    // All faults at once but those before one of them.
-    for k in 0..FAULTS.len() {
-        let mut case = sound();
-        FAULTS[k..].iter().rev().for_each(|(_, fault)| fault(&mut case));
-        case.expect(FAULTS[k].0);
-    }
+    the_earlier_is_told(&FAULTS, sound, Case::expect);
 }
 
 #[test]
