@@ -18,7 +18,7 @@ use Rattle.plan.specs.Solving.{lessRow, forwardColumn}
 use Rattle.theory.specs.Covering.{Covering}
 use Rattle.theory.proofs.Bools.{and-left, and-right}
 use Rattle.theory.proofs.FactorPlaces.{slot-inside, slot-row, slot-after, slot-later}
-use Rattle.theory.proofs.Solving.{turn-next, turn-end, lessRow-keeps, lessRow-entry}
+use Rattle.theory.proofs.Solving.{turn-next, turn-end, lessRow-keeps}
 use Rattle.factor.specs.Down.{continued}
 use Rattle.factor.proofs.ColumnSteps.{twin-rows}
 
@@ -30,6 +30,11 @@ set-comm (a ∷ y) zero zero u v ne = absurd (ne refl)
 set-comm (a ∷ y) zero (suc q) u v ne = refl
 set-comm (a ∷ y) (suc p) zero u v ne = refl
 set-comm (a ∷ y) (suc p) (suc q) u v ne = ap (λ (r : List Float). a ∷ r) (set-comm y p q u v (λ e. ne (ap suc e)))
+
+-- a subtraction for any column leaves the entries before the row's
+entry-stays : (rows : List ℕ) (l : List Float) (j s k : ℕ) (y : List Float) → k < getD rows s 0 → getD (lessRow rows l j s y) k nan ≡ getD y k nan
+unfolding lessRow less
+entry-stays rows l j s k y lt = getD-set-other y (getD rows s 0) k _ nan (λ e. omega (arith, e, lt))
 
 -- from different entries, none of which is a column's
 less-swap : (rows : List ℕ) (l : List Float) (j s k t : ℕ) (y : List Float) → getD rows s 0 ≢ getD rows t 0 → j ≢ getD rows t 0 → k ≢ getD rows s 0
@@ -145,15 +150,6 @@ module _ (n : ℕ) (starts rows : List ℕ) (plan : Covering n starts rows) (l :
     same = refl;
   }
 
-  -- a row's subtraction leaves every entry but the row's
-  one-entry : (s : ℕ) (y : List Float) (k : ℕ) → k < getD rows s 0 → getD (one s y) k nan ≡ getD y k nan
-  unfolding lessRow less
-  one-entry s y k lt = getD-set-other y (getD rows s 0) k _ nan (λ e. omega (arith, e, lt))
-
-  other-entry : (t : ℕ) (y : List Float) (k : ℕ) → k < getD rows t 0 → getD (other t y) k nan ≡ getD y k nan
-  unfolding lessRow less
-  other-entry t y k lt = getD-set-other y (getD rows t 0) k _ nan (λ e. omega (arith, e, lt))
-
   -- both subtractions from a row's entry
   two-less : (y : List Float) (s t : ℕ) (x z : Float) → x ≡ getD y j nan → z ≡ getD y (j + 1) nan → getD rows s 0 ≡ getD rows t 0 → getD rows t 0 < length y → j + 1 < getD rows t 0 →
       let i : ℕ = getD rows t 0 in
@@ -182,8 +178,8 @@ module _ (n : ℕ) (starts rows : List ℕ) (plan : Covering n starts rows) (l :
         high = omega (arith, lt);
         beside = omega (arith, h .beside);
         long = lessRow-keeps rows l (j + 1) t (one s y) ∙ lessRow-keeps rows l j s y ∙ h .long;
-        entry = h .entry ∙ sym (other-entry t (one s y) j (omega (arith, later)) ∙ lessRow-entry rows l j s y (omega (arith, row, later)));
-        entryNext = h .entryNext ∙ sym (lessRow-entry rows l (j + 1) t (one s y) later ∙ one-entry s y (j + 1) (omega (arith, row, later)));
+        entry = h .entry ∙ sym (entry-stays rows l (j + 1) t j (one s y) (omega (arith, later)) ∙ entry-stays rows l j s j y (omega (arith, row, later)));
+        entryNext = h .entryNext ∙ sym (entry-stays rows l (j + 1) t (j + 1) (one s y) later ∙ entry-stays rows l j s (j + 1) y (omega (arith, row, later)));
         same =
             ap (inTurn other (upFrom (t + 1) (end - (t + 1)))) (sym past)
             ∙ sym (turn-next other t end (inTurn one (upFrom (s + 1) (to - (s + 1))) (one s y)) (omega (arith, h .beside, lt, counts, rising)))
