@@ -61,13 +61,14 @@ def spelled(name, definitions):
 
 
 def main():
-    names, definitions = set(), set(WORDS)
+    names, definitions, fields = set(), set(WORDS), set()
     for path in files("crates", ".antt"):
         here = declared(read(path))
         if is_function(path):
             names.update(n for n in here if "-" not in n)
             continue
         names.update(here)
+        fields.update(n for n in re.findall(r"(?m)^ +(?:pub )?(" + NAME + r") :(?= )", re.sub(r"--[^\n]*", "", read(path))) if "-" in n)
         if "/specs/" in path:
             definitions.update(snake(n) for n in here if "-" not in n)
     table = {n: spelled(n, definitions) for n in sorted(names) if re.match(r"[a-z]", n)}
@@ -92,7 +93,7 @@ def main():
             bare = n.rstrip("'")
             if n not in table or n in own:
                 return n
-            if "-" in n and text[: m.start()].endswith("."):
+            if "-" in n and n not in fields and text[: m.start()].endswith("."):
                 return n
             return table[n]
 

@@ -77,8 +77,8 @@ extremes_first diagonal p =
 extremes_more : (diagonal : List Float) (j : ℕ) (s g : Float) → Extremes diagonal j s g → (d : Float) → d ≡ get_or diagonal j nan → positive d ≡ true
     → Extremes diagonal (suc j) (cond (lt d s) d s) (cond (lt g d) d g)
 extremes_more diagonal j s g h d e p =
-    let small : positive s ≡ true = rw h.is-smallest.2 (h.pivots h.is-smallest.0 h.is-smallest.1) in
-    let great : positive g ≡ true = rw h.is-largest.2 (h.pivots h.is-largest.0 h.is-largest.1) in
+    let small : positive s ≡ true = rw h.is_smallest.2 (h.pivots h.is_smallest.0 h.is_smallest.1) in
+    let great : positive g ≡ true = rw h.is_largest.2 (h.pivots h.is_largest.0 h.is_largest.1) in
     record {
       pivots = λ i l. elim (eq_or_ne i j) [ inl f ↦ rw (f, ← e) p | inr ne ↦ h.pivots i (omega arith) ];
       none_below = λ i l. elim (eq_or_ne i j) [
@@ -89,8 +89,8 @@ extremes_more diagonal j s g h d e p =
         | inl f ↦ rw (f, ← e) (high (lt g d) refl)
         | inr ne ↦ high_old (get_or diagonal i nan) (h.pivots i (omega arith)) (h.none_above i (omega arith)) great (lt g d) refl
       ];
-      is_smallest = one (lt d s) s h.is-smallest;
-      is_largest = one (lt g d) g h.is-largest;
+      is_smallest = one (lt d s) s h.is_smallest;
+      is_largest = one (lt g d) g h.is_largest;
     }
   where
     low : (b : Bool) → lt d s ≡ b → lt d (cond b d s) ≡ false
@@ -119,8 +119,8 @@ extremes_same d e j s g alike h = record {
   pivots = λ i l. rw (alike i l) (h.pivots i l);
   none_below = λ i l. rw (alike i l) (h.none_below i l);
   none_above = λ i l. rw (alike i l) (h.none_above i l);
-  is_smallest = (h.is-smallest.0, h.is-smallest.1, h.is-smallest.2 ∙ sym (alike h.is-smallest.0 h.is-smallest.1));
-  is_largest = (h.is-largest.0, h.is-largest.1, h.is-largest.2 ∙ sym (alike h.is-largest.0 h.is-largest.1));
+  is_smallest = (h.is_smallest.0, h.is_smallest.1, h.is_smallest.2 ∙ sym (alike h.is_smallest.0 h.is_smallest.1));
+  is_largest = (h.is_largest.0, h.is_largest.1, h.is_largest.2 ∙ sym (alike h.is_largest.0 h.is_largest.1));
 }
 
 module _ (n : ℕ) (starts rows : List ℕ) (plan : Covering n starts rows) where

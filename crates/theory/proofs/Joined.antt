@@ -49,8 +49,8 @@ unfolding new
 new_test f k a b p =
     and_both (not (eqb a b)) _ (ap not (ne_eqb a b p.apart))
     (and_both (f k a && ltb k a) _
-    (and_both (f k a) _ p.left (lt-ltb k a p.after-left))
-    (and_both (f k b) _ p.right (lt-ltb k b p.after-right)))
+    (and_both (f k a) _ p.left (lt-ltb k a p.after_left))
+    (and_both (f k b) _ p.right (lt-ltb k b p.after_right)))
 
 module _ (e : ℕ → ℕ → Bool) where
   pub joined-start : (a b : ℕ) → e a b ≡ true → JoinedAfter e 0 a b
@@ -93,7 +93,7 @@ module _ (e : ℕ → ℕ → Bool) where
     where
       up : (e a b ≡ true) ⊎ Source k a b → (e a b ≡ true) ⊎ Source (suc k) a b
       up (inl x) = inl x
-      up (inr s) = inr (record { at = s.at; before = omega (arith, s.before); new_pair = s.new-pair })
+      up (inr s) = inr (record { at = s.at; before = omega (arith, s.before); new_pair = s.new_pair })
 
       go : (JoinedAfter e k a b → (e a b ≡ true) ⊎ Source k a b) → JoinedAfter e k a b ⊎ New (joined_after e k) k a b → (e a b ≡ true) ⊎ Source (suc k) a b
       go ih (inl x) = up (ih x)

@@ -51,11 +51,11 @@ module _ (e : ℕ → ℕ → Bool) where
       go : (e j i ≡ true) ⊎ Source e j j i → (e j i ≡ true) ⊎ Shared e i j
       go (inl h) = inl h
       go (inr h) =
-          let p : New (joined_after e h.at) h.at j i = h.new-pair in
+          let p : New (joined_after e h.at) h.at j i = h.new_pair in
           inr (record {
             column = h.at;
-            low = record { later = p.after-left; joined = p.left };
-            high = record { later = p.after-right; joined = p.right };
+            low = record { later = p.after_left; joined = p.left };
+            high = record { later = p.after_right; joined = p.right };
           })
 
   pub slot_neighbour : (i j : ℕ) → j < i → e j i ≡ true → Slot e i j
