@@ -2,6 +2,8 @@
 // are written. A buffer holds 60,000 before, bytes 77. Each call tells its buffers' lengths: some are too short, some just enough, most longer, so
 // that what stands behind the entries used is seen too.
 // Cost: a fixed run; every function is linear in what it is lent, or plans or reads it once.
+#![tactic(auto)]
+
 mod files;
 mod long_lists;
 mod questions;

@@ -1,4 +1,6 @@
 // Little-endian numbers of 16 and 32 bits: read from a place in bytes, and written to the front of a part of a buffer.
+#![tactic(auto)]
+
 ghost use Rattle.std.specs.Prelude.{◌≡◌, ◌+◌, ◌-◌, ◌*◌, ◌≤◌, ◌<◌, length};
 ghost use Rattle.plan.specs.Lists.{written};
 ghost use Rattle.plan.specs.File.{encode16, encode32, encode16s, decode16, decode32, decode16s};

@@ -1,6 +1,8 @@
 // Plans some thousand meshes with the planner and with `naive`, which is written apart from it, and counts the meshes on which they differ in an
 // answer or in any entry of a lent result, and the plans with an uncut part whose nodes are not all next to one another.
 // Cost: a fixed run; every function is polynomial in 64 and in the lengths of what it is lent.
+#![tactic(auto)]
+
 mod counts;
 mod trial;
 

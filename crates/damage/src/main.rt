@@ -1,6 +1,8 @@
 // Plans written, read, damaged and asked about, in files of both versions: counts the answers, and where the proved code and `naive`, which is
 // written apart from it, differ in an answer or in any entry of a lent buffer, or where the workshop that never updates answers as it must not.
 // Cost: a fixed run; every function is polynomial in 64 and in the lengths of what it is lent.
+#![tactic(auto)]
+
 mod borders;
 mod cells;
 mod counts;

@@ -1,4 +1,6 @@
 // Nested dissection of a mesh that has passed checks 1 to 7 and 26.
+#![tactic(auto)]
+
 mod cut;
 mod degrees;
 mod levels;

@@ -34,7 +34,17 @@ pub(crate) fn refusal(
 ) -> u32
     ensures { result ≡ first_fault (factor_checks (contents unknowns n p s order.now sizes.now parents.now column_starts.now rows.now) (record { diagonal = diagonal.entry.now; values = values.now })) }
 {
-    let fault = supplied_refusal(unknowns, n, p, s, order, sizes, parents, column_starts, rows);
+    let fault = supplied_refusal(
+        unknowns,
+        n,
+        p,
+        s,
+        order,
+        sizes,
+        parents,
+        column_starts,
+        rows,
+    );
     if fault != 0 {
         return fault;
     }

@@ -1,6 +1,8 @@
 // Factors, solves and reads some 300,000 fillings of plans with the library and with `naive`, which is written apart from it: counts the answers, and
 // the fillings on which they differ in an answer, in the report or in a bit of a buffer or of the vector.
 // Cost: a fixed run; every function is polynomial in 64 and in the lengths of what it is lent.
+#![tactic(auto)]
+
 mod counts;
 mod faults;
 mod filling;

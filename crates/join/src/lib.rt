@@ -1,5 +1,7 @@
 // Two meshes joined along a list of pairs: checks 1 to 7 and 26 of the first mesh, of the second, 32 and 33, then 1, 3, 26 and 8 of the joined mesh,
 // and the joined mesh in the lent buffers.
+#![tactic(auto)]
+
 mod checks;
 mod lists;
 mod merge;

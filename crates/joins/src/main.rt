@@ -4,6 +4,8 @@
 // What could not fail here: a misreading of document 02's sentence that both share, save where an answer is known; joined meshes of over 127 nodes
 // other than those of rings.
 // Cost: a fixed run; every function is polynomial in the lengths of what it is lent.
+#![tactic(auto)]
+
 mod buffers;
 mod counts;
 mod drawn;

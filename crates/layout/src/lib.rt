@@ -1,5 +1,7 @@
 // The layout of the triangular factor of a mesh in a given order: its elimination tree, its column counts, and the rows of its columns.
 // With it are the questions over a layout, and the checks that several entry points share.
+#![tactic(auto)]
+
 mod checks;
 mod columns;
 mod counts;

@@ -1,5 +1,7 @@
 // A text by its bytes: where lines end, the next word, the next number. A place in the text stands for the bytes from it on; each scan takes a place
 // and gives the place behind what it found.
+#![tactic(auto)]
+
 ghost use Rattle.std.specs.Prelude.{◌≡◌, not, map, ◌-◌, ◌≤◌, ◌<◌, min, length, drop};
 ghost use Rattle.plan.specs.Lists.{same, segment};
 ghost use Rattle.plan.specs.MatrixMarket.{not_empty, is_blank, is_digit, lower as lowered, value_of, is_comment};

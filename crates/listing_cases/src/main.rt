@@ -1,6 +1,8 @@
 // Several inputs of the listing program in one run. Standard input is a row of cases, each a length of two bytes, little-endian, and then as many
 // bytes; the listing of each is written.
 // Cost: that of `text::list` on each case.
+#![tactic(auto)]
+
 ghost use Rattle.std.specs.Prelude.{◌≤◌, length};
 
 use libc::{STDIN_FILENO, STDOUT_FILENO};

@@ -1,4 +1,6 @@
 // The reader of Matrix Market texts, "the coordinate pattern symmetric kind": checks 23, 24, 25, 1, 3, 26 and 8, then the mesh in the lent buffers.
+#![tactic(auto)]
+
 mod banner;
 mod keys;
 mod lists;

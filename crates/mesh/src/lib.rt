@@ -1,5 +1,7 @@
 // Checks 1 to 7 and 26 of a lent mesh: n nodes, the starts of their lists, and the entries of all lists (neighbours). With them is what other
 // crates use of such lists, of arrays with a place for each node, and of a mesh that is made.
+#![tactic(auto)]
+
 mod made;
 
 ghost use Rattle.std.specs.Prelude.{◌≡◌, true, false, List, ℕ, ◌≤◌, leb, ltb, length};

@@ -1,6 +1,8 @@
 // Meshes of at most 64 nodes for the test programs, given by their edges or drawn from a seed, sound or damaged; the buffers that planners are
 // lent, and whether these hold what `naive` says. Proved safe.
 // Cost: every function is polynomial in 64 and in the lengths of what it is lent.
+#![tactic(auto)]
+
 mod buffers;
 mod damage;
 mod graph;

@@ -3,6 +3,8 @@
 // book or the proved code: dense, literal and small, for meshes of at most 64 nodes, 4,096 where they are joined, or texts of at most 2,200 pairs.
 // Test programs compare the proved code with it. Proved safe; what it answers is tested, and not proved.
 // Cost: every function is polynomial in 64, in 2,200, where meshes are joined in 4,096, and in the lengths of what it is lent.
+#![tactic(auto)]
+
 mod check;
 mod cliques;
 mod contents;

@@ -1,4 +1,6 @@
 // The C interface of the second library: factoring, the solution and the factor at a pair under C names. A slice is a pointer and a length.
+#![tactic(auto)]
+
 mod entries;
 mod replies;
 

@@ -1,5 +1,7 @@
 // The C interface: plan, read, write, the three questions, the reader of Matrix Market texts, the joining of two meshes and the family of a number
 // under C names. A slice is a pointer and a length.
+#![tactic(auto)]
+
 mod entries;
 mod replies;
 

@@ -1,4 +1,6 @@
 // The public kinds: a plan, the answers of the entry points, the report of factoring, and the family of a refusal's number.
+#![tactic(auto)]
+
 ghost use Rattle.std.specs.Prelude.{◌≡◌, cond, ◌+◌, ◌<◌, ◌^◌};
 ghost use Rattle.std.specs.Float.Ieee.{lt};
 ghost use Rattle.plan.specs.Mesh.{max_nodes, max_entries, max_neighbours, max_unknowns, no_parent};

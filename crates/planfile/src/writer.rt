@@ -96,7 +96,17 @@ pub fn write(
 ) -> WriteAnswer
     ensures { Wrote (contents unknowns n p s order.now sizes.now parents.now column_starts.now rows.now) result bytes.old bytes.new }
 {
-    let fault = supplied_refusal(unknowns, n, p, s, order, sizes, parents, column_starts, rows);
+    let fault = supplied_refusal(
+        unknowns,
+        n,
+        p,
+        s,
+        order,
+        sizes,
+        parents,
+        column_starts,
+        rows,
+    );
     if fault != 0 {
         return WriteAnswer::Refused(fault);
     }

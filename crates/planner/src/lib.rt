@@ -1,4 +1,6 @@
 // Planning: from a lent mesh to its plan in lent buffers, or the first refusal.
+#![tactic(auto)]
+
 ghost use Rattle.std.specs.Prelude.{◌≡◌, false, ◌≤◌, ◌<◌, length, take};
 ghost use mathlib.Core.List.{map, flatten};
 ghost use Rattle.plan.specs.Refusals.{first_fault};

@@ -1,4 +1,6 @@
 // For the benchmark alone: planning as far as the dissection, so that bench/ can tell the stages of planning apart. No other caller needs it.
+#![tactic(auto)]
+
 ghost use Rattle.std.specs.Prelude.{◌≡◌, cond, eqb, length};
 ghost use Rattle.plan.specs.Refusals.{first_fault};
 ghost use Rattle.plan.specs.Mesh.{lent, mesh_checks};

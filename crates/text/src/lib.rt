@@ -1,4 +1,6 @@
 // The listing program's text: from the bytes of the input to the bytes of the listing.
+#![tactic(auto)]
+
 mod input;
 mod listed;
 mod output;

@@ -4,6 +4,8 @@
 // 4,096 bytes other than those of `ring`; meshes of over 79 nodes or over 1,400 entries other than the rings that are accepted; a reader that moves
 // stale numbers about in what is not used, since they are all the same.
 // Cost: a fixed run; every function is polynomial in the lengths of what it is lent.
+#![tactic(auto)]
+
 mod counts;
 mod damage;
 mod draft;

@@ -253,7 +253,7 @@ module _ (P : List ℕ → Type 0) where
       ]
       go ih (suc j) lt a b =
           let next : k + length (parts c) + suc j ≡ suc (k + length (parts c)) + j = omega arith in
-          ih j (omega arith) (rw next at (or_false_right (eqb (k + length (parts c) + suc j) f) _ b))
+          ih j (omega arith) (ap (λ (x : ℕ). is_in x (parents_from (suc (k + length (parts c))) f r)) (sym next) ∙ or_false_right (eqb (k + length (parts c) + suc j) f) _ b)
 
 -- the nodes of part q of lists one behind the other, by order and sizes, are members of list q
 nodes_of_part_lem : (ls : List (List ℕ)) (q v : ℕ) → is_in v (nodes_of_part (flatten ls) (map length ls) q) ≡ true → is_in v (get_or ls q []) ≡ true
