@@ -3,7 +3,7 @@ use meshes::{Case, Held, Lengths, first16, first32, front16, front32};
 use naive::NaivePlan;
 
 // The refusal, or 0, whether both planners answer the same and leave the same, and whether the planner's plan keeps the rule for uncut parts.
-#[derive(Drop)]
+#[derive(Clone, Copy)]
 pub(crate) struct Outcome {
     pub(crate) refusal: u32,
     pub(crate) same: bool,

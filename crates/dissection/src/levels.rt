@@ -173,7 +173,7 @@ fn advance(
 }
 
 // What a walk tells: the number of the last level (document 01: ℓ), the node count of the widest level, and how many nodes were reached.
-#[derive(Drop)]
+#[derive(Clone, Copy)]
 pub(crate) struct Reach {
     pub(crate) last: u16,
     pub(crate) width: usize,

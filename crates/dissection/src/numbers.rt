@@ -13,7 +13,7 @@ pub(crate) const FRESH: u16 = 65535;
 pub(crate) const OUTSIDE: u16 = 65534;
 
 // What the nodes of a list become: fresh in one level and outside elsewhere; fresh where they are not outside; numbered where they are outside.
-#[derive(Drop)]
+#[derive(Clone, Copy)]
 pub(crate) enum Change {
     OnlyLevel(u16),
     RestFresh,

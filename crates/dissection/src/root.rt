@@ -13,7 +13,7 @@ use crate::levels::{label, walk};
 use crate::numbers::{Change, FRESH, OUTSIDE, fill, renumber, transfer};
 
 // A root with the number of its last level (document 01: ℓ) and the node count of its widest level.
-#[derive(Drop)]
+#[derive(Clone, Copy)]
 pub(crate) struct Root {
     pub(crate) node: u16,
     pub(crate) last: u16,

@@ -27,7 +27,7 @@ pub const HEADER: usize = 19;
 const COUNTS: usize = 12;
 
 // What a file's first bytes say: where they end and the order begins, the unknowns for each node, and how many nodes, parts and slots the plan has.
-#[derive(Drop)]
+#[derive(Clone, Copy)]
 pub struct Head {
     pub end: usize,
     pub unknowns: usize,

@@ -18,7 +18,7 @@ const PLACES: usize = 98;
 
 // What became of a filling: where it is counted, whether both answered and left the same, and whether the library counted as many operations as were
 // planned, if it factored.
-#[derive(Drop)]
+#[derive(Clone, Copy)]
 pub(crate) struct Outcome {
     pub(crate) place: usize,
     pub(crate) same: bool,

@@ -30,7 +30,7 @@ pub(crate) const ANY: usize = 99;
 pub(crate) const ITSELF: usize = 98;
 
 // A mesh as it is lent: its nodes, and how many starts and neighbours there are.
-#[derive(Drop)]
+#[derive(Clone, Copy)]
 pub(crate) struct Mesh {
     pub(crate) n: usize,
     pub(crate) starts: usize,
@@ -39,7 +39,7 @@ pub(crate) struct Mesh {
 
 // The two meshes, the lengths of the pairs' two lists and of the lent results, and what is known of the answer. So much
 // of the buffers whose fronts are lent as results is looked at.
-#[derive(Drop)]
+#[derive(Clone, Copy)]
 pub(crate) struct Lent {
     pub(crate) mesh1: Mesh,
     pub(crate) mesh2: Mesh,

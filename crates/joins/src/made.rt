@@ -68,7 +68,7 @@ pub(crate) fn put_case(
 }
 
 // A ring of n nodes, each joined to those that are at most `reach` from it on both sides.
-#[derive(Drop)]
+#[derive(Clone, Copy)]
 pub(crate) struct Ring {
     pub(crate) n: usize,
     pub(crate) reach: usize,

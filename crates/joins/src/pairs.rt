@@ -11,7 +11,7 @@ pub(crate) const MIXED: usize = 2;
 pub(crate) const DRAWN: usize = 3;
 
 // A list of nodes of a mesh of n nodes, in an order that may go by a seed.
-#[derive(Drop)]
+#[derive(Clone, Copy)]
 pub(crate) struct Order {
     pub(crate) n: usize,
     pub(crate) order: usize,

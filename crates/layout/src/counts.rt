@@ -98,7 +98,7 @@ pub fn count_rows(
 }
 
 // The number of all slots, and of the multiplications.
-#[derive(Drop)]
+#[derive(Clone, Copy)]
 pub struct Totals {
     pub slots: u32,
     pub multiplications: u64,

@@ -8,7 +8,7 @@ ghost use Rattle.plan.specs.MatrixMarket.{not_empty, is_blank, is_digit, lower a
 ghost use Rattle.lexer.specs.Suffixes.{line_ends, word_ends, behind_line, behind_blanks, behind_letters, behind_digits, behind_word, words_at, At, first_is_word, Scanned, NumberAt};
 
 // The next word as a number: whether it is one of at most 32 bits, its value, and the place behind it. Where it is none, 0 and the place as it was.
-#[derive(Drop)]
+#[derive(Clone, Copy)]
 pub struct NumberScan {
     pub found: bool,
     pub value: u64,
@@ -16,7 +16,7 @@ pub struct NumberScan {
 }
 
 // Whether something was found, and the place behind it; where it was not, the place as it was.
-#[derive(Drop)]
+#[derive(Clone, Copy)]
 pub struct Scan {
     pub found: bool,
     pub next: usize,
@@ -201,7 +201,7 @@ fn capped(v: u64) -> u64
 }
 
 // The digits from a place on: the value of all of them, 2^32 where it is beyond 32 bits, and the place behind them.
-#[derive(Drop)]
+#[derive(Clone, Copy)]
 struct DigitRun {
     value: u64,
     next: usize,

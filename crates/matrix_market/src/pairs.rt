@@ -9,7 +9,7 @@ use crate::keys::key;
 use lexer::{line_over, number};
 
 // A line of the pairs: whether it has no words, whether it holds two numbers and nothing else, these two, and the place of the next line.
-#[derive(Drop)]
+#[derive(Clone, Copy)]
 pub(crate) struct PairLine {
     pub blank: bool,
     pub good: bool,
@@ -55,7 +55,7 @@ pub(crate) fn read_pair(text: &[u8], at: usize) -> PairLine
 }
 
 // What a run over all pairs found: whether every line holds a pair, how many there are, whether one is bad (check 24), and how many are not diagonal.
-#[derive(Drop)]
+#[derive(Clone, Copy)]
 pub(crate) struct Tally {
     pub good: bool,
     pub pairs: usize,

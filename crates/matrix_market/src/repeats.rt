@@ -14,7 +14,7 @@ use crate::pairs::read_pair;
 use sorting::{contains, has_repeat, sort};
 
 // A block: how many pairs it has, and where the line behind it begins.
-#[derive(Drop)]
+#[derive(Clone, Copy)]
 struct Block {
     count: usize,
     next: usize,

@@ -8,7 +8,7 @@ use crate::banner::banner;
 use lexer::{comment, line_over, next_line, number};
 
 // What the head of a text holds: whether it is of the kind, the numbers of the size line, and where the lines of the pairs begin.
-#[derive(Drop)]
+#[derive(Clone, Copy)]
 pub(crate) struct Size {
     pub good: bool,
     pub rows: u64,

@@ -159,7 +159,7 @@ fn ascends(entries: &[u16]) -> bool
 }
 
 // The rule of a node's list that check 5, 6 or 26 is about.
-#[derive(Drop)]
+#[derive(Clone, Copy)]
 enum ListRule {
     NotItself,
     Ascending,

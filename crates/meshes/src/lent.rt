@@ -2,7 +2,7 @@
 ghost use Rattle.std.specs.Prelude.{◌≡◌, ◌+◌};
 
 // The lengths of the lent results. The rows have room for the slots and `rows_more`, less `rows_less`.
-#[derive(Drop)]
+#[derive(Clone, Copy)]
 pub struct Lengths {
     pub order: usize,
     pub positions: usize,

@@ -3,7 +3,7 @@ use crate::lent::{Case, start};
 use crate::numbers::more;
 
 // The new list of v has `count` entries: the nodes from `first` on, without v. It stands from `from` on, where the old one did up to `end`.
-#[derive(Drop)]
+#[derive(Clone, Copy)]
 struct NewList {
     v: usize,
     first: usize,

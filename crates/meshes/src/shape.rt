@@ -6,7 +6,7 @@ use plan::Plan;
 
 // A kind of mesh of n nodes. `width` is that of a grid, a band or a block, and for dense random meshes one less than the chance of an edge in tenths.
 // Edges that would give a node more than `most` neighbours are left out.
-#[derive(Drop)]
+#[derive(Clone, Copy)]
 struct Shape {
     seed: u64,
     kind: usize,

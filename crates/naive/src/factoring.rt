@@ -195,7 +195,7 @@ pub(crate) fn pivot_fails(d: f64) -> bool {
 }
 
 // How far the columns were worked through: n, or the first column whose pivot fails; and how many operations there were.
-#[derive(Drop)]
+#[derive(Clone, Copy)]
 struct Reached {
     column: usize,
     operations: u64,

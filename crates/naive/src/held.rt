@@ -4,7 +4,7 @@ use crate::lists::start;
 use crate::questions::{layout_refusal, slot_of_pair};
 
 // The answer: a refusal that is not 0, a value that is held, or neither: "there is no slot". The value is 0 where none is held.
-#[derive(Drop)]
+#[derive(Clone, Copy)]
 pub struct NaiveHeld {
     pub refusal: u32,
     pub held: bool,

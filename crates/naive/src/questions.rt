@@ -3,7 +3,7 @@ use crate::contents::rows_fail;
 use crate::lists::{end, entry, falling, start};
 
 // The answer about a pair: a refusal that is not 0, "diagonal", a slot, or none of these: "no slot".
-#[derive(Drop)]
+#[derive(Clone, Copy)]
 pub struct NaivePair {
     pub refusal: u32,
     pub diagonal: bool,
@@ -12,7 +12,7 @@ pub struct NaivePair {
 }
 
 // The answer about a slot: the refusal or 0, and its row and its column, which are 0 where it is refused.
-#[derive(Drop)]
+#[derive(Clone, Copy)]
 pub struct NaiveSlot {
     pub refusal: u32,
     pub row: usize,
@@ -20,7 +20,7 @@ pub struct NaiveSlot {
 }
 
 // The answer about a column: the refusal or 0, and where its rows begin and end, which is 0 where it is refused.
-#[derive(Drop)]
+#[derive(Clone, Copy)]
 pub struct NaiveColumn {
     pub refusal: u32,
     pub first: usize,

@@ -8,7 +8,7 @@ use plan::{FactorAnswer, HeldAnswer};
 // What factoring answers: the refusal's number, 0 for none, and the report: the smallest and the largest pivot, and the multiplications and divisions
 // done, all 0 where it is refused.
 #[repr(C)]
-#[derive(Drop)]
+#[derive(Clone, Copy)]
 pub struct NdfReport {
     pub refusal: u32,
     pub smallest: f64,
@@ -31,7 +31,7 @@ pub(crate) fn factor_reply(answer: FactorAnswer) -> NdfReport
 // What the question about the factor at a pair answers: the refusal's number, 0 for none; kind 1 where a number is held, on the diagonal or in a slot, 2
 // where there is no slot, 0 where it is refused; and the number, 0 where there is none.
 #[repr(C)]
-#[derive(Drop)]
+#[derive(Clone, Copy)]
 pub struct NdfHeld {
     pub refusal: u32,
     pub kind: u32,

@@ -8,7 +8,7 @@ use plan::{MeshAnswer, PairAnswer, PlanAnswer, RefusalFamily, SlotAnswer, WriteA
 
 // What planning and reading answer: the refusal's number, 0 for none, the counts of the plan, and its unknowns for each node.
 #[repr(C)]
-#[derive(Drop)]
+#[derive(Clone, Copy)]
 pub struct NdpPlan {
     pub refusal: u32,
     pub nodes: u32,
@@ -20,7 +20,7 @@ pub struct NdpPlan {
 
 // What writing answers: the refusal's number, 0 for none, and the file's length.
 #[repr(C)]
-#[derive(Drop)]
+#[derive(Clone, Copy)]
 pub struct NdpWritten {
     pub refusal: u32,
     pub length: u64,
@@ -29,7 +29,7 @@ pub struct NdpWritten {
 // What the pair question answers: the refusal's number, 0 for none; the kind, 1 for a slot, 2 for the diagonal, 3 for no slot; and the slot, 0 where
 // there is none.
 #[repr(C)]
-#[derive(Drop)]
+#[derive(Clone, Copy)]
 pub struct NdpSlot {
     pub refusal: u32,
     pub kind: u32,
@@ -38,7 +38,7 @@ pub struct NdpSlot {
 
 // What the column question answers: its companion's number, and where the column's rows stand in the rows buffer.
 #[repr(C)]
-#[derive(Drop)]
+#[derive(Clone, Copy)]
 pub struct NdpRows {
     pub refusal: u32,
     pub start: u32,
@@ -47,7 +47,7 @@ pub struct NdpRows {
 
 // What the question about a slot answers: the refusal's number, 0 for none, and the slot's row and column.
 #[repr(C)]
-#[derive(Drop)]
+#[derive(Clone, Copy)]
 pub struct NdpPair {
     pub refusal: u32,
     pub row: u32,
@@ -56,7 +56,7 @@ pub struct NdpPair {
 
 // What reading a text and joining answer: the refusal's number, 0 for none, and the counts of the mesh.
 #[repr(C)]
-#[derive(Drop)]
+#[derive(Clone, Copy)]
 pub struct NdpMesh {
     pub refusal: u32,
     pub nodes: u32,

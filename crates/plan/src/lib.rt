@@ -9,7 +9,7 @@ ghost use Rattle.plan.specs.Refusals.{family_of};
 ghost use Rattle.plan.specs.Factoring.{open_report, zero_report, after_column};
 
 // A plan by its counts. Its lists (order, positions, sizes, parents, column starts, rows) stand in the lent buffers.
-#[derive(Drop)]
+#[derive(Clone, Copy)]
 pub struct Plan {
     pub nodes: u32,
     pub parts: u32,
@@ -84,21 +84,21 @@ impl Plan {
 }
 
 // The answer of planning and of reading.
-#[derive(Drop)]
+#[derive(Clone, Copy)]
 pub enum PlanAnswer {
     Accepted(Plan),
     Refused(u32),
 }
 
 // The answer of writing: the length of the file, or a refusal.
-#[derive(Drop)]
+#[derive(Clone, Copy)]
 pub enum WriteAnswer {
     Written(usize),
     Refused(u32),
 }
 
 // The answer to the question about a pair of positions.
-#[derive(Drop)]
+#[derive(Clone, Copy)]
 pub enum PairAnswer {
     Slot(u32),
     Diagonal,
@@ -107,42 +107,42 @@ pub enum PairAnswer {
 }
 
 // A pair of positions that has a slot: the row is the later position, the column the earlier.
-#[derive(Drop)]
+#[derive(Clone, Copy)]
 pub struct Pair {
     pub row: u32,
     pub column: u32,
 }
 
 // The answer to the question about a slot: its pair, or a refusal.
-#[derive(Drop)]
+#[derive(Clone, Copy)]
 pub enum SlotAnswer {
     Found(Pair),
     Refused(u32),
 }
 
 // A mesh by its counts. Its starts and neighbours stand in the lent buffers.
-#[derive(Drop)]
+#[derive(Clone, Copy)]
 pub struct MeshCounts {
     pub nodes: u32,
     pub entries: u32,
 }
 
 // The answer of reading a text and of joining two meshes: the mesh that is made, or a refusal.
-#[derive(Drop)]
+#[derive(Clone, Copy)]
 pub enum MeshAnswer {
     Accepted(MeshCounts),
     Refused(u32),
 }
 
 // A span of the rows buffer (document 01: stretch), the answer to the question about a column: where it starts, and how many rows it has.
-#[derive(Drop)]
+#[derive(Clone, Copy)]
 pub struct Span {
     pub start: usize,
     pub count: usize,
 }
 
 // What factoring reports: the smallest and the largest pivot, and the multiplications and divisions done.
-#[derive(Drop)]
+#[derive(Clone, Copy)]
 pub struct Report {
     pub smallest: f64,
     pub largest: f64,
@@ -200,7 +200,7 @@ fn greater(a: f64, b: f64) -> f64
 }
 
 // The answer of factoring: the refusal's number, 0 for none, beside the report.
-#[derive(Drop)]
+#[derive(Clone, Copy)]
 pub struct FactorAnswer {
     pub refusal: u32,
     pub report: Report,
@@ -208,7 +208,7 @@ pub struct FactorAnswer {
 
 // The answer to the question what the factor holds at a pair of positions: the number on the diagonal or in the slot, that there is no slot, or a
 // refusal.
-#[derive(Drop)]
+#[derive(Clone, Copy)]
 pub enum HeldAnswer {
     Value(f64),
     NoSlot,
@@ -216,7 +216,7 @@ pub enum HeldAnswer {
 }
 
 // The family of a refusal's number.
-#[derive(Drop)]
+#[derive(Clone, Copy)]
 pub enum RefusalFamily {
     Mesh,
     File,

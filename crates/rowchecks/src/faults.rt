@@ -3,7 +3,7 @@ ghost use Rattle.std.specs.Prelude.{◌≡◌, false};
 ghost use Rattle.plan.specs.RowFaults.{walk_answer};
 
 // Whether a fault of 17's rule of the rows, and whether one of 18, stands in the columns walked so far.
-#[derive(Drop)]
+#[derive(Clone, Copy)]
 pub struct RowFaults {
     pub unordered: bool,
     pub outside: bool,

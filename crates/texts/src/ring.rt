@@ -19,7 +19,7 @@ const ENTRIES: usize = Plan::ENTRIES + 1;
 
 // A text of pairs of a ring: each of `nodes` nodes with itself, then each with the next one, then with the one behind that, and so on. The first
 // `skipped` pairs are left out; of the next `turns` pairs `count` are taken in a mixed order. Pair number `at` is given as pair `as_pair`.
-#[derive(Drop)]
+#[derive(Clone, Copy)]
 struct Ring {
     nodes: usize,
     height: usize,
@@ -85,7 +85,7 @@ fn put_text(bytes: &mut [u8], m: Ring) -> usize {
 }
 
 // What the reader is known to answer, and, where that is a mesh, how far its ring reaches: each node is joined to so many on both sides.
-#[derive(Drop)]
+#[derive(Clone, Copy)]
 struct Known {
     answer: NaiveMesh,
     reach: usize,
