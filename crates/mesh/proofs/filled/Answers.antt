@@ -2,12 +2,8 @@
 use mathlib.Core.Path.{refl}
 use Rattle.mesh.specs.Lists.{filled_with}
 use Rattle.mesh.proofs.Lists.{filled-length}
-use Rattle.mesh.proofs.filled.Statement.{statement}
-use Rattle.mesh.proofs.filled.Tie as tie
+use Rattle.mesh.proofs.filled.Goals as goal
 
-returns : tie.Need-returns
+pub returns : goal.returns
 unfolding filled_with
 returns c = (refl, filled-length c.args.x)
-
-pub filled-spec : {M : Type 1} → statement M
-filled-spec = tie.close (tie.spec returns)

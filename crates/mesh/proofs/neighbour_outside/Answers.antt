@@ -1,0 +1,25 @@
+-- `mesh::neighbour_outside` meets its contract: the loop tries each entry.
+use mathlib.Core.Path.{sym}
+use Prim.Native.Nat.{ℕ, ◌-◌}
+use native.Mathlib.Omega.{arith}
+use lib.Dec.{leb}
+use lib.ListN.{get_or}
+use borrow.Author.Tests.{le-leb, lt-leb}
+use Rattle.plan.specs.Mesh.{neighbour_outside}
+use Rattle.theory.proofs.Scans.{clear_more, element_at, found_in, none_in}
+use Rattle.mesh.proofs.neighbour_outside.Goals as goal
+
+pub returns-then-wide-n : goal.returns-then-wide-n
+unfolding neighbour_outside
+returns-then-wide-n c =
+    let w : ℕ = get_or c.args.neighbours.now c.loop-k.k 0 in
+    λ starts. sym (found_in (leb c.args.n) c.args.neighbours.now c.loop-k.k (omega arith) (le-leb c.args.n w (omega (arith, c.wide.ensures))))
+
+pub loop-k-preserved : goal.loop-k-preserved
+loop-k-preserved c =
+    let w : ℕ = get_or c.args.neighbours.now c.loop-k.k 0 in
+    clear_more (element_at (leb c.args.n) c.args.neighbours.now) c.loop-k.k c.loop-k.invariant (lt-leb c.args.n w (omega (arith, c.wide.ensures)))
+
+pub returns : goal.returns
+unfolding neighbour_outside
+returns c = λ starts. sym (none_in (leb c.args.n) c.args.neighbours.now c.loop-k.k (omega arith) c.loop-k.invariant)
