@@ -48,7 +48,7 @@ pub(crate) fn read_lent(title: u8, bytes: &[u8], lengths: [usize; 6]) {
         first16(&positions, lengths[1]),
         first16(&sizes, lengths[2]),
         first16(&parents, lengths[3]),
-        first32(&columnStarts, lengths[4]),
+        first32(&column_starts, lengths[4]),
         first16(&rows, lengths[5]),
     );
 }
@@ -68,7 +68,7 @@ pub(crate) fn write_lent(
     order: &[u16],
     sizes: &[u16],
     parents: &[u16],
-    columnStarts: &[u32],
+    column_starts: &[u32],
     rows: &[u16],
     room: usize,
 ) {
@@ -95,7 +95,7 @@ pub(crate) fn write_unknowns(
     title: u8,
     unknowns: usize,
     order: &[u16],
-    columnStarts: &[u32],
+    column_starts: &[u32],
     rows: &[u16],
     room: usize,
 ) {
@@ -120,7 +120,7 @@ pub(crate) fn write_unknowns(
 pub(crate) fn write_path(
     title: u8,
     order: &[u16],
-    columnStarts: &[u32],
+    column_starts: &[u32],
     rows: &[u16],
     room: usize,
 ) {

@@ -50,7 +50,7 @@ fn plan_lent(
         first16(&positions, length),
         first16(&sizes, length),
         first16(&parents, length),
-        first32(&columnStarts, columns),
+        first32(&column_starts, columns),
         first16(&rows, slots),
     );
 }
@@ -129,7 +129,7 @@ fn plan_bare(title: u8, n: usize) {
         &positions[Plan::NODES - 2..Plan::NODES + 1],
         &sizes[Plan::NODES - 2..Plan::NODES + 1],
         &parents[Plan::NODES - 2..Plan::NODES + 1],
-        &columnStarts[Plan::NODES - 1..Plan::NODES + 2],
+        &column_starts[Plan::NODES - 1..Plan::NODES + 2],
         &rows,
     );
 }

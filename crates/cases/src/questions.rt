@@ -4,13 +4,13 @@ use meshes::print_number;
 use plan::Plan;
 
 // The question about a pair of positions.
-fn ask_pair(title: u8, n: usize, columnStarts: &[u32], rows: &[u16], a: usize, b: usize) {
+fn ask_pair(title: u8, n: usize, column_starts: &[u32], rows: &[u16], a: usize, b: usize) {
     print_title(title);
     print_slot_of_pair(layout::slot_of_pair(n, column_starts, rows, a, b));
 }
 
 // The question about a column: its companion's number, and the rows.
-fn ask_column(title: u8, n: usize, columnStarts: &[u32], rows: &[u16], j: usize) {
+fn ask_column(title: u8, n: usize, column_starts: &[u32], rows: &[u16], j: usize) {
     print_title(title);
     print_number(layout::column_refusal(n, column_starts, rows, j) as usize);
     print_numbers(layout::column_rows(n, column_starts, rows, j));

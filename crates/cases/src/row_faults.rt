@@ -9,7 +9,7 @@ fn branches_file() -> [u8; 62] {
 }
 
 // The same parts with these lists, written.
-fn write_branches(title: u8, parents: &[u16], columnStarts: &[u32], rows: &[u16]) {
+fn write_branches(title: u8, parents: &[u16], column_starts: &[u32], rows: &[u16]) {
     let order = [3, 1, 0, 2];
     let sizes = [1, 1, 1, 1];
     write_lent(

@@ -73,7 +73,7 @@ pub(crate) fn print_buffers(
     positions: &[u16],
     sizes: &[u16],
     parents: &[u16],
-    columnStarts: &[u32],
+    column_starts: &[u32],
     rows: &[u16],
 ) {
     print_numbers(order);

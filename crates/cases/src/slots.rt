@@ -4,7 +4,7 @@ use meshes::first32;
 use plan::Plan;
 
 // The question about a slot.
-fn ask_slot(title: u8, n: usize, columnStarts: &[u32], rows: &[u16], s: usize) {
+fn ask_slot(title: u8, n: usize, column_starts: &[u32], rows: &[u16], s: usize) {
     print_title(title);
     print_pair_of_slot(layout::pair_of_slot(n, column_starts, rows, s));
 }

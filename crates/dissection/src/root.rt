@@ -3,7 +3,7 @@ ghost use Rattle.std.specs.Prelude.{◌≡◌, true, false, ◌&&◌, ◌||◌, 
 ghost use mathlib.Core.List.{[], head_d};
 ghost use Rattle.plan.specs.Lists.{is_in, keep};
 ghost use Rattle.plan.specs.Mesh.{lent};
-ghost use Rattle.plan.specs.Choice.{candidates as candidatesOf, improves, next_root, root_of};
+ghost use Rattle.plan.specs.Choice.{candidates as candidates_of, improves, next_root, root_of};
 ghost use Rattle.dissection.specs.Numbers.{Only};
 ghost use Rattle.dissection.specs.Standing.{Regional, Standing};
 ghost use Rattle.dissection.specs.Rooted.{Rooted, Measured, Better};
@@ -44,7 +44,7 @@ fn candidates(
 ) -> usize
     requires regional { Regional (lent n starts.now neighbours.now) nodes.now trial.old queue.old × (n ≤ length levels.now) × (n < length found.old) }
     requires rooted { Rooted (lent n starts.now neighbours.now) nodes.now root.node root.last × Standing (lent n starts.now neighbours.now) nodes.now root.node levels.now }
-    ensures { (take result found.new ≡ candidatesOf (lent n starts.now neighbours.now) nodes.now root.node) × (result ≤ n) × Only n nodes.now trial.new }
+    ensures { (take result found.new ≡ candidates_of (lent n starts.now neighbours.now) nodes.now root.node) × (result ≤ n) × Only n nodes.now trial.new }
 {
     transfer(nodes, levels, trial);
     renumber(nodes, Change::OnlyLevel(root.last), trial);

@@ -27,7 +27,7 @@ pub(crate) fn refusal(
     order: &[u16],
     sizes: &[u16],
     parents: &[u16],
-    columnStarts: &[u32],
+    column_starts: &[u32],
     rows: &[u16],
     diagonal: &[f64],
     values: &[f64],
@@ -67,7 +67,7 @@ pub fn factor(
     order: &[u16],
     sizes: &[u16],
     parents: &[u16],
-    columnStarts: &[u32],
+    column_starts: &[u32],
     rows: &[u16],
     diagonal: &mut [f64],
     values: &mut [f64],
@@ -93,5 +93,5 @@ pub fn factor(
         return refused(fault);
     }
     let end = n + 1;
-    factor_columns(&columnStarts[..end], &rows[..s], diagonal, values)
+    factor_columns(&column_starts[..end], &rows[..s], diagonal, values)
 }

@@ -23,7 +23,7 @@ fn refused_before(answer: PairAnswer) -> u32
 // The number held at a pair of positions, in either order, or that there is no slot. Checks 1, 22, 30, 21. O(n + slots).
 pub fn held_at(
     n: usize,
-    columnStarts: &[u32],
+    column_starts: &[u32],
     rows: &[u16],
     diagonal: &[f64],
     values: &[f64],

@@ -113,9 +113,9 @@ pub(crate) fn continues(starts: &[u32], rows: &[u16], k: usize, next: usize) -> 
     if wide(rows[start]) != next {
         return false;
     }
-    let rowsOfK = index(starts[k + 1]) - start;
-    let rowsOfNext = index(starts[next + 1]) - index(starts[next]);
-    rowsOfK == rowsOfNext + 1
+    let rows_of_k = index(starts[k + 1]) - start;
+    let rows_of_next = index(starts[next + 1]) - index(starts[next]);
+    rows_of_k == rows_of_next + 1
 }
 
 // The row in slot s, with itself and with the rows behind it, which are the first of its column: l of each times v of the row is subtracted at the pair.

@@ -31,7 +31,7 @@ fn solve_refusal(
     order: &[u16],
     sizes: &[u16],
     parents: &[u16],
-    columnStarts: &[u32],
+    column_starts: &[u32],
     rows: &[u16],
     diagonal: &[f64],
     values: &[f64],
@@ -74,7 +74,7 @@ pub fn solve(
     order: &[u16],
     sizes: &[u16],
     parents: &[u16],
-    columnStarts: &[u32],
+    column_starts: &[u32],
     rows: &[u16],
     diagonal: &[f64],
     values: &[f64],
@@ -101,7 +101,7 @@ pub fn solve(
         return fault;
     }
     let end = n + 1;
-    let starts = &columnStarts[..end];
+    let starts = &column_starts[..end];
     let slots = &rows[..s];
     forward_columns(starts, slots, values, vector);
     scale(diagonal, vector);

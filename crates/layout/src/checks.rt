@@ -15,7 +15,7 @@ pub fn buffers_too_short(
     positions: usize,
     sizes: usize,
     parents: usize,
-    columnStarts: usize,
+    column_starts: usize,
 ) -> bool
     ensures { result ≡ buffers_too_short n (lengths order positions sizes parents column_starts 0) }
 {
@@ -53,7 +53,7 @@ pub fn bad_column(n: usize, j: usize, column: &[u16]) -> bool
 }
 
 // Whether some column breaks 17's rule. O(n + slots).
-fn bad_columns(n: usize, columnStarts: &[u32], rows: &[u16]) -> bool
+fn bad_columns(n: usize, column_starts: &[u32], rows: &[u16]) -> bool
     requires { (bad_starts n column_starts.now ≡ false) × (get_or column_starts.now n 0 ≤ length rows.now) }
     ensures { result ≡ bad_columns n column_starts.now rows.now }
 {
@@ -66,7 +66,7 @@ fn bad_columns(n: usize, columnStarts: &[u32], rows: &[u16]) -> bool
 }
 
 // Check 22: the starts are not those of n columns, the last is above the rows' length, or a column breaks 17's rule. O(n + slots).
-fn bad_layout(n: usize, columnStarts: &[u32], rows: &[u16]) -> bool
+fn bad_layout(n: usize, column_starts: &[u32], rows: &[u16]) -> bool
     ensures { result ≡ bad_layout n column_starts.now rows.now }
 {
     if bad_starts(n, column_starts) {
@@ -79,7 +79,7 @@ fn bad_layout(n: usize, columnStarts: &[u32], rows: &[u16]) -> bool
 }
 
 // The first refusal of checks 1 and 22, 0 for none. O(n + slots).
-pub(crate) fn layout_refusal(n: usize, columnStarts: &[u32], rows: &[u16]) -> u32
+pub(crate) fn layout_refusal(n: usize, column_starts: &[u32], rows: &[u16]) -> u32
     ensures { result ≡ first_fault (layout_checks n column_starts.now rows.now) }
 {
     if bad_node_count(n) {

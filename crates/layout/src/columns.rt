@@ -66,7 +66,7 @@ pub fn mark_rows(rows: &[u16], j: u16, marks: &mut [u16])
 fn mark_children(
     n: usize,
     tree: &[u16],
-    columnStarts: &[u32],
+    column_starts: &[u32],
     rows: &[u16],
     first: &[u16],
     next: &[u16],
@@ -130,7 +130,7 @@ fn add_column(
     tree: &[u16],
     first: &[u16],
     next: &[u16],
-    columnStarts: &[u32],
+    column_starts: &[u32],
     j: usize,
     marks: &mut [u16],
     rows: &mut [u16],
@@ -155,7 +155,7 @@ pub fn write_columns(
     order: &[u16],
     positions: &[u16],
     tree: &[u16],
-    columnStarts: &[u32],
+    column_starts: &[u32],
     rows: &mut [u16],
 )
     requires ordered { Ordered (lent n starts.now neighbours.now) order.now positions.now × (n ≤ length tree.now) × Tree (lent n starts.now neighbours.now) order.now tree.now }

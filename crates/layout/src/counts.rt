@@ -123,7 +123,7 @@ pub fn sum(n: usize, counts: &[u16]) -> Totals
 }
 
 // Where each column's rows start, and behind the last one the number of all slots. O(n).
-pub fn write_starts(n: usize, counts: &[u16], columnStarts: &mut [u32])
+pub fn write_starts(n: usize, counts: &[u16], column_starts: &mut [u32])
     requires { (n ≤ max_nodes) × (n ≤ length counts.now) × (n < length column_starts.old) }
     ensures { column_starts.new ≡ written (running_sums 0 (take n counts.now)) column_starts.old }
 {

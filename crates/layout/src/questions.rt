@@ -11,7 +11,7 @@ use mesh::{index, list, lower_bound, wide};
 use plan::{PairAnswer, Span};
 
 // The slot of row i of column j, if it has one. O(log rows of the column).
-fn slot(columnStarts: &[u32], rows: &[u16], i: usize, j: usize) -> PairAnswer
+fn slot(column_starts: &[u32], rows: &[u16], i: usize, j: usize) -> PairAnswer
     requires { ListWithin column_starts.now rows.now j × (ascending (list_at column_starts.now rows.now j) ≡ true) }
     ensures { pair_reply result ≡ accepted (slot_of column_starts.now rows.now i j) }
 {
@@ -27,7 +27,7 @@ fn slot(columnStarts: &[u32], rows: &[u16], i: usize, j: usize) -> PairAnswer
 }
 
 // The first question: the slot of a pair of positions, in either order. Checks 1, 22, 21. O(n + slots).
-pub fn slot_of_pair(n: usize, columnStarts: &[u32], rows: &[u16], a: usize, b: usize) -> PairAnswer
+pub fn slot_of_pair(n: usize, column_starts: &[u32], rows: &[u16], a: usize, b: usize) -> PairAnswer
     ensures { pair_reply result ≡ pair_question n column_starts.now rows.now a b }
 {
     let fault = layout_refusal(n, column_starts, rows);
@@ -50,7 +50,7 @@ pub fn slot_of_pair(n: usize, columnStarts: &[u32], rows: &[u16], a: usize, b: u
 }
 
 // The companion of the second question: its refusal, 0 for none. Checks 1, 22, 21. O(n + slots).
-pub fn column_refusal(n: usize, columnStarts: &[u32], rows: &[u16], j: usize) -> u32
+pub fn column_refusal(n: usize, column_starts: &[u32], rows: &[u16], j: usize) -> u32
     ensures { result ≡ column_refusal n column_starts.now rows.now j }
 {
     let fault = layout_refusal(n, column_starts, rows);
@@ -64,7 +64,7 @@ pub fn column_refusal(n: usize, columnStarts: &[u32], rows: &[u16], j: usize) ->
 }
 
 // Where column j's rows stand in the rows buffer; start 0 and count 0 where the question is refused. O(n + slots).
-pub fn column_span(n: usize, columnStarts: &[u32], rows: &[u16], j: usize) -> Span
+pub fn column_span(n: usize, column_starts: &[u32], rows: &[u16], j: usize) -> Span
     ensures { result ≡ column_span n column_starts.now rows.now j }
 {
     if column_refusal(n, column_starts, rows, j) != 0 {
@@ -79,7 +79,7 @@ pub fn column_span(n: usize, columnStarts: &[u32], rows: &[u16], j: usize) -> Sp
 }
 
 // The second question: column j's rows, "shown as a stretch of the rows buffer itself"; empty where it is refused. O(n + slots).
-pub fn column_rows<'a>(n: usize, columnStarts: &[u32], rows: &'a [u16], j: usize) -> &'a [u16]
+pub fn column_rows<'a>(n: usize, column_starts: &[u32], rows: &'a [u16], j: usize) -> &'a [u16]
     ensures { result.now ≡ column_rows n column_starts.now rows.now j }
 {
     let span = column_span(n, column_starts, rows, j);

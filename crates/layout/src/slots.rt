@@ -10,7 +10,7 @@ use plan::{Pair, SlotAnswer};
 
 // The column that holds slot s: the last that starts at s or before, since a column without rows starts where the next one does.
 // By bisection: start `low` is not above s, and start `high` is; start n is the number of slots. O(log n).
-fn column_of(n: usize, columnStarts: &[u32], s: usize) -> usize
+fn column_of(n: usize, column_starts: &[u32], s: usize) -> usize
     requires { (bad_starts n column_starts.now ≡ false) × (s < get_or column_starts.now n 0) }
     ensures { result ≡ column_of n column_starts.now s }
 {
@@ -30,7 +30,7 @@ fn column_of(n: usize, columnStarts: &[u32], s: usize) -> usize
 
 // The question about slot s: its row, which is the later position, and its column. Checks 1, 22, 27.
 // O(n + slots) for the checks, O(log n) behind them.
-pub fn pair_of_slot(n: usize, columnStarts: &[u32], rows: &[u16], s: usize) -> SlotAnswer
+pub fn pair_of_slot(n: usize, column_starts: &[u32], rows: &[u16], s: usize) -> SlotAnswer
     ensures { slot_reply result ≡ slot_question n column_starts.now rows.now s }
 {
     let fault = layout_refusal(n, column_starts, rows);

@@ -20,7 +20,7 @@ pub extern "C" fn ndf_factor(
     order: &[u16],
     sizes: &[u16],
     parents: &[u16],
-    columnStarts: &[u32],
+    column_starts: &[u32],
     rows: &[u16],
     diagonal: &mut [f64],
     values: &mut [f64],
@@ -54,7 +54,7 @@ pub extern "C" fn ndf_solve(
     order: &[u16],
     sizes: &[u16],
     parents: &[u16],
-    columnStarts: &[u32],
+    column_starts: &[u32],
     rows: &[u16],
     diagonal: &[f64],
     values: &[f64],
@@ -83,7 +83,7 @@ pub extern "C" fn ndf_solve(
 #[unsafe(no_mangle)]
 pub extern "C" fn ndf_held(
     n: usize,
-    columnStarts: &[u32],
+    column_starts: &[u32],
     rows: &[u16],
     diagonal: &[f64],
     values: &[f64],

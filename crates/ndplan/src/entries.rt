@@ -33,7 +33,7 @@ pub extern "C" fn ndp_plan(
     positions: &mut [u16],
     sizes: &mut [u16],
     parents: &mut [u16],
-    columnStarts: &mut [u32],
+    column_starts: &mut [u32],
     rows: &mut [u16],
 ) -> NdpPlan
     ensures { Planned unknowns (lent n starts.now neighbours.now) (plan_answer_of result)
@@ -63,7 +63,7 @@ pub extern "C" fn ndp_read(
     positions: &mut [u16],
     sizes: &mut [u16],
     parents: &mut [u16],
-    columnStarts: &mut [u32],
+    column_starts: &mut [u32],
     rows: &mut [u16],
 ) -> NdpPlan
     ensures { Filled (reading file.now (capacity (buffers order.old positions.old sizes.old parents.old column_starts.old rows.old))) (plan_answer_of result)
@@ -84,7 +84,7 @@ pub extern "C" fn ndp_write(
     order: &[u16],
     sizes: &[u16],
     parents: &[u16],
-    columnStarts: &[u32],
+    column_starts: &[u32],
     rows: &[u16],
     file: &mut [u8],
 ) -> NdpWritten
@@ -109,7 +109,7 @@ pub extern "C" fn ndp_write(
 #[unsafe(no_mangle)]
 pub extern "C" fn ndp_slot(
     n: usize,
-    columnStarts: &[u32],
+    column_starts: &[u32],
     rows: &[u16],
     a: usize,
     b: usize,
@@ -121,7 +121,7 @@ pub extern "C" fn ndp_slot(
 
 // The second question and its companion, over one look at the layout. O(n + slots).
 #[unsafe(no_mangle)]
-pub extern "C" fn ndp_rows(n: usize, columnStarts: &[u32], rows: &[u16], j: usize) -> NdpRows
+pub extern "C" fn ndp_rows(n: usize, column_starts: &[u32], rows: &[u16], j: usize) -> NdpRows
     ensures { result ≡ ndp_rows (column_refusal n column_starts.now rows.now j) (column_span n column_starts.now rows.now j) }
 {
     let refusal = column_refusal(n, column_starts, rows, j);
@@ -142,7 +142,7 @@ pub extern "C" fn ndp_rows(n: usize, columnStarts: &[u32], rows: &[u16], j: usiz
 
 // The question about a slot, as layout::pair_of_slot answers it. O(n + slots).
 #[unsafe(no_mangle)]
-pub extern "C" fn ndp_pair(n: usize, columnStarts: &[u32], rows: &[u16], slot: usize) -> NdpPair
+pub extern "C" fn ndp_pair(n: usize, column_starts: &[u32], rows: &[u16], slot: usize) -> NdpPair
     ensures { result ≡ ndp_pair (slot_question n column_starts.now rows.now slot) }
 {
     slot_reply(pair_of_slot(n, column_starts, rows, slot))

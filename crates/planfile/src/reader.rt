@@ -27,7 +27,7 @@ fn decoded_refusal(
     order: &[u16],
     sizes: &[u16],
     parents: &[u16],
-    columnStarts: &[u32],
+    column_starts: &[u32],
 ) -> u32
     requires headed { Headed bytes.now end n p s }
     requires order_value { (order.now ≡ (parse bytes.now).order) × (sizes.now ≡ (parse bytes.now).sizes) × (parents.now ≡ (parse bytes.now).parents) × (column_starts.now ≡ (parse bytes.now).column_starts) }
@@ -98,10 +98,10 @@ fn contents_refusal(bytes: &[u8], end: usize, n: usize, p: usize, s: usize, coun
     let mut column_starts = zero_starts();
     read_order_and_parts(bytes, end, n, p, s, &mut order, &mut sizes, &mut parents);
     write_starts(n, counts, &mut column_starts);
-    let orderAll = &order[..];
-    let sizesAll = &sizes[..];
-    let parentsAll = &parents[..];
-    let startsAll = &columnStarts[..];
+    let order_all = &order[..];
+    let sizes_all = &sizes[..];
+    let parents_all = &parents[..];
+    let starts_all = &column_starts[..];
     let starts = n + 1;
     decoded_refusal(
         bytes,
@@ -109,10 +109,10 @@ fn contents_refusal(bytes: &[u8], end: usize, n: usize, p: usize, s: usize, coun
         n,
         p,
         s,
-        &orderAll[..n],
-        &sizesAll[..p],
-        &parentsAll[..p],
-        &startsAll[..starts],
+        &order_all[..n],
+        &sizes_all[..p],
+        &parents_all[..p],
+        &starts_all[..starts],
     )
 }
 
@@ -129,7 +129,7 @@ fn read_checked(
     positions: &mut [u16],
     sizes: &mut [u16],
     parents: &mut [u16],
-    columnStarts: &mut [u32],
+    column_starts: &mut [u32],
     rows: &mut [u16],
 ) -> PlanAnswer
     requires headed { Headed bytes.now end n p s × (n ≤ length counts.now) × (take n counts.now ≡ row_counts_in bytes.now) × (first_fault (contents_checks (parse bytes.now)) ≡ 0) }
@@ -174,7 +174,7 @@ fn read_headed(
     positions: &mut [u16],
     sizes: &mut [u16],
     parents: &mut [u16],
-    columnStarts: &mut [u32],
+    column_starts: &mut [u32],
     rows: &mut [u16],
 ) -> PlanAnswer
     requires { (first_fault (header_checks bytes.now) ≡ 0) × (max_nodes ≤ length counts.old) }
@@ -217,7 +217,7 @@ pub fn read(
     positions: &mut [u16],
     sizes: &mut [u16],
     parents: &mut [u16],
-    columnStarts: &mut [u32],
+    column_starts: &mut [u32],
     rows: &mut [u16],
 ) -> PlanAnswer
     ensures { Filled (reading bytes.now (capacity (buffers order.old positions.old sizes.old parents.old column_starts.old rows.old))) result

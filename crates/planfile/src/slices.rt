@@ -19,7 +19,7 @@ fn bad_supply(
     order: &[u16],
     sizes: &[u16],
     parents: &[u16],
-    columnStarts: &[u32],
+    column_starts: &[u32],
     rows: &[u16],
 ) -> bool
     ensures { result ≡ bad_supply (listed n p s order.now sizes.now parents.now column_starts.now rows.now) }
@@ -48,7 +48,7 @@ fn contents_refusal(
     order: &[u16],
     sizes: &[u16],
     parents: &[u16],
-    columnStarts: &[u32],
+    column_starts: &[u32],
     rows: &[u16],
 ) -> u32
     requires { Exact (listed n (length sizes.now) (length rows.now) order.now sizes.now parents.now column_starts.now rows.now) }
@@ -84,7 +84,7 @@ pub fn supplied_refusal(
     order: &[u16],
     sizes: &[u16],
     parents: &[u16],
-    columnStarts: &[u32],
+    column_starts: &[u32],
     rows: &[u16],
 ) -> u32
     ensures { result ≡ first_fault (supplied_checks (contents unknowns n p s order.now sizes.now parents.now column_starts.now rows.now)) }
@@ -101,7 +101,7 @@ pub fn supplied_refusal(
         &order[..n],
         &sizes[..p],
         &parents[..p],
-        &columnStarts[..end],
+        &column_starts[..end],
         &rows[..s],
     )
 }

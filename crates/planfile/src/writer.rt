@@ -43,7 +43,7 @@ fn write_parts(sizes: &[u16], parents: &[u16], bytes: &mut [u8])
 }
 
 // The row count of each column. O(n).
-fn write_row_counts(n: usize, columnStarts: &[u32], bytes: &mut [u8])
+fn write_row_counts(n: usize, column_starts: &[u32], bytes: &mut [u8])
     requires { (length column_starts.now ≡ n + 1) × NarrowColumns n column_starts.now × (2 * n ≤ length bytes.old) }
     ensures { bytes.new ≡ written (encode16s (row_counts (parts_and_rows n [] [] column_starts.now []))) bytes.old }
 {
@@ -61,7 +61,7 @@ fn write_plan(
     order: &[u16],
     sizes: &[u16],
     parents: &[u16],
-    columnStarts: &[u32],
+    column_starts: &[u32],
     rows: &[u16],
     bytes: &mut [u8],
 )
@@ -70,14 +70,14 @@ fn write_plan(
     requires rows_in_bounds { file_length (contents unknowns n (length sizes.now) (length rows.now) order.now sizes.now parents.now column_starts.now rows.now) ≤ length bytes.old }
     ensures { bytes.new ≡ written (encode (contents unknowns n (length sizes.now) (length rows.now) order.now sizes.now parents.now column_starts.now rows.now)) bytes.old }
 {
-    let partsAt = HEADER + 2 * n;
-    let counts_at = partsAt + 4 * sizes.len();
-    let rowsAt = counts_at + 2 * n;
+    let parts_at = HEADER + 2 * n;
+    let counts_at = parts_at + 4 * sizes.len();
+    let rows_at = counts_at + 2 * n;
     write_header(unknowns, n, sizes.len(), rows.len(), bytes);
     write16s(order, &mut bytes[HEADER..]);
-    write_parts(sizes, parents, &mut bytes[partsAt..]);
+    write_parts(sizes, parents, &mut bytes[parts_at..]);
     write_row_counts(n, column_starts, &mut bytes[counts_at..]);
-    write16s(rows, &mut bytes[rowsAt..]);
+    write16s(rows, &mut bytes[rows_at..]);
 }
 
 // Writing: checks 28, 13, 15 to 19 and 8 in this order, then the bytes, and the file's length is returned; slices may be longer than their counts say.
@@ -90,7 +90,7 @@ pub fn write(
     order: &[u16],
     sizes: &[u16],
     parents: &[u16],
-    columnStarts: &[u32],
+    column_starts: &[u32],
     rows: &[u16],
     bytes: &mut [u8],
 ) -> WriteAnswer
@@ -121,7 +121,7 @@ pub fn write(
         &order[..n],
         &sizes[..p],
         &parents[..p],
-        &columnStarts[..end],
+        &column_starts[..end],
         &rows[..s],
         bytes,
     );

@@ -7,7 +7,7 @@ ghost use Rattle.plan.specs.Refusals.{first_fault};
 ghost use Rattle.plan.specs.Planning.{bad_unknowns, buffers_too_short, lengths, buffers, Planned};
 ghost use Rattle.plan.specs.Lists.{written};
 ghost use Rattle.plan.specs.Mesh.{lent};
-ghost use Rattle.plan.specs.Dissection.{positions as positionsOf};
+ghost use Rattle.plan.specs.Dissection.{positions as positions_of};
 ghost use Rattle.plan.specs.Elimination.{columns, starts_of};
 ghost use Rattle.theory.specs.Counting.{Order};
 ghost use Rattle.theory.specs.Checked.{Checked};
@@ -29,7 +29,7 @@ fn refusal(
     positions: usize,
     sizes: usize,
     parents: usize,
-    columnStarts: usize,
+    column_starts: usize,
 ) -> u32
     ensures { result ≡ first_fault (early_checks unknowns (lent n starts.now neighbours.now) (lengths order positions sizes parents column_starts 0)) }
 {
@@ -75,13 +75,13 @@ fn lay_out(
     tree: &[u16],
     counts: &[u16],
     positions: &mut [u16],
-    columnStarts: &mut [u32],
+    column_starts: &mut [u32],
     rows: &mut [u16],
 )
     requires checked { Checked (lent n starts.now neighbours.now) × (n ≤ length held.now) × Order n (take n held.now) × (n ≤ length tree.now) × Tree (lent n starts.now neighbours.now) (take n held.now) tree.now }
     requires n_in_bounds { (n ≤ length counts.now) × (take n counts.now ≡ map length (columns (lent n starts.now neighbours.now) (take n held.now))) }
     requires n_in_bounds_2 { (n ≤ length positions.old) × (n < length column_starts.old) × (length (flatten (columns (lent n starts.now neighbours.now) (take n held.now))) ≤ length rows.old) }
-    ensures positions_after { positions.new ≡ written (positionsOf n (take n held.now)) positions.old }
+    ensures positions_after { positions.new ≡ written (positions_of n (take n held.now)) positions.old }
     ensures column_starts_after { column_starts.new ≡ written (starts_of (columns (lent n starts.now neighbours.now) (take n held.now))) column_starts.old }
     ensures rows_after { rows.new ≡ written (flatten (columns (lent n starts.now neighbours.now) (take n held.now))) rows.old }
 {
@@ -111,7 +111,7 @@ fn plan_checked(
     positions: &mut [u16],
     sizes: &mut [u16],
     parents: &mut [u16],
-    columnStarts: &mut [u32],
+    column_starts: &mut [u32],
     rows: &mut [u16],
 ) -> PlanAnswer
     requires checked { Checked (lent n starts.now neighbours.now) }
@@ -164,7 +164,7 @@ pub fn plan(
     positions: &mut [u16],
     sizes: &mut [u16],
     parents: &mut [u16],
-    columnStarts: &mut [u32],
+    column_starts: &mut [u32],
     rows: &mut [u16],
 ) -> PlanAnswer
     ensures { Planned unknowns (lent n starts.now neighbours.now) result

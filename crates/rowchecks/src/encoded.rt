@@ -1,7 +1,7 @@
 // The walk of checks 17 and 18 over rows that stand in bytes, two for each, and check 19: the reader's.
 ghost use Rattle.std.specs.Prelude.{◌≡◌, List, [], ℕ, ◌+◌, ◌*◌, ◌≤◌, ◌<◌, length};
 ghost use Rattle.plan.specs.Lists.{list_at};
-ghost use Rattle.plan.specs.File.{covered as coveredBy, not_covered};
+ghost use Rattle.plan.specs.File.{covered as covered_by, not_covered};
 ghost use Rattle.plan.specs.RowFaults.{Carried};
 ghost use Rattle.mesh.specs.Lists.{ListWithin};
 ghost use Rattle.layout.specs.Arrays.{Unmarked};
@@ -16,7 +16,7 @@ use crate::ranges::ranges;
 use mesh::{NONE, filled, index};
 
 // The bytes of column j's rows. O(1).
-fn encoded_list<'a>(columnStarts: &[u32], bytes: &'a [u8], j: usize) -> &'a [u8]
+fn encoded_list<'a>(column_starts: &[u32], bytes: &'a [u8], j: usize) -> &'a [u8]
     requires { ListWithin column_starts.now (rows_in bytes.now) j }
     ensures { (rows_in result.now ≡ list_at column_starts.now (rows_in bytes.now) j) × (length result.now ≡ 2 * length (list_at column_starts.now (rows_in bytes.now) j)) }
 {
@@ -32,7 +32,7 @@ fn after_column_encoded(
     n: usize,
     lows: &[u16],
     ends: &[u16],
-    columnStarts: &[u32],
+    column_starts: &[u32],
     bytes: &[u8],
     j: usize,
 ) -> RowFaults
@@ -56,7 +56,7 @@ pub fn walk_encoded(
     n: usize,
     sizes: &[u16],
     parents: &[u16],
-    columnStarts: &[u32],
+    column_starts: &[u32],
     bytes: &[u8],
 ) -> RowFaults
     requires { SoundParts n sizes.now parents.now × Started n column_starts.now (rows_in bytes.now) }
@@ -76,13 +76,13 @@ pub fn walk_encoded(
 // must be the same, since both ascend; else its rows are marked, and those of column j looked up. O(both columns).
 fn covered_encoded(
     n: usize,
-    columnStarts: &[u32],
+    column_starts: &[u32],
     bytes: &[u8],
     j: usize,
     marks: &mut [u16],
 ) -> bool
     requires { LaidOut n column_starts.now (rows_in bytes.now) × (j < n) × (n ≤ length marks.old) × Unmarked n j marks.old }
-    ensures { (result ≡ coveredBy column_starts.now (rows_in bytes.now) (list_at column_starts.now (rows_in bytes.now) j)) × Unmarked n (j + 1) marks.new }
+    ensures { (result ≡ covered_by column_starts.now (rows_in bytes.now) (list_at column_starts.now (rows_in bytes.now) j)) × Unmarked n (j + 1) marks.new }
 {
     let column = encoded_list(column_starts, bytes, j);
     if column.len() < 4 {
@@ -97,7 +97,7 @@ fn covered_encoded(
 }
 
 // Check 19: a column's rows behind its first are not all in the first row's column. O(4,096 + n + slots + the first rows' columns).
-pub fn not_covered_encoded(n: usize, columnStarts: &[u32], bytes: &[u8]) -> bool
+pub fn not_covered_encoded(n: usize, column_starts: &[u32], bytes: &[u8]) -> bool
     requires { LaidOut n column_starts.now (rows_in bytes.now) }
     ensures { result ≡ not_covered (parts_and_rows n [] [] column_starts.now (rows_in bytes.now)) }
 {

@@ -1,7 +1,7 @@
 // The walk of checks 17 and 18 over rows that are lent as numbers, and check 19: the writer's.
 ghost use Rattle.std.specs.Prelude.{◌≡◌, List, [], ℕ, ◌+◌, ◌≤◌, ◌<◌, length};
 ghost use Rattle.plan.specs.Lists.{list_at};
-ghost use Rattle.plan.specs.File.{covered as coveredBy, not_covered};
+ghost use Rattle.plan.specs.File.{covered as covered_by, not_covered};
 ghost use Rattle.plan.specs.RowFaults.{Carried};
 ghost use Rattle.layout.specs.Arrays.{Unmarked};
 ghost use Rattle.rowchecks.specs.Rows.{parts_and_rows, SoundParts, Started, LaidOut, Ranges};
@@ -19,7 +19,7 @@ fn after_column(
     n: usize,
     lows: &[u16],
     ends: &[u16],
-    columnStarts: &[u32],
+    column_starts: &[u32],
     rows: &[u16],
     j: usize,
 ) -> RowFaults
@@ -43,7 +43,7 @@ pub fn walk(
     n: usize,
     sizes: &[u16],
     parents: &[u16],
-    columnStarts: &[u32],
+    column_starts: &[u32],
     rows: &[u16],
 ) -> RowFaults
     requires { SoundParts n sizes.now parents.now × Started n column_starts.now rows.now }
@@ -61,9 +61,9 @@ pub fn walk(
 
 // Whether column j keeps 19's rule: its rows behind the first are all in the first row's column. Where that column has as many rows, the two lists
 // must be the same, since both ascend; else its rows are marked, and those of column j looked up. O(both columns).
-fn covered(n: usize, columnStarts: &[u32], rows: &[u16], j: usize, marks: &mut [u16]) -> bool
+fn covered(n: usize, column_starts: &[u32], rows: &[u16], j: usize, marks: &mut [u16]) -> bool
     requires { LaidOut n column_starts.now rows.now × (j < n) × (n ≤ length marks.old) × Unmarked n j marks.old }
-    ensures { (result ≡ coveredBy column_starts.now rows.now (list_at column_starts.now rows.now j)) × Unmarked n (j + 1) marks.new }
+    ensures { (result ≡ covered_by column_starts.now rows.now (list_at column_starts.now rows.now j)) × Unmarked n (j + 1) marks.new }
 {
     let column = list(column_starts, rows, j);
     if column.len() < 2 {
@@ -78,7 +78,7 @@ fn covered(n: usize, columnStarts: &[u32], rows: &[u16], j: usize, marks: &mut [
 }
 
 // Check 19: a column's rows behind its first are not all in the first row's column. O(4,096 + n + slots + the first rows' columns).
-pub fn not_covered(n: usize, columnStarts: &[u32], rows: &[u16]) -> bool
+pub fn not_covered(n: usize, column_starts: &[u32], rows: &[u16]) -> bool
     requires { LaidOut n column_starts.now rows.now }
     ensures { result ≡ not_covered (parts_and_rows n [] [] column_starts.now rows.now) }
 {

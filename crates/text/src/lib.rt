@@ -92,7 +92,7 @@ fn put_mesh(out: &mut [u8], n: usize, starts: &[u32], neighbours: &[u16]) -> usi
         &mut column_starts,
         &mut rows,
     );
-    put_answer(out, 0, answer, &order, &sizes, &columnStarts, &rows)
+    put_answer(out, 0, answer, &order, &sizes, &column_starts, &rows)
 }
 
 // The listing of the mesh that the input holds, which has passed check 20. O(planning + n · parts + slots · digits).
@@ -106,9 +106,9 @@ fn put_input(out: &mut [u8], input: &[u8]) -> usize
     read_neighbours(input, &mut neighbours);
     let n = node_count(input);
     let entries = entry_count(input);
-    let allStarts = &starts[..];
-    let allNeighbours = &neighbours[..];
-    put_mesh(out, n, &allStarts[0..n + 1], &allNeighbours[0..entries])
+    let all_starts = &starts[..];
+    let all_neighbours = &neighbours[..];
+    put_mesh(out, n, &all_starts[0..n + 1], &all_neighbours[0..entries])
 }
 
 // The listing into a lent buffer: check 20, then the mesh. O(planning + n · parts + slots · digits).

@@ -31,7 +31,7 @@ fn put_lines(
     at: usize,
     order: &[u16],
     sizes: &[u16],
-    columnStarts: &[u32],
+    column_starts: &[u32],
     rows: &[u16],
 ) -> usize
     requires by_index { (j : ℕ) → j < length order.now → ListWithin column_starts.now rows.now j }
@@ -59,7 +59,7 @@ fn put_plan(
     counts: Plan,
     order: &[u16],
     sizes: &[u16],
-    columnStarts: &[u32],
+    column_starts: &[u32],
     rows: &[u16],
 ) -> usize
     requires plan_within { PlanWithin counts.nodes counts.parts order.now sizes.now column_starts.now rows.now }
@@ -79,7 +79,7 @@ pub(crate) fn put_answer(
     answer: PlanAnswer,
     order: &[u16],
     sizes: &[u16],
-    columnStarts: &[u32],
+    column_starts: &[u32],
     rows: &[u16],
 ) -> usize
     requires answer_within { AnswerWithin answer order.now sizes.now column_starts.now rows.now }

@@ -82,10 +82,10 @@ pub(crate) fn put_head(out: &mut [u8], at: usize, nodes: u32, parts: u32, slots:
     requires { at + length (head_of nodes parts slots) ≤ length out.old }
     ensures { Put out.old at (head_of nodes parts slots) out.new result }
 {
-    let behindNodes = put_labelled(out, at, b"nodes", nodes);
-    let behindParts = put_labelled(out, behindNodes, b" parts", parts);
-    let behindSlots = put_labelled(out, behindParts, b" slots", slots);
-    put_byte(out, behindSlots, b'\n')
+    let behind_nodes = put_labelled(out, at, b"nodes", nodes);
+    let behind_parts = put_labelled(out, behind_nodes, b" parts", parts);
+    let behind_slots = put_labelled(out, behind_parts, b" slots", slots);
+    put_byte(out, behind_slots, b'\n')
 }
 
 // A position's line: position, node, part, rows. O(rows · digits).
@@ -100,11 +100,11 @@ pub(crate) fn put_line(
     requires { at + length (line_of position node part rows.now) ≤ length out.old }
     ensures { Put out.old at (line_of position node part rows.now) out.new result }
 {
-    let behindPosition = put_decimal(out, at, position);
-    let behindNode = put_spaced(out, behindPosition, node);
-    let behindPart = put_spaced(out, behindNode, part);
-    let behindRows = put_all(out, behindPart, rows);
-    put_byte(out, behindRows, b'\n')
+    let behind_position = put_decimal(out, at, position);
+    let behind_node = put_spaced(out, behind_position, node);
+    let behind_part = put_spaced(out, behind_node, part);
+    let behind_rows = put_all(out, behind_part, rows);
+    put_byte(out, behind_rows, b'\n')
 }
 
 // A refusal: "refused" and its number. O(digits).

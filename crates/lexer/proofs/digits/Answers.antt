@@ -13,13 +13,12 @@ pub loop-i-init : goal.loop-i-init
 loop-i-init c = (passed_none not_digit c.args.text.now c.args.at c.requires, rw (segment-none c.args.text.now c.args.at))
 
 pub loop-i-preserved : goal.loop-i-preserved
-loop-i-preserved c =
-    (
-      kind_more is_digit c.args.text.now c.args.at c.loop-i.i c.loop-i.invariant.0 c.loop-i-test.true (sym c.digit.ensures ∙ c.if-digit.true),
-      c.capped-v.ensures
-          ∙ ap (λ (x : ℕ). min 4294967296 (10 * c.loop-i.v + x)) c.digit_value.ensures.0
-          ∙ value-next 4294967296 c.args.text.now c.args.at c.loop-i.i c.loop-i.v c.loop-i.invariant.0.least c.loop-i-test.true c.loop-i.invariant.1,
-    )
+loop-i-preserved c = (
+  kind_more is_digit c.args.text.now c.args.at c.loop-i.i c.loop-i.invariant.0 c.loop-i-test.true (sym c.digit.ensures ∙ c.if-digit.true),
+  c.capped-v.ensures
+      ∙ ap (λ (x : ℕ). min 4294967296 (10 * c.loop-i.v + x)) c.digit_value.ensures.0
+      ∙ value-next 4294967296 c.args.text.now c.args.at c.loop-i.i c.loop-i.v c.loop-i.invariant.0.least c.loop-i-test.true c.loop-i.invariant.1,
+)
 
 pub returns-else-digit : goal.returns-else-digit
 returns-else-digit c = (c.loop-i.invariant.0.least, kind-last is_digit c.args.text.now c.args.at c.loop-i.i c.loop-i.invariant.0 c.loop-i-test.true (sym c.digit.ensures ∙ c.if-digit.false), c.loop-i.invariant.1)

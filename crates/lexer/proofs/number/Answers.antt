@@ -12,7 +12,7 @@ use Rattle.plan.specs.MatrixMarket.{max_number, value_of}
 use Rattle.theory.proofs.Bools.{and_left, and_right, clash, refuted, not_eqb}
 use Rattle.lexer.specs.Suffixes.{word_ends, behind_letters, words_at, first_is_number}
 use Rattle.lexer.proofs.Numbers.{number-found, number-value, digits_end}
-use Rattle.lexer.proofs.number.Goals.{After-digits-d, Joined-then-d-i}
+use Rattle.lexer.proofs.number.Goals.{After-digits-d, Joined-then-d-i, then-d-i-via-then-d-i, then-d-i-via-else-d-i+then-d-gt-LARGEST, then-d-i-via-else-d-i+else-d-gt-LARGEST+then-not-word_ends}
 use Rattle.lexer.proofs.number.Goals as goal
 
 -- the next word is a number by the three tests
@@ -31,12 +31,11 @@ missed c h =
     let v : ℕ = value_of (segment c.args.text.now i e) in
     let all = sym (tests_at_joined_then_d_i c) ∙ h in
     let both = and_right (not (eqb e i)) _ all in
-    ⊎_elim
-    (λ w. not_eqb e i (and_left _ _ all) w.taken)
-    (⊎_elim
-    (λ w. omega (arith, ltb-true max_number c.digits-d.result.value w.2.taken, c.digits-d.ensures.2, leb-true v max_number (and_right (word_ends (drop e c.args.text.now)) _ both)))
-    (λ w. clash _ (and_left (word_ends (drop e c.args.text.now)) _ both) (sym w.3.ensures ∙ not-true _ w.4.taken)))
-    c.then-d-i.branch-raw
+    elim c.then-d-i.branch [
+      | then-d-i-via-then-d-i w ↦ not_eqb e i (and_left _ _ all) w.if-d-i.true
+      | then-d-i-via-else-d-i+then-d-gt-LARGEST w ↦ omega (arith, w.if-d-gt-LARGEST.true, c.digits-d.ensures.2, leb-true v max_number (and_right (word_ends (drop e c.args.text.now)) _ both))
+      | then-d-i-via-else-d-i+else-d-gt-LARGEST+then-not-word_ends w ↦ clash _ (and_left (word_ends (drop e c.args.text.now)) _ both) (sym w.word_ends.ensures ∙ w.if-not-word_ends.true)
+    ]
 
 pub returns-then-d-i : goal.returns-then-d-i
 returns-then-d-i c =
@@ -50,7 +49,7 @@ returns c =
     let v : ℕ = value_of (segment c.args.text.now i e) in
     let apart : eqb e i ≡ false = ne_eqb e i c.if-d-i.false in
     let ends : word_ends (drop e c.args.text.now) ≡ true = sym c.word_ends.ensures ∙ not-false _ (ap not c.if-not-word_ends.false) in
-    let low = ltb-false max_number c.digits-d.result.value (ap not c.if-d-gt-LARGEST.false) in
+    let low = ltb-false max_number c.digits-d.result.value c.if-d-gt-LARGEST.false-raw in
     let some : first_is_number (words_at c.args.text.now c.args.at) ≡ true = tests (goal.at.returns c).After-digits-d ∙ rw (apart, ends) (le-leb v max_number (omega (arith, low, c.digits-d.ensures.2))) in
     let behind = digits_end c.args.text.now c.args.at i e c.skip_blanks-i.ensures c.digits-d.ensures.1 ends in
     record {

@@ -11,12 +11,11 @@ use Rattle.theory.proofs.Lists.{exists_more}
 use Rattle.mesh.proofs.made.too_long.Goals as goal
 
 pub loop-v-preserved : goal.loop-v-preserved
-loop-v-preserved c =
-    (
-      omega (arith, c.loop-v-test.true),
-      ap₂ (λ (a b : Bool). a || b) c.loop-v.invariant.1 (ap (ltb max_neighbours) c.wide.ensures)
-          ∙ sym (exists_more (ltb max_neighbours) c.args.counts.now c.loop-v.v (omega (arith, c.loop-v-test.true, c.requires))),
-    )
+loop-v-preserved c = (
+  omega (arith, c.loop-v-test.true),
+  ap₂ (λ (a b : Bool). a || b) c.loop-v.invariant.1 (ap (ltb max_neighbours) c.wide.ensures)
+      ∙ sym (exists_more (ltb max_neighbours) c.args.counts.now c.loop-v.v (omega (arith, c.loop-v-test.true, c.requires))),
+)
 
 pub returns : goal.returns
 returns c =
