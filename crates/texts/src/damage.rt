@@ -5,7 +5,7 @@ use crate::trial::{ANY, try_text};
 use meshes::{less, more};
 
 // Bytes that tell: separators and near ones, controls, digits and near ones, marks, letters.
-const TELLING: [u8; 30] = *b" \t\n\r\x0b\x0c\x00\x1f\x7f\x80\xa0\xffo059/:%#+-.,e_em_mz_z";
+const TELLING: [u8; 30] = *b" \t\n\r\x0b\x0c\x00\x1f\x7f\x80\xa0\xffo059/:%#+-.,eEmMzZ";
 
 // How many damages to a byte there are, besides the cut.
 pub(crate) const DAMAGES: usize = 71;
