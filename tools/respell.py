@@ -18,8 +18,8 @@ WRITE = "--check" not in sys.argv
 NAME = r"[^\s(){}.;,@\"«»\[\]`|\\]+"
 DECLARED = re.compile(r"(?m)^ *(?:(?:abbrev|unfoldable|pub|opaque) )*(" + NAME + r")(?: \{[^{}\n]*\}| \([^\n]*?\))* :(?= |\n)")
 # Words of the library that lemmas are named after, and what became of their older spelling.
-WORDS = set("append length take drop map flatten reverse set replicate get_or keep every exists head_or get_last_or reverse_onto below part_of index_of up_from occurrences without segment written total same falls ascending".split())
-OLDER = {"getD": "get_or", "headD": "head_or", "getLastD": "get_last_or", "reverseAux": "reverse_onto", "indexOf": "index_of", "upFrom": "up_from"}
+WORDS = set("append length take drop map flatten reverse set replicate get_or keep every exists head_d get_last_or reverse_onto below part_of index_of up_from occurrences without segment written total same falls ascending".split())
+OLDER = {"getD": "get_or", "headD": "head_d", "getLastD": "get_last_or", "reverseAux": "reverse_onto", "indexOf": "index_of", "upFrom": "up_from"}
 
 
 def files(top, *ends):
