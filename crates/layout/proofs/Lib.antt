@@ -2,7 +2,7 @@ pub mod Stores
 pub mod Inverse
 pub mod Climbing
 pub mod Counted
-pub mod Totals
+pub mod TotalSlots
 pub mod Marks
 pub mod Children
 pub mod Grown

@@ -8,7 +8,7 @@ use lib.ListN.{length, take, get_or}
 use Rattle.plan.specs.Lists.{total}
 use Rattle.plan.specs.Elimination.{multiplications}
 use Rattle.theory.proofs.Sums.{total_more}
-use Rattle.layout.proofs.Totals.{work, product_few, multiplications_more}
+use Rattle.layout.proofs.TotalSlots.{work, product_few, multiplications_more}
 use Rattle.layout.proofs.counts.sum.Statement.{statement}
 use Rattle.layout.proofs.counts.sum.Tie as tie
 

@@ -10,7 +10,7 @@ use Rattle.plan.specs.Lists.{total, running_sums, written}
 use Rattle.theory.proofs.Compressed.{sums_length}
 use Rattle.theory.proofs.Written.{written_push, written-set}
 use Rattle.theory.proofs.Sums.{total_more}
-use Rattle.layout.proofs.Totals.{sums_more}
+use Rattle.layout.proofs.TotalSlots.{sums_more}
 use Rattle.layout.proofs.counts.write_starts.Statement.{statement}
 use Rattle.layout.proofs.counts.write_starts.Tie as tie
 

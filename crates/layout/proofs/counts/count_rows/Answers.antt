@@ -1,0 +1,67 @@
+-- `layout::counts::count_rows` meets its contract: row after row is counted.
+use mathlib.Core.Path.{◌≡◌, refl, ap, ◌∙◌}
+use mathlib.Core.List.{List}
+use Prim.Native.Nat.{ℕ, ◌-◌, ◌<◌}
+use native.Mathlib.Omega.{arith}
+use borrow.Author.Rules.{rules}
+use lib.ListN.{length, get_or}
+use Rattle.plan.specs.Mesh.{lent}
+use Rattle.mesh.specs.Lists.{none}
+use Rattle.mesh.proofs.Lists.{filled_at}
+use Rattle.layout.proofs.Counted.{reset_rest, counted_none, counted_tree, counted_rows}
+use Rattle.layout.proofs.counts.count_rows.Goals.{At-loop-i}
+use Rattle.layout.proofs.counts.count_rows.Goals as goal
+
+pub loop-i-init : goal.loop-i-init
+loop-i-init c =
+    let clear : (k : ℕ) → k < c.args.n → get_or c.filled-marks.result k 0 ≡ none = λ k l. ap (λ (m : List ℕ). get_or m k 0) c.filled-marks.ensures.0 ∙ filled_at none k (omega (arith, c.requires.0.checked.few)) in
+    record {
+      counted = counted_none (lent c.args.n c.args.starts.now c.args.neighbours.now) c.args.order.now c.args.tree.now c.args.counts.now c.reset.last.1.1.0 c.reset-2.new.numbers c.reset.ensures c.reset-2.ensures;
+      unmarked = λ k r l h lr e. omega (arith, c.requires.0.checked.few, clear k l);
+      low = search rules;
+      long_tree = refl;
+      long_counts = refl;
+      long_marks = c.filled-marks.ensures.1;
+      rest_tree = refl;
+      rest_counts = refl;
+    }
+
+-- the lists stay as long as they were
+kept : (c : At-loop-i) → (length c.loop-i.tree ≡ length c.args.tree.now) × (length c.loop-i.counts ≡ length c.args.counts.now)
+kept c = (c.loop-i.invariant.long_tree ∙ c.reset.auto.1.1.0, c.loop-i.invariant.long_counts ∙ c.reset-2.auto.1.1.0)
+
+pub count_row-requires : goal.count_row-requires
+count_row-requires c =
+    let t = kept (goal.at.count_row-requires c).At-loop-i in
+    record {
+      ordered = (c.requires.0, omega arith, omega arith, omega (arith, c.loop-i.invariant.long_marks, c.requires.0.checked.few), omega arith);
+      counted_below = (c.loop-i.invariant.counted, c.loop-i.invariant.unmarked);
+    }
+
+pub loop-i-preserved : goal.loop-i-preserved
+loop-i-preserved c =
+    record {
+      counted = c.count_row.ensures.counted_below_2.0;
+      unmarked = c.count_row.ensures.counted_below_2.1;
+      low = search rules;
+      long_tree = c.count_row.auto.1.1.1.1.1.1.0 ∙ c.loop-i.invariant.long_tree;
+      long_counts = c.count_row.auto.1.1.1.1.1.1.1.1.0 ∙ c.loop-i.invariant.long_counts;
+      long_marks = c.count_row.auto.1.1.1.1.1.1.1.0 ∙ c.loop-i.invariant.long_marks;
+      rest_tree = c.count_row.ensures.tree_unchanged.0 ∙ c.loop-i.invariant.rest_tree;
+      rest_counts = c.count_row.ensures.tree_unchanged.1 ∙ c.loop-i.invariant.rest_counts;
+    }
+
+pub returns : goal.returns
+returns c =
+    let t = kept (goal.at.returns c).At-loop-i in
+    let e : c.loop-i.i ≡ c.args.n = omega arith in
+    let all = rw e at c.loop-i.invariant.counted in record {
+      tree_after = counted_tree (lent c.args.n c.args.starts.now c.args.neighbours.now) c.args.order.now c.loop-i.tree c.loop-i.counts all c.args.tree.now (omega arith) (c.loop-i.invariant.rest_tree ∙ reset_rest c.args.n none c.args.tree.now _ c.reset.ensures);
+      counts_after = counted_rows (lent c.args.n c.args.starts.now c.args.neighbours.now) c.args.order.now c.loop-i.tree c.loop-i.counts all c.args.counts.now (omega arith) (c.loop-i.invariant.rest_counts ∙ reset_rest c.args.n 0 c.args.counts.now _ c.reset-2.ensures);
+    }
+
+pub shape_of-tree : goal.shape_of-tree
+shape_of-tree c = (kept (goal.at.shape_of-tree c).At-loop-i).0
+
+pub shape_of-counts : goal.shape_of-counts
+shape_of-counts c = (kept (goal.at.shape_of-counts c).At-loop-i).1
