@@ -19,11 +19,11 @@ use Rattle.layout.proofs.columns.add_column.Goals as goal
 
 -- the columns before j are found in the rows
 listed : (c : Start) → Listed (lent c.args.n c.args.starts.now c.args.neighbours.now) c.args.order.now c.args.column_starts.now c.args.rows.now c.args.j
-listed c c lt = column-found (lent c.args.n c.args.starts.now c.args.neighbours.now) c.args.order.now c.args.column_starts.now c.requires.column_starts_value.0 c.args.rows.now c.args.j c (omega arith) lt c.requires.n_in_bounds.2
+listed c c' lt = column-found (lent c.args.n c.args.starts.now c.args.neighbours.now) c.args.order.now c.args.column_starts.now c.requires.column_starts_value.0 c.args.rows.now c.args.j c' (omega arith) lt c.requires.n_in_bounds.2
 
 -- the columns before j are found in the rows
 listed_at_after_mark_children : (c : After-mark_children) → Listed (lent c.args.n c.args.starts.now c.args.neighbours.now) c.args.order.now c.args.column_starts.now c.args.rows.now c.args.j
-listed_at_after_mark_children c c lt = column-found (lent c.args.n c.args.starts.now c.args.neighbours.now) c.args.order.now c.args.column_starts.now c.requires.column_starts_value.0 c.args.rows.now c.args.j c (omega arith) lt c.requires.n_in_bounds.2
+listed_at_after_mark_children c c' lt = column-found (lent c.args.n c.args.starts.now c.args.neighbours.now) c.args.order.now c.args.column_starts.now c.requires.column_starts_value.0 c.args.rows.now c.args.j c' (omega arith) lt c.requires.n_in_bounds.2
 
 -- where column j starts and ends
 bounds : (c : Start) → let a : ℕ = get_or c.args.column_starts.now c.args.j 0 in
@@ -82,7 +82,7 @@ mark_children-requires c =
       n_le_max_nodes = ((bounds (goal.at.mark_children-requires c).Start).0, c.requires.ordered.3, c.requires.column_starts_value.2);
       by_index = λ k lk e. (
         column-within (lent c.args.n c.args.starts.now c.args.neighbours.now) c.args.order.now c.args.column_starts.now c.requires.column_starts_value.0 c.args.rows.now c.requires.column_starts_value.1 k lk,
-        λ i h. omega (arith, inside (goal.at.mark_children-requires c).Start k lk e i h, c.requires.n_in_bounds.0, c.mark_neighbours.auto.1.1.1.1.1.1.0),
+        λ i h. omega (arith, inside (goal.at.mark_children-requires c).Start k lk e i h, c.requires.n_in_bounds.0, c.mark_neighbours.auto.marks),
       );
     }
 
@@ -90,7 +90,7 @@ pub write_column-requires : goal.write_column-requires
 write_column-requires c =
     let b = bounds (goal.at.write_column-requires c).Start in
     let count : c.index-e.result - c.index-a.result ≡ length (column (lent c.args.n c.args.starts.now c.args.neighbours.now) c.args.order.now c.args.j) = omega (arith, b, c.index-e.ensures, c.index-a.ensures) in record {
-      n_le_max_nodes = (b.0, c.requires.column_starts_value.2, c.requires.ordered.1, omega (arith, c.requires.n_in_bounds.0, c.mark_children.kept.1.1.1.1.1.1.1.0, c.mark_neighbours.kept.1.1.1.1.1.1.0), marked_meets (marking (goal.at.write_column-requires c).After-mark_children));
+      n_le_max_nodes = (b.0, c.requires.column_starts_value.2, c.requires.ordered.1, omega (arith, c.requires.n_in_bounds.0, c.mark_children.auto.marks, c.mark_neighbours.auto.marks), marked_meets (marking (goal.at.write_column-requires c).After-mark_children));
       count_value = (count ∙ sym (ap length (marked_column (marking (goal.at.write_column-requires c).After-mark_children))), simp (length-take, length-drop) (omega (arith, b, count, c.index-e.ensures, c.index-a.ensures)));
     }
 

@@ -13,7 +13,7 @@ pub link-requires : goal.link-requires
 link-requires c = (omega arith, search rules, c.requires.n_le_max_nodes.2, c.loop-c-test.true, c.loop-c.invariant.3)
 
 pub loop-c-preserved : goal.loop-c-preserved
-loop-c-preserved c = (search rules, c.link.auto.1.1.1.0 ∙ c.loop-c.invariant.1, c.link.auto.1.1.1.1.0 ∙ c.loop-c.invariant.2, c.link.ensures)
+loop-c-preserved c = (search rules, c.link.auto.first ∙ c.loop-c.invariant.1, c.link.auto.next ∙ c.loop-c.invariant.2, c.link.ensures)
 
 pub returns : goal.returns
 returns c =

@@ -48,7 +48,7 @@ pub loop-c-preserved : goal.loop-c-preserved
 loop-c-preserved c =
     let same : c.list.result.now ≡ list_at c.args.column_starts.now c.args.rows.now c.loop-c.c =
     c.list.ensures ∙ ap (list_at c.args.column_starts.now c.args.rows.now) c.wide.ensures in (
-      c.mark_rows.auto.1.1.0 ∙ c.loop-c.invariant.0,
+      c.mark_rows.auto.marks ∙ c.loop-c.invariant.0,
       walked_more c.args.n c.args.tree.now (list_at c.args.column_starts.now c.args.rows.now) c.args.j c.args.marks.now c.loop-c.marks c.loop-c.c c.loop-c.invariant.1
           c.mark_rows.new.marks (get_or c.args.next.now c.wide-in-loop-c.result 0) c.loop-c-test.true
           (λ i. rw (← same) (c.mark_rows.ensures i)) (next_child (goal.at.loop-c-preserved c).After-wide-in-loop-c),

@@ -88,3 +88,6 @@ bounds-positions-wide c = let h = known (goal.at.bounds-positions-wide c).After-
 
 pub offset_bounds-marks-wide : goal.offset_bounds-marks-wide
 offset_bounds-marks-wide c = let h = inside (goal.at.offset_bounds-marks-wide c).After-wide-in-loop-e-2 in omega arith
+
+pub bounds-marks-wide : goal.bounds-marks-wide
+bounds-marks-wide c = inside (goal.at.bounds-marks-wide c).After-wide-in-loop-e-2

@@ -34,3 +34,6 @@ loop-e-init c = (omega arith, refl, refl, λ i. refl)
 
 pub offset_bounds-marks-wide : goal.offset_bounds-marks-wide
 offset_bounds-marks-wide c = let h = inside (goal.at.offset_bounds-marks-wide c).After-wide in omega arith
+
+pub bounds-marks-wide : goal.bounds-marks-wide
+bounds-marks-wide c = inside (goal.at.bounds-marks-wide c).After-wide

@@ -25,7 +25,7 @@ loop-at-smaller c = rw c.wide.ensures (omega (arith, up (goal.at.loop-at-smaller
 
 pub loop-at-preserved : goal.loop-at-preserved
 loop-at-preserved c = (
-  c.put-at.auto.1.1.1.1.0 ∙ c.loop-at.invariant.0,
+  c.put-at.auto.rows ∙ c.loop-at.invariant.0,
   rw c.wide.ensures
       (ascent_more c.args.n c.args.j c.args.tree.now c.args.marks.now c.args.rows.now (omega arith) c.requires.n_le_max_nodes.4 c.loop-at.rows c.loop-at.k c.loop-at.at c.loop-at.invariant.1
       c.put-at.new.rows c.put-at.result (omega (arith, c.loop-at-test.true, c.requires.count_value.0)) (omega (arith, c.loop-at-test.true, c.requires.count_value.1, c.loop-at.invariant.0))

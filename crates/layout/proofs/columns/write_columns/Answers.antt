@@ -51,8 +51,8 @@ loop-j-preserved c =
     let m = (lent c.args.n c.args.starts.now c.args.neighbours.now) in
     let j : ℕ = c.loop-j.j in (
       search rules,
-      c.add_column.auto.1.1.1.1.1.1.1.1.1.1.1.0 ∙ c.loop-j.invariant.1,
-      c.add_column.auto.1.1.1.1.1.1.1.1.1.1.0 ∙ c.loop-j.invariant.2,
+      c.add_column.auto.rows ∙ c.loop-j.invariant.1,
+      c.add_column.auto.marks ∙ c.loop-j.invariant.2,
       c.add_column.ensures.0,
       c.add_column.ensures.1
           ∙ ap (written (rows_before m c.args.order.now (j + 1))) c.loop-j.invariant.4

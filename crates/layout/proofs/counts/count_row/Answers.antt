@@ -91,9 +91,9 @@ loop-e-preserved c =
         | inr e ↦ t.kept _ (c.loop-e.invariant.reached p (omega (arith, e)) lt)
       ];
       low = search rules;
-      long_tree = c.climb.auto.1.1.0 ∙ c.loop-e.invariant.long_tree;
-      long_marks = c.climb.auto.1.1.1.0 ∙ c.loop-e.invariant.long_marks;
-      long_counts = c.climb.auto.1.1.1.1.0 ∙ c.loop-e.invariant.long_counts;
+      long_tree = c.climb.auto.tree ∙ c.loop-e.invariant.long_tree;
+      long_marks = c.climb.auto.marks ∙ c.loop-e.invariant.long_marks;
+      long_counts = c.climb.auto.counts ∙ c.loop-e.invariant.long_counts;
       rest_tree = t.rest_tree ∙ c.loop-e.invariant.rest_tree;
       rest_counts = t.rest_counts ∙ c.loop-e.invariant.rest_counts;
     }

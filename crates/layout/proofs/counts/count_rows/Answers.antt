@@ -16,7 +16,7 @@ pub loop-i-init : goal.loop-i-init
 loop-i-init c =
     let clear : (k : ℕ) → k < c.args.n → get_or c.filled-marks.result k 0 ≡ none = λ k l. ap (λ (m : List ℕ). get_or m k 0) c.filled-marks.ensures.0 ∙ filled_at none k (omega (arith, c.requires.0.checked.few)) in
     record {
-      counted = counted_none (lent c.args.n c.args.starts.now c.args.neighbours.now) c.args.order.now c.args.tree.now c.args.counts.now c.reset.last.1.1.0 c.reset-2.new.numbers c.reset.ensures c.reset-2.ensures;
+      counted = counted_none (lent c.args.n c.args.starts.now c.args.neighbours.now) c.args.order.now c.args.tree.now c.args.counts.now c.reset.new.numbers c.reset-2.new.numbers c.reset.ensures c.reset-2.ensures;
       unmarked = λ k r l h lr e. omega (arith, c.requires.0.checked.few, clear k l);
       low = search rules;
       long_tree = refl;
@@ -28,7 +28,7 @@ loop-i-init c =
 
 -- the lists stay as long as they were
 kept : (c : At-loop-i) → (length c.loop-i.tree ≡ length c.args.tree.now) × (length c.loop-i.counts ≡ length c.args.counts.now)
-kept c = (c.loop-i.invariant.long_tree ∙ c.reset.auto.1.1.0, c.loop-i.invariant.long_counts ∙ c.reset-2.auto.1.1.0)
+kept c = (c.loop-i.invariant.long_tree ∙ c.reset.auto.numbers, c.loop-i.invariant.long_counts ∙ c.reset-2.auto.numbers)
 
 pub count_row-requires : goal.count_row-requires
 count_row-requires c =
@@ -44,9 +44,9 @@ loop-i-preserved c =
       counted = c.count_row.ensures.counted_below_2.0;
       unmarked = c.count_row.ensures.counted_below_2.1;
       low = search rules;
-      long_tree = c.count_row.auto.1.1.1.1.1.1.0 ∙ c.loop-i.invariant.long_tree;
-      long_counts = c.count_row.auto.1.1.1.1.1.1.1.1.0 ∙ c.loop-i.invariant.long_counts;
-      long_marks = c.count_row.auto.1.1.1.1.1.1.1.0 ∙ c.loop-i.invariant.long_marks;
+      long_tree = c.count_row.auto.tree ∙ c.loop-i.invariant.long_tree;
+      long_counts = c.count_row.auto.counts ∙ c.loop-i.invariant.long_counts;
+      long_marks = c.count_row.auto.marks ∙ c.loop-i.invariant.long_marks;
       rest_tree = c.count_row.ensures.tree_unchanged.0 ∙ c.loop-i.invariant.rest_tree;
       rest_counts = c.count_row.ensures.tree_unchanged.1 ∙ c.loop-i.invariant.rest_counts;
     }

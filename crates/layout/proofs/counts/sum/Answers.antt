@@ -17,12 +17,12 @@ loop-j-init c = record { low = search rules; slots = refl; products = refl; slot
 -- it is of 16 bits, so its products are small
 few : (c : After-shared_slice_known-in-loop-j-1) → ((get_or c.args.counts.now c.loop-j.j 0) < 65536) × ((get_or c.args.counts.now c.loop-j.j 0) * ((get_or c.args.counts.now c.loop-j.j 0) + 3) ≤ 65535 * 65538) × (work (get_or c.args.counts.now c.loop-j.j 0) ≤ 2147516415)
 few c =
-    let h = c.shared_slice_known-in-loop-j-1.given c.loop-j.j in
+    let h = c.type_inv.counts c.loop-j.j in
     let t = product_few (get_or c.args.counts.now c.loop-j.j 0) (omega arith) in
     (omega arith, t, omega arith)
 
 pub overflow_cast-c : goal.overflow_cast-c
-overflow_cast-c c = omega (arith, c.shared_slice_known-1.given c.loop-j.j)
+overflow_cast-c c = omega (arith, c.type_inv.counts c.loop-j.j)
 
 pub overflow_cast-slots : goal.overflow_cast-slots
 overflow_cast-slots c = omega (arith, few (goal.at.overflow_cast-slots c).After-shared_slice_known-in-loop-j-1)

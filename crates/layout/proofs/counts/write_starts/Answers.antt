@@ -26,10 +26,10 @@ loop-j-init c =
     }
 
 pub overflow_cast-start : goal.overflow_cast-start
-overflow_cast-start c = omega (arith, c.shared_slice_known-1.given c.loop-j.j)
+overflow_cast-start c = omega (arith, c.type_inv.counts c.loop-j.j)
 
 pub overflow_add-start : goal.overflow_add-start
-overflow_add-start c = omega (arith, c.shared_slice_known-1.given c.loop-j.j)
+overflow_add-start c = omega (arith, c.type_inv.counts c.loop-j.j)
 
 -- the starts stay as long as they were
 kept : (c : At-loop-j) → length c.loop-j.column_starts ≡ length c.args.column_starts.now
@@ -48,7 +48,7 @@ loop-j-preserved c =
     record {
       low = search rules;
       next = next;
-      few = omega (arith, c.shared_slice_known-1.given c.loop-j.j);
+      few = omega (arith, c.type_inv.counts c.loop-j.j);
       sums = rw (next, sums_more counts c.loop-j.j h, c.loop-j.invariant.sums)
           (written_push (running_sums 0 (take c.loop-j.j counts)) found (c.loop-j.j + 1) (total (take (c.loop-j.j + 1) counts)) many (omega (arith, length-set c.args.column_starts.now 0 0)));
       long = length-set c.loop-j.column_starts (c.loop-j.j + 1) (c.loop-j.start + get_or counts c.loop-j.j 0) ∙ c.loop-j.invariant.long;

@@ -49,10 +49,10 @@ returns-then-wide-i c = ap accepted (sym (no_slot (goal.at.returns-then-wide-i c
 
 -- the slot is before the next column's start, which has 32 bits
 pub overflow_add-result : goal.overflow_add-result
-overflow_add-result c = omega (arith, inside (goal.at.overflow_add-result c).Else-k-column, list_long c.args.column_starts.now c.args.rows.now c.args.j c.requires.0, c.shared_slice_known-4-1.given (c.args.j + 1))
+overflow_add-result c = omega (arith, inside (goal.at.overflow_add-result c).Else-k-column, list_long c.args.column_starts.now c.args.rows.now c.args.j c.requires.0, c.type_inv.column_starts (c.args.j + 1))
 
 pub overflow_cast-result : goal.overflow_cast-result
-overflow_cast-result c = omega (arith, add-t15 c)
+overflow_cast-result c = omega (arith, inside (goal.at.overflow_cast-result c).Else-k-column, list_long c.args.column_starts.now c.args.rows.now c.args.j c.requires.0, c.type_inv.column_starts (c.args.j + 1))
 
 pub returns : goal.returns
 returns c =

@@ -67,7 +67,7 @@ bounds-rows-s c = lent (goal.at.bounds-rows-s c).Else-s-slots
 
 -- and has 16 bits
 pub overflow_cast-row : goal.overflow_cast-row
-overflow_cast-row c = omega (arith, c.shared_slice_known-4-1.given c.args.s)
+overflow_cast-row c = omega (arith, c.type_inv.rows c.args.s)
 
 pub returns : goal.returns
 returns c = rw c.column_of-column.ensures (sym (slot_has_pair c.args.n c.args.column_starts.now c.args.rows.now c.args.s (clear (goal.at.returns c).Else-fault-ne0) (there (goal.at.returns c).Else-s-slots)))
