@@ -23,7 +23,7 @@ fn block_end(n: usize, heads: &[u16], at: usize) -> usize
 }
 
 // A parent by its number as a part: the part chosen as number k (from 0) is part count − 1 − k. O(1).
-fn by_number_lem(parent: u16, count: u16) -> u16
+fn by_number(parent: u16, count: u16) -> u16
     requires { parent ≢ no_parent → parent < count }
     ensures { result ≡ cond (eqb parent no_parent) no_parent (count - 1 - parent) }
 {
@@ -48,7 +48,7 @@ pub fn write_parts(
     for q in 0..count {
         let end = block_end(n, heads, at);
         sizes[q] = (end - at) as u16;
-        parents[q] = by_number_lem(heads[at], count as u16);
+        parents[q] = by_number(heads[at], count as u16);
         at = end;
     }
 }

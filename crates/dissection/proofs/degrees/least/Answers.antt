@@ -1,0 +1,29 @@
+-- `dissection::degrees::least` meets its contract: after i nodes each group is led by the least of its nodes among them.
+use Prim.Native.Nat.{◌-◌}
+use native.Mathlib.Omega.{arith}
+use lib.ListN.{get_or}
+use borrow.Author.Rules.{rules}
+use Rattle.plan.specs.Mesh.{lent}
+use Rattle.theory.proofs.Lists.{is_in-get_or}
+use Rattle.dissection.specs.Degrees.{degree_by}
+use Rattle.dissection.proofs.LeastDegrees.{degree_few, leading_more, leading-all}
+use Rattle.dissection.proofs.degrees.least.Goals as goal
+
+pub compare-requires : goal.compare-requires
+compare-requires c = (c.requires.0, c.requires.1.inside (get_or c.args.nodes.now c.loop-i.i 0) (is_in-get_or c.args.nodes.now c.loop-i.i 0 (omega arith)), c.requires.2, c.requires.3, search rules, search rules)
+
+pub loop-i-preserved : goal.loop-i-preserved
+loop-i-preserved c = (
+  search rules,
+  search rules,
+  search rules,
+  search rules,
+  leading_more (degree_by (lent c.args.n c.args.starts.now c.args.neighbours.now) c.args.region.now) c.args.nodes.now c.args.groups.now c.args.count c.loop-i.i c.loop-i.best c.loop-i.degrees c.compare.new.best c.compare.new.degrees
+      (omega arith) (degree_few (lent c.args.n c.args.starts.now c.args.neighbours.now) c.requires.0 c.args.region.now (get_or c.args.nodes.now c.loop-i.i 0)) c.loop-i.invariant.4 c.compare.ensures,
+)
+
+pub returns : goal.returns
+returns c = leading-all (degree_by (lent c.args.n c.args.starts.now c.args.neighbours.now) c.args.region.now) c.args.nodes.now c.args.groups.now c.args.count c.loop-i.i c.loop-i.best c.loop-i.degrees (omega arith) c.loop-i.invariant.4
+
+pub loop-i-init : goal.loop-i-init
+loop-i-init c = (search rules, search rules, search rules, search rules, c.clear.ensures)

@@ -1,0 +1,8 @@
+-- `dissection::levels::is_irregular` is safe and ends: the lists of a checked mesh lie within its entries.
+use Prim.Native.Nat.{◌-◌}
+use Rattle.plan.specs.Mesh.{lent}
+use Rattle.mesh.proofs.Lists.{checked-within}
+use Rattle.dissection.proofs.levels.is_irregular.Goals as goal
+
+pub list-entries-requires : goal.list-entries-requires
+list-entries-requires c = checked-within (lent c.args.n c.args.starts.now c.args.neighbours.now) c.requires c.loop-v.v c.loop-v-test.true

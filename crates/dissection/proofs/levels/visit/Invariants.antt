@@ -1,0 +1,9 @@
+-- `dissection::levels::visit` meets its contract: the entries before place k have been touched.
+use Prim.Native.Nat.{◌-◌}
+use lib.ListN.{take}
+use Rattle.plan.specs.Lists.{is_in}
+use Rattle.dissection.specs.Spread.{Spread}
+use Rattle.dissection.proofs.levels.visit.Given as goal
+
+abbrev pub invariant-loop-k : goal.invariant-loop-k
+invariant-loop-k l = Spread l.n l.x l.tail l.initial.numbers l.initial.queue (λ v. is_in v (take l.k l.entries)) l.numbers l.queue l.end

@@ -1,0 +1,80 @@
+-- `dissection::levels::walk` meets its contract: between two levels, the levels so far stand in the numbers and in the queue.
+use mathlib.Core.Path.{◌≡◌, refl, sym, ◌∙◌}
+use mathlib.Core.Bool.{true}
+use Prim.Native.Nat.{ℕ, ◌-◌, ◌≤◌, ◌<◌}
+use native.Mathlib.Omega.{arith}
+use lib.ListN.{set, length-set}
+use Rattle.plan.specs.Mesh.{lent, adjacent}
+use Rattle.dissection.specs.Numbers.{fresh}
+use Rattle.dissection.proofs.Walks.{Walking, walking_as, stand_few, restored, walk_start, walk_step, walk_node, walk_end}
+use Rattle.dissection.proofs.levels.walk.Goals.{Start, After-wide-first, At-loop-hi}
+use Rattle.dissection.proofs.levels.walk.Goals as goal
+
+-- an edge leads to a node
+inside : (c : Start) (u : ℕ) (v : ℕ) → (adjacent (lent c.args.n c.args.starts.now c.args.neighbours.now)) u v ≡ true → v < c.args.n
+inside c u v h = (c.requires.0.inside u v h).1
+
+-- the numbers before the walk
+old : (c : After-wide-first) → set (set c.args.numbers.now c.wide-first.result 0) c.args.root fresh ≡ c.args.numbers.now
+old c = rw c.wide-first.ensures (restored c.args.numbers.now c.args.root c.requires.2)
+
+-- the numbers before the walk
+old_at_at_loop_hi : (c : At-loop-hi) → set (set c.args.numbers.now c.wide-first.result 0) c.args.root fresh ≡ c.args.numbers.now
+old_at_at_loop_hi c = rw c.wide-first.ensures (restored c.args.numbers.now c.args.root c.requires.2)
+
+-- what holds between two levels
+walking : (c : At-loop-hi) → Walking c.args.n (adjacent (lent c.args.n c.args.starts.now c.args.neighbours.now)) c.args.root c.args.numbers.now c.loop-hi.last c.loop-hi.width c.loop-hi.lo c.loop-hi.hi c.loop-hi.numbers c.loop-hi.queue
+walking c = walking_as (adjacent (lent c.args.n c.args.starts.now c.args.neighbours.now)) c.args.root (old_at_at_loop_hi c) c.loop-hi.invariant.2
+
+-- there are fewer levels than nodes, and few nodes
+few : (c : At-loop-hi) → (c.loop-hi.hi ≤ c.args.n) × (c.loop-hi.last < c.loop-hi.hi) × (c.args.n ≤ 4096)
+few c =
+    let f = stand_few (walking c) in
+    (f.0, f.1, c.requires.0.few)
+
+pub loop-hi-init : goal.loop-hi-init
+loop-hi-init c =
+    let begun = walk_start c.args.n (adjacent (lent c.args.n c.args.starts.now c.args.neighbours.now)) c.args.numbers.now c.args.root c.args.queue.now c.requires.1 c.requires.2 c.requires.3 c.requires.4 in (
+      refl,
+      refl,
+      walking_as (adjacent (lent c.args.n c.args.starts.now c.args.neighbours.now)) c.args.root (sym (old (goal.at.loop-hi-init c).After-wide-first)) (rw c.wide-first.ensures begun),
+    )
+
+pub advance-tail-requires : goal.advance-tail-requires
+advance-tail-requires c =
+    let w = walking (goal.at.advance-tail-requires c).At-loop-hi in
+    let f = few (goal.at.advance-tail-requires c).At-loop-hi in (
+      c.requires.0,
+      omega (arith, f),
+      omega (arith, w.some),
+      w.left,
+      walk_node c.args.n (adjacent (lent c.args.n c.args.starts.now c.args.neighbours.now)) (inside (goal.at.advance-tail-requires c).Start) (omega (arith, f)) c.args.numbers.now c.args.root c.requires.1 c.requires.2 c.loop-hi.last c.loop-hi.width c.loop-hi.lo c.loop-hi.hi c.loop-hi.numbers c.loop-hi.queue w,
+    )
+
+pub loop-hi-smaller : goal.loop-hi-smaller
+loop-hi-smaller c = omega (arith, few (goal.at.loop-hi-smaller c).At-loop-hi, (walking (goal.at.loop-hi-smaller c).At-loop-hi).some)
+
+pub loop-hi-preserved : goal.loop-hi-preserved
+loop-hi-preserved c = (
+  c.advance-tail.ensures.numbers_length ∙ c.loop-hi.invariant.0,
+  c.advance-tail.ensures.queue_length ∙ c.loop-hi.invariant.1,
+  rw c.greater-width.ensures (walking_as (adjacent (lent c.args.n c.args.starts.now c.args.neighbours.now)) c.args.root (sym (old (goal.at.loop-hi-preserved c).After-wide-first))
+      (walk_step c.args.n (adjacent (lent c.args.n c.args.starts.now c.args.neighbours.now)) (inside (goal.at.loop-hi-preserved c).Start) (omega (arith, few (goal.at.loop-hi-preserved c).At-loop-hi)) c.args.numbers.now c.args.root c.loop-hi.last c.loop-hi.width c.loop-hi.lo c.loop-hi.hi c.loop-hi.numbers c.loop-hi.queue _ _ c.advance-tail.result (walking (goal.at.loop-hi-preserved c).At-loop-hi) c.advance-tail.ensures c.if-tail-hi.false)),
+)
+
+pub shape_of-numbers : goal.shape_of-numbers
+shape_of-numbers c = c.advance-tail.ensures.numbers_length ∙ c.loop-hi.invariant.0 ∙ simp length-set
+
+pub shape_of-queue : goal.shape_of-queue
+shape_of-queue c = c.advance-tail.ensures.queue_length ∙ c.loop-hi.invariant.1 ∙ simp length-set
+
+pub returns : goal.returns
+returns c =
+    walk_end c.args.n (adjacent (lent c.args.n c.args.starts.now c.args.neighbours.now)) (inside (goal.at.returns c).Start) (omega (arith, few (goal.at.returns c).At-loop-hi)) c.args.numbers.now c.args.root c.requires.1 c.requires.2 c.loop-hi.last c.loop-hi.width c.loop-hi.lo c.loop-hi.hi c.loop-hi.numbers c.loop-hi.queue _ _ c.advance-tail.result
+    (walking (goal.at.returns c).At-loop-hi) c.advance-tail.ensures c.if-tail-hi.true
+
+pub overflow_add-last : goal.overflow_add-last
+overflow_add-last c = omega (arith, few (goal.at.overflow_add-last c).At-loop-hi)
+
+pub overflow_add-last-in-loop-hi : goal.overflow_add-last-in-loop-hi
+overflow_add-last-in-loop-hi c = omega (arith, few (goal.at.overflow_add-last-in-loop-hi c).At-loop-hi)

@@ -1,0 +1,63 @@
+-- `dissection::root::candidates` meets its contract: the root's levels are taken over, the last one alone is fresh then, its components are labelled,
+-- and each one's node of least degree is a candidate.
+use mathlib.Core.Path.{refl}
+use Prim.Native.Nat.{◌≤◌}
+use native.Mathlib.Omega.{arith}
+use Rattle.plan.specs.Mesh.{lent}
+use Rattle.dissection.specs.Standing.{Regional, Standing}
+use Rattle.dissection.specs.Degrees.{degree_by}
+use Rattle.dissection.proofs.LeastDegrees.{degree_in_lem}
+use Rattle.dissection.proofs.Roots.{regional_again, standing_transferred, fresh-inside, level-high, candidates-only, candidates-found}
+use Rattle.dissection.proofs.root.candidates.Goals.{After-transfer, After-label-count}
+use Rattle.dissection.proofs.root.candidates.Goals as goal
+
+-- the root's levels stand there
+standing : (c : After-transfer) → Standing (lent c.args.n c.args.starts.now c.args.neighbours.now) c.args.nodes.now c.args.root.node c.transfer.new.numbers
+standing c = standing_transferred (lent c.args.n c.args.starts.now c.args.neighbours.now) c.args.nodes.now c.args.levels.now c.args.trial.now c.transfer.new.numbers c.requires.rooted.0.inside c.requires.rooted.1 c.requires.regional.0.only c.transfer.ensures
+
+-- so it is a region over them
+regional : (c : After-transfer) → Regional (lent c.args.n c.args.starts.now c.args.neighbours.now) c.args.nodes.now c.transfer.new.numbers c.args.queue.now
+regional c = regional_again (lent c.args.n c.args.starts.now c.args.neighbours.now) c.args.nodes.now c.requires.regional.0 (standing c).only c.transfer.auto.numbers refl
+
+pub transfer-requires : goal.transfer-requires
+transfer-requires c v t =
+    let lt = c.requires.regional.0.within.inside v t in
+    (omega (arith, lt, c.requires.regional.1), omega (arith, lt, c.requires.regional.0.numbers_long))
+
+pub renumber-requires : goal.renumber-requires
+renumber-requires c =
+    let h = regional (goal.at.renumber-requires c).After-transfer in
+    record { ascends = h.within.ascends; inside = λ v t. omega (arith, h.within.inside v t, h.numbers_long) }
+
+pub label-count-requires : goal.label-count-requires
+label-count-requires c =
+    let h = regional (goal.at.label-count-requires c).After-transfer in
+    record {
+      checked = (h.checked, h.within, fresh-inside (lent c.args.n c.args.starts.now c.args.neighbours.now) c.args.nodes.now h c.requires.rooted.0 (standing (goal.at.label-count-requires c).After-transfer) c.renumber.new.numbers c.renumber.ensures, level-high c.args.root.last c.args.n c.args.nodes.now c.transfer.new.numbers c.renumber.new.numbers h.checked.few c.renumber.ensures);
+      at_le_n = (omega arith, omega (arith, h.numbers_long, c.renumber.auto.numbers), h.queue_long, c.requires.regional.2);
+    }
+
+-- there are at most n candidates
+few : (c : After-label-count) → c.label-count.result ≤ c.args.n
+few c = c.label-count.ensures.few
+
+pub least-requires : goal.least-requires
+least-requires c =
+    let h = regional (goal.at.least-requires c).After-transfer in (
+      h.checked,
+      h.within,
+      c.requires.regional.1,
+      omega (arith, h.numbers_long, c.renumber.auto.numbers, c.label-count.auto.numbers),
+      omega (arith, few (goal.at.least-requires c).After-label-count, c.label-count.auto.begins, c.requires.regional.2),
+      omega (arith, few (goal.at.least-requires c).After-label-count, c.label-count.auto.queue, h.queue_long),
+    )
+
+pub returns : goal.returns
+returns c =
+    let h = regional (goal.at.returns c).After-transfer in (
+      candidates-found (lent c.args.n c.args.starts.now c.args.neighbours.now) c.args.nodes.now h c.requires.rooted.0 (standing (goal.at.returns c).After-transfer) c.renumber.new.numbers c.renumber.ensures c.label-count.ensures
+          (degree_by (lent c.args.n c.args.starts.now c.args.neighbours.now) c.args.levels.now) (degree_in_lem (lent c.args.n c.args.starts.now c.args.neighbours.now) c.args.nodes.now h.within c.args.root.node h.checked c.args.levels.now c.requires.rooted.1)
+          c.least.new.best c.least.new.degrees (omega (arith, few (goal.at.returns c).After-label-count, c.least.auto.best, c.label-count.auto.begins, c.requires.regional.2)) c.least.ensures,
+      few (goal.at.returns c).After-label-count,
+      candidates-only (lent c.args.n c.args.starts.now c.args.neighbours.now) c.args.nodes.now h c.requires.rooted.0 (standing (goal.at.returns c).After-transfer) c.renumber.new.numbers c.renumber.ensures c.label-count.ensures,
+    )

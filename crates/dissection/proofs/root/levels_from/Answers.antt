@@ -1,0 +1,30 @@
+-- `dissection::root::levels_from` meets its contract: the fresh nodes are the region, so the walk is over it.
+use mathlib.Core.Path.{refl, ◌∙◌}
+use native.Mathlib.Omega.{arith}
+use lib.ListN.{get_or}
+use borrow.Author.Rules.{rules}
+use Rattle.plan.specs.Lists.{is_in}
+use Rattle.plan.specs.Mesh.{lent}
+use Rattle.theory.proofs.Bools.{cond_true}
+use Rattle.dissection.specs.Numbers.{fresh}
+use Rattle.dissection.proofs.Standing.{walk_measured, walk_standing}
+use Rattle.dissection.proofs.root.levels_from.Goals as goal
+
+pub fill-requires : goal.fill-requires
+fill-requires c v t = omega (arith, c.requires.0.within.inside v t, c.requires.0.numbers_long)
+
+pub walk-w-requires : goal.walk-w-requires
+walk-w-requires c = (
+  c.requires.0.checked,
+  c.requires.0.within.inside c.args.r c.requires.1,
+  c.fill.ensures c.args.r ∙ cond_true (is_in c.args.r c.args.nodes.now) fresh (get_or c.args.numbers.now c.args.r 0) c.requires.1,
+  search rules,
+  search rules,
+)
+
+pub returns : goal.returns
+returns c = (
+  refl,
+  walk_measured (lent c.args.n c.args.starts.now c.args.neighbours.now) c.args.nodes.now c.requires.0 c.requires.1 c.walk-w.ensures c.fill.ensures,
+  walk_standing (lent c.args.n c.args.starts.now c.args.neighbours.now) c.args.nodes.now c.requires.0 c.requires.1 c.walk-w.ensures c.fill.ensures,
+)
