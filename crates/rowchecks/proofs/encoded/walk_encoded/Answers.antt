@@ -1,0 +1,27 @@
+-- `rowchecks::encoded::walk_encoded` meets its contract: column after column is added to what is carried.
+use mathlib.Core.Path.{◌≡◌}
+use Prim.Native.Nat.{◌-◌}
+use native.Mathlib.Omega.{arith}
+use borrow.Author.Rules.{rules}
+use Rattle.theory.proofs.RowFaults.{carried_none}
+use Rattle.rowchecks.specs.Rows.{parts_and_rows, rows_in}
+use Rattle.rowchecks.proofs.encoded.walk_encoded.Goals as goal
+
+pub ranges-requires : goal.ranges-requires
+ranges-requires c = (c.requires.0, omega (arith, c.requires.0.few, c.filled-lows.ensures.1), omega (arith, c.requires.0.few, c.filled-ends.ensures.1))
+
+pub loop-j-init : goal.loop-j-init
+loop-j-init c =
+    let plan = parts_and_rows c.args.n c.args.sizes.now c.args.parents.now c.args.column_starts.now (rows_in c.args.bytes.now) in
+    (omega arith, c.ranges-2.ensures, rw (c.none-faults.ensures.0, c.none-faults.ensures.1) (carried_none plan))
+
+pub after_column_encoded-faults-requires : goal.after_column_encoded-faults-requires
+after_column_encoded-faults-requires c = (c.requires.1, c.loop-j-test.true, c.loop-j.invariant.1.low_room, c.loop-j.invariant.1.end_room)
+
+pub loop-j-preserved : goal.loop-j-preserved
+loop-j-preserved c = (search rules, c.loop-j.invariant.1, c.after_column_encoded-faults.ensures c.args.sizes.now c.args.parents.now c.loop-j.invariant.1 c.loop-j.invariant.2)
+
+pub returns : goal.returns
+returns c =
+    let e : c.loop-j.j ≡ c.args.n = omega arith in
+    rw e at c.loop-j.invariant.2

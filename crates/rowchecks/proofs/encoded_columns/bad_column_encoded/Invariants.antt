@@ -1,0 +1,11 @@
+-- `rowchecks::encoded_columns::bad_column_encoded` meets its contract: behind k rows, the last of them `before`, the rule is that of column `before`
+-- for the rows to come.
+use mathlib.Core.Path.{◌≡◌}
+use Prim.Native.Nat.{◌-◌}
+use lib.ListN.{drop}
+use Rattle.plan.specs.File.{bad_column}
+use Rattle.rowchecks.specs.Rows.{rows_in}
+use Rattle.rowchecks.proofs.encoded_columns.bad_column_encoded.Given as goal
+
+abbrev pub invariant-loop-k : goal.invariant-loop-k
+invariant-loop-k l = bad_column l.n l.j (rows_in l.column) ≡ bad_column l.n l.before (drop l.k (rows_in l.column))

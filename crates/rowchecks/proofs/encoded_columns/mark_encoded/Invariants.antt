@@ -1,0 +1,11 @@
+-- `rowchecks::encoded_columns::mark_encoded` meets its contract: the loop marks each row.
+use mathlib.Core.Path.{◌≡◌}
+use Prim.Native.Nat.{◌-◌}
+use lib.ListN.{length, take}
+use Rattle.plan.specs.Lists.{is_in}
+use Rattle.layout.specs.Arrays.{Marked}
+use Rattle.rowchecks.specs.Rows.{rows_in}
+use Rattle.rowchecks.proofs.encoded_columns.mark_encoded.Given as goal
+
+abbrev pub invariant-loop-k : goal.invariant-loop-k
+invariant-loop-k l = (length l.marks ≡ length l.initial.marks) × Marked l.j (λ i. is_in i (take l.k (rows_in l.column))) l.initial.marks l.marks

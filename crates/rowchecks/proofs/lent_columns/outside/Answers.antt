@@ -1,0 +1,23 @@
+-- `rowchecks::lent_columns::outside` meets its contract: none of the rows before place k breaks 18's rule.
+use mathlib.Core.Path.{refl, sym}
+use Prim.Native.Nat.{◌-◌}
+use native.Mathlib.Omega.{arith}
+use Rattle.rowchecks.proofs.ColumnDown.{inside-high, inside_out, inside-next, inside-end}
+use mathlib.Core.Bool.{not}
+use mathlib.Core.Path.{ap}
+use Rattle.rowchecks.proofs.lent_columns.outside.Goals as goal
+
+pub returns-then-i-n : goal.returns-then-i-n
+returns-then-i-n c = sym (inside-high c.loop-k.invariant (omega arith) c.wide-i.ensures (omega arith))
+
+pub returns-then-not-holds : goal.returns-then-not-holds
+returns-then-not-holds c = sym (inside_out c.loop-k.invariant (omega arith) c.wide-i.ensures c.holds.ensures (ap not c.if-not-holds.true))
+
+pub loop-k-preserved : goal.loop-k-preserved
+loop-k-preserved c = inside-next c.loop-k.invariant c.wide-i.ensures (omega arith) c.holds.ensures (ap not c.if-not-holds.false)
+
+pub returns : goal.returns
+returns c = sym (inside-end c.loop-k.invariant (omega arith))
+
+pub loop-k-init : goal.loop-k-init
+loop-k-init c = record { clear = refl }
