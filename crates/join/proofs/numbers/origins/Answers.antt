@@ -1,0 +1,45 @@
+-- `join::numbers::origins` meets its contract: each turn stores one more node at the place that it goes to.
+use mathlib.Core.Path.{◌≡◌, refl, sym, ap, ◌∙◌}
+use mathlib.Core.List.{List}
+use Prim.Native.Nat.{ℕ, ◌-◌, ◌<◌}
+use native.Mathlib.Omega.{arith}
+use lib.ListN.{length, take, get_or}
+use lib.Seq.{length-take-le, get_or-take}
+use borrow.Author.Rules.{rules}
+use Rattle.plan.specs.Mesh.{max_nodes}
+use Rattle.mesh.proofs.Lists.{filled_at}
+use Rattle.join.proofs.Scattered.{scattered_none, scattered_more, scattered_indices}
+use Rattle.join.proofs.numbers.origins.Goals.{After-wide, After-filled-from}
+use Rattle.join.proofs.numbers.origins.Goals as goal
+
+-- where a node goes is a place of the array
+inside : (c : After-wide) → c.wide.result < max_nodes
+inside c = omega (arith, c.wide.ensures, c.requires.3 c.loop-w.w (omega arith))
+
+-- the list of where nodes go is as long as there are nodes
+many : (c : After-filled-from) → length (take c.args.n2 c.args.goes.now) ≡ c.args.n2
+many c = length-take-le c.args.n2 c.args.goes.now c.requires.1
+
+pub loop-w-preserved : goal.loop-w-preserved
+loop-w-preserved c =
+    let goes : List ℕ = c.args.goes.now in (
+      search rules,
+      scattered_more c.loop-w.invariant.1 c.requires.2 c.wide.result _
+          (omega (arith, many (goal.at.loop-w-preserved c).After-filled-from)) (c.wide.ensures ∙ sym (get_or-take c.args.n2 goes c.loop-w.w 0 (omega arith))) (omega (arith, inside (goal.at.loop-w-preserved c).After-wide)) refl,
+    )
+
+pub returns : goal.returns
+returns c = (
+  c.loop-w.invariant.1.long ∙ c.filled-from.ensures.1,
+  λ v lt. scattered_indices c.loop-w.invariant.1 (omega (arith, many (goal.at.returns c).After-filled-from)) v
+      (ap (λ (l : List ℕ). get_or l v 0) c.filled-from.ensures.0 ∙ filled_at c.args.n2 v lt ∙ sym (many (goal.at.returns c).After-filled-from)),
+)
+
+pub loop-w-init : goal.loop-w-init
+loop-w-init c = (search rules, scattered_none (take c.args.n2 c.args.goes.now) (λ i. i) c.filled-from.result)
+
+pub offset_bounds-from-wide : goal.offset_bounds-from-wide
+offset_bounds-from-wide c = omega (arith, inside (goal.at.offset_bounds-from-wide c).After-wide)
+
+pub bounds-from-wide : goal.bounds-from-wide
+bounds-from-wide c = omega (arith, inside (goal.at.bounds-from-wide c).After-wide)

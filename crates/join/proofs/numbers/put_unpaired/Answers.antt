@@ -1,0 +1,22 @@
+-- `join::numbers::put_unpaired` meets its contract: a node that waits goes to the next number, the others stay.
+use mathlib.Core.Logic.{⊎_elim}
+use Prim.Native.Nat.{◌-◌}
+use native.Mathlib.Omega.{arith}
+use borrow.Author.Rules.{rules}
+use Rattle.join.proofs.Following.{followed_none, followed_gone, followed_kept, waiting_few}
+use Rattle.join.proofs.numbers.put_unpaired.Goals as goal
+
+pub overflow_add-next : goal.overflow_add-next
+overflow_add-next c = omega (arith, waiting_few c.args.goes.now c.loop-w.w)
+
+pub loop-w-preserved : goal.loop-w-preserved
+loop-w-preserved c = (search rules, ⊎_elim (λ w. rw (w.1, w.2) (followed_gone c.loop-w.invariant.1 (omega arith) w.0.taken)) (λ w. rw (w.1, w.2) (followed_kept c.loop-w.invariant.1 w.0.left)) c.if-goes-w.branch-raw)
+
+pub returns : goal.returns
+returns c = (c.loop-w.invariant.1.long, λ w lt. c.loop-w.invariant.1.done w (omega arith))
+
+pub loop-w-init : goal.loop-w-init
+loop-w-init c = (search rules, followed_none c.args.n1 c.args.goes.now)
+
+pub shape_of-goes : goal.shape_of-goes
+shape_of-goes c = c.loop-w.invariant.1.long
