@@ -34,22 +34,29 @@ pub returns : goal.returns
 returns c = first_fronts (contents c.args.unknowns c.args.n c.args.p c.args.s c.args.order.now c.args.sizes.now c.args.parents.now c.args.column_starts.now c.args.rows.now) (few (goal.at.returns c).Else-bad_unknowns) (good (goal.at.returns c).Else-bad_supply) c.contents_refusal.result c.contents_refusal.ensures
 
 pub overflow_add-end : goal.overflow_add-end
+unfolding used
 overflow_add-end c = omega (arith, (counts-few (used (contents c.args.unknowns c.args.n c.args.p c.args.s c.args.order.now c.args.sizes.now c.args.parents.now c.args.column_starts.now c.args.rows.now)) (exact (goal.at.overflow_add-end c).Else-bad_supply).header).0)
 
 pub slice_bounds-contents_refusal-end : goal.slice_bounds-contents_refusal-end
+unfolding used
 slice_bounds-contents_refusal-end c = sym (exact (goal.at.slice_bounds-contents_refusal-end c).Else-bad_supply).whole.order
 
 pub slice_bounds-contents_refusal-end-2 : goal.slice_bounds-contents_refusal-end-2
+unfolding used
 slice_bounds-contents_refusal-end-2 c = sym (exact (goal.at.slice_bounds-contents_refusal-end-2 c).Else-bad_supply).whole.sizes
 
 pub slice_bounds-contents_refusal-end-3 : goal.slice_bounds-contents_refusal-end-3
+unfolding used
 slice_bounds-contents_refusal-end-3 c = sym (exact (goal.at.slice_bounds-contents_refusal-end-3 c).Else-bad_supply).whole.parents
 
 pub slice_bounds-contents_refusal-end-4 : goal.slice_bounds-contents_refusal-end-4
+unfolding used
 slice_bounds-contents_refusal-end-4 c = sym (exact (goal.at.slice_bounds-contents_refusal-end-4 c).Else-bad_supply).whole.column_starts
 
 pub slice_bounds-contents_refusal-end-5 : goal.slice_bounds-contents_refusal-end-5
+unfolding used
 slice_bounds-contents_refusal-end-5 c = sym (exact (goal.at.slice_bounds-contents_refusal-end-5 c).Else-bad_supply).whole.rows
 
 pub contents_refusal-requires : goal.contents_refusal-requires
+unfolding used
 contents_refusal-requires c = exact-listed (fronts (contents c.args.unknowns c.args.n c.args.p c.args.s c.args.order.now c.args.sizes.now c.args.parents.now c.args.column_starts.now c.args.rows.now)) (exact_fronts (contents c.args.unknowns c.args.n c.args.p c.args.s c.args.order.now c.args.sizes.now c.args.parents.now c.args.column_starts.now c.args.rows.now) (good (goal.at.contents_refusal-requires c).Else-bad_supply))

@@ -70,16 +70,21 @@ returns c =
     (c.write_plan.ensures ∙ ap (λ (d : Contents). written (encode d) c.args.bytes.now) (fronts_used (contents c.args.unknowns c.args.n c.args.p c.args.s c.args.order.now c.args.sizes.now c.args.parents.now c.args.column_starts.now c.args.rows.now) (whole (goal.at.returns c).Else-fault-ne0))))
 
 pub slice_bounds-write_plan-end : goal.slice_bounds-write_plan-end
+unfolding used
 slice_bounds-write_plan-end c = sym (whole (goal.at.slice_bounds-write_plan-end c).Else-fault-ne0).order
 
 pub slice_bounds-write_plan-end-2 : goal.slice_bounds-write_plan-end-2
+unfolding used
 slice_bounds-write_plan-end-2 c = sym (whole (goal.at.slice_bounds-write_plan-end-2 c).Else-fault-ne0).sizes
 
 pub slice_bounds-write_plan-end-3 : goal.slice_bounds-write_plan-end-3
+unfolding used
 slice_bounds-write_plan-end-3 c = sym (whole (goal.at.slice_bounds-write_plan-end-3 c).Else-fault-ne0).parents
 
 pub slice_bounds-write_plan-end-4 : goal.slice_bounds-write_plan-end-4
+unfolding used
 slice_bounds-write_plan-end-4 c = sym (whole (goal.at.slice_bounds-write_plan-end-4 c).Else-fault-ne0).column_starts
 
 pub slice_bounds-write_plan-end-5 : goal.slice_bounds-write_plan-end-5
+unfolding used
 slice_bounds-write_plan-end-5 c = sym (whole (goal.at.slice_bounds-write_plan-end-5 c).Else-fault-ne0).rows
