@@ -1,0 +1,45 @@
+-- `factor::rows::row_down` meets its contract: the pair of the row with itself, then those with the rows behind it.
+use Prim.Native.Nat.{◌+◌, ◌<◌}
+use native.Mathlib.Omega.{arith}
+use borrow.Author.Rules.{rules}
+use lib.ListN.{length, get_or}
+use Rattle.factor.specs.Down.{above32}
+use Rattle.factor.proofs.ColumnSteps.{row_beside, row_inside, row_advances}
+use Rattle.factor.proofs.rows.row_down.Goals.{Start}
+use Rattle.factor.proofs.rows.row_down.Goals as goal
+
+-- the row in slot s is a position
+inside : (c : Start) → (c.args.s < length c.args.rows.now) × (length c.args.rows.now < above32) × (get_or c.args.rows.now c.args.s 0 < length c.args.diagonal.now) × (get_or c.args.rows.now c.args.s 0 + 1 < length c.args.starts.now)
+inside c =
+    let i = row_inside c.args.starts.now c.args.rows.now (length c.args.diagonal.now) (length c.args.values.now) (length c.args.kept.now) (length c.args.lower.now) c.args.first c.args.s c.args.to c.requires.0 in
+    (i.0, i.1, i.2, i.3)
+
+pub less_down-requires : goal.less_down-requires
+less_down-requires c =
+    rw c.wide-k.ensures
+    (row_beside c.args.starts.now c.args.rows.now (length c.args.diagonal.now) (length c.args.values.now) (length c.args.kept.now) (length c.args.lower.now) c.args.first c.args.s c.args.to c.requires.0, c.requires.1)
+
+pub returns : goal.returns
+returns c =
+    rw c.wide-k.ensures (
+      row_advances c.args.starts.now c.args.rows.now c.args.kept.now c.args.lower.now c.args.diagonal.now c.args.values.now c.less_down.new.values c.args.first c.args.s c.args.to c.requires.0 c.less_down.auto.values (rw c.wide-k.ensures at c.less_down.ensures.values_after),
+      rw c.wide-k.ensures at c.less_down.ensures.placed,
+    )
+
+pub offset_bounds-rows-s : goal.offset_bounds-rows-s
+offset_bounds-rows-s c = omega (arith, inside (goal.at.offset_bounds-rows-s c).Start)
+
+pub bounds-rows-s : goal.bounds-rows-s
+bounds-rows-s c = omega (arith, inside (goal.at.bounds-rows-s c).Start)
+
+pub offset_bounds-diagonal-k : goal.offset_bounds-diagonal-k
+offset_bounds-diagonal-k c = search (rules, c.wide-k.ensures, (inside (goal.at.offset_bounds-diagonal-k c).Start).2)
+
+pub bounds-diagonal-k : goal.bounds-diagonal-k
+bounds-diagonal-k c = omega (arith, c.wide-k.ensures, (inside (goal.at.bounds-diagonal-k c).Start).2)
+
+pub offset_bounds-diagonal-k-2 : goal.offset_bounds-diagonal-k-2
+offset_bounds-diagonal-k-2 c = search (rules, c.wide-k.ensures, (inside (goal.at.offset_bounds-diagonal-k-2 c).Start).2)
+
+pub bounds-diagonal-k-2 : goal.bounds-diagonal-k-2
+bounds-diagonal-k-2 c = omega (arith, c.wide-k.ensures, (inside (goal.at.bounds-diagonal-k-2 c).Start).2)
