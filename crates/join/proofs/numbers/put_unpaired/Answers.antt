@@ -1,16 +1,22 @@
 -- `join::numbers::put_unpaired` meets its contract: a node that waits goes to the next number, the others stay.
-use mathlib.Core.Logic.{⊎_elim}
 use Prim.Native.Nat.{◌-◌}
 use native.Mathlib.Omega.{arith}
 use borrow.Author.Rules.{rules}
 use Rattle.join.proofs.Following.{followed_none, followed_gone, followed_kept, waiting_few}
+use Rattle.join.proofs.numbers.put_unpaired.Goals.{then-goes-w, else-goes-w}
 use Rattle.join.proofs.numbers.put_unpaired.Goals as goal
 
 pub overflow_add-next : goal.overflow_add-next
 overflow_add-next c = omega (arith, waiting_few c.args.goes.now c.loop-w.w)
 
 pub loop-w-preserved : goal.loop-w-preserved
-loop-w-preserved c = (search rules, ⊎_elim (λ w. rw (w.1, w.2) (followed_gone c.loop-w.invariant.1 (omega arith) w.0.taken)) (λ w. rw (w.1, w.2) (followed_kept c.loop-w.invariant.1 w.0.left)) c.if-goes-w.branch-raw)
+loop-w-preserved c = (
+  search rules,
+  elim c.if-goes-w.branch [
+    | then-goes-w w ↦ rw (w.goes-is, w.next-is) (followed_gone c.loop-w.invariant.1 (omega arith) w.if-goes-w.true)
+    | else-goes-w w ↦ rw (w.goes-is, w.next-is) (followed_kept c.loop-w.invariant.1 w.if-goes-w.false)
+  ],
+)
 
 pub returns : goal.returns
 returns c = (c.loop-w.invariant.1.long, λ w lt. c.loop-w.invariant.1.done w (omega arith))
