@@ -18,9 +18,9 @@ pub put_all-behind_rows-requires : goal.put_all-behind_rows-requires
 put_all-behind_rows-requires c = omega (arith, c.put_decimal-behind_position.ensures.ends, c.put_spaced-behind_node.ensures.ends, c.put_spaced-behind_part.ensures.ends, line_length c.args.position c.args.node c.args.part c.args.rows.now)
 
 pub put_byte-requires : goal.put_byte-requires
-put_byte-requires c = omega (arith, c.put_decimal-behind_position.ensures.ends, c.put_spaced-behind_node.ensures.ends, c.put_spaced-behind_part.ensures.ends, c.put_all_lem.ensures.ends, line_length c.args.position c.args.node c.args.part c.args.rows.now)
+put_byte-requires c = omega (arith, c.put_decimal-behind_position.ensures.ends, c.put_spaced-behind_node.ensures.ends, c.put_spaced-behind_part.ensures.ends, c.put_all-behind_rows.ensures.ends, line_length c.args.position c.args.node c.args.part c.args.rows.now)
 
 pub returns : goal.returns
 returns c =
     put_as (sym (line_parts c.args.position c.args.node c.args.part c.args.rows.now))
-    (put_both c.put_decimal-behind_position.ensures (put_both c.put_spaced-behind_node.ensures (put_both c.put_spaced-behind_part.ensures (put_both c.put_all_lem.ensures c.put_byte.ensures))))
+    (put_both c.put_decimal-behind_position.ensures (put_both c.put_spaced-behind_node.ensures (put_both c.put_spaced-behind_part.ensures (put_both c.put_all-behind_rows.ensures c.put_byte.ensures))))
