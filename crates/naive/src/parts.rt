@@ -2,7 +2,7 @@
 use crate::sets::{around, has, only, row, size, smallest, without};
 
 // The levels from a root; `last` is the number of the last one.
-#[derive(Drop)]
+#[derive(Clone, Copy)]
 struct Levels {
     sets: [u64; 64],
     last: usize,
