@@ -1,0 +1,11 @@
+-- `naive::joining::put_list` is safe and ends.
+use mathlib.Core.Path.{◌≡◌}
+use Prim.Native.Nat.{◌-◌}
+use lib.ListN.{length}
+use Rattle.naive.proofs.joining.put_list.Given as goal
+
+abbrev pub invariant-loop-w : goal.invariant-loop-w
+invariant-loop-w l = length l.neighbours ≡ length l.initial.neighbours
+
+abbrev pub decreases-loop-w : goal.decreases-loop-w
+decreases-loop-w l = l.n - l.w

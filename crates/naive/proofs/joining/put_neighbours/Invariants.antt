@@ -1,0 +1,11 @@
+-- `naive::joining::put_neighbours` is safe and ends.
+use mathlib.Core.Path.{◌≡◌}
+use Prim.Native.Nat.{◌-◌}
+use lib.ListN.{length}
+use Rattle.naive.proofs.joining.put_neighbours.Given as goal
+
+abbrev pub invariant-loop-v : goal.invariant-loop-v
+invariant-loop-v l = length l.neighbours ≡ length l.initial.neighbours
+
+abbrev pub decreases-loop-v : goal.decreases-loop-v
+decreases-loop-v l = l.n - l.v
