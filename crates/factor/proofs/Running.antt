@@ -1,7 +1,7 @@
 -- Running down one ascending list beside another that it holds.
-use mathlib.Core.Path.{◌≡◌, refl, sym, ap, ◌∙◌}
+use mathlib.Core.Path.{◌≡◌, refl, sym, ap, ◌∙◌, subst}
 use mathlib.Core.Logic.{◌≢◌, inl, inr}
-use mathlib.Core.Bool.{true, false, false≢true}
+use mathlib.Core.Bool.{true, false≢true}
 use mathlib.Core.List.{List, [], ◌∷◌}
 use Prim.Native.Nat.{ℕ, zero, suc, ◌+◌, ◌-◌, ◌≤◌, ◌<◌}
 use native.Mathlib.Numerals.{add-one}
@@ -249,6 +249,9 @@ module _ (starts rows : List ℕ) (k first from to room kept : ℕ) (b : Beside 
     lower-first : segment rows u (get_or starts (k + 1) 0) ≡ get_or rows u 0 ∷ segment rows (u + 1) (get_or starts (k + 1) 0)
     lower-first = segment-first rows u (get_or starts (k + 1) 0) room-left b.inside
 
+    first_held : Held (get_or rows t 0 ∷ segment rows (t + 1) to) (get_or rows u 0 ∷ segment rows (u + 1) (get_or starts (k + 1) 0))
+    first_held = subst (λ (l : List ℕ). Held (get_or rows t 0 ∷ segment rows (t + 1) to) l) lower-first (subst (λ (l : List ℕ). Held l (segment rows u (get_or starts (k + 1) 0))) upper_first r.held)
+
     -- where the last of the upper rows stands as far behind u as behind t, the rows agree
     pub running_agrees : get_or rows (u + (to - t) - 1) 0 ≡ get_or rows (to - 1) 0 → get_or rows u 0 ≡ get_or rows t 0
     running_agrees same =
@@ -262,7 +265,7 @@ module _ (starts rows : List ℕ) (k first from to room kept : ℕ) (b : Beside 
         let last : get_or (segment rows u end) (length (segment rows (t + 1) to)) 0 ≡ get_or (segment rows t to) (length (segment rows (t + 1) to)) 0 =
         rw rest-long (lower-at ∙ same ∙ sym upper-at) in
         held-front (get_or rows t 0) (get_or rows u 0) (segment rows (t + 1) to) (segment rows (u + 1) end)
-        (rw upper_first at r.upper) (rw lower-first at r.lower) (rw (upper_first, lower-first) at r.held) (rw (upper_first, lower-first) at last)
+        (rw upper_first at r.upper) (rw lower-first at r.lower) first_held (rw (upper_first, lower-first) at last)
 
     pub running_skips : get_or rows u 0 ≢ get_or rows t 0 → Running starts rows k to t (u + 1)
     running_skips ne = record {
@@ -272,7 +275,7 @@ module _ (starts rows : List ℕ) (k first from to room kept : ℕ) (b : Beside 
       lower = ascending_tail (get_or rows u 0) (segment rows (u + 1) (get_or starts (k + 1) 0)) (rw lower-first at r.lower);
       held = rw upper_first
           (held_skip (get_or rows t 0) (get_or rows u 0) (segment rows (t + 1) to) (segment rows (u + 1) (get_or starts (k + 1) 0))
-          (rw upper_first at r.upper) (rw lower-first at r.lower) (rw (upper_first, lower-first) at r.held) ne);
+          (rw upper_first at r.upper) (rw lower-first at r.lower) first_held ne);
     }
 
     -- u is the slot of t's row in column k
@@ -286,7 +289,7 @@ module _ (starts rows : List ℕ) (k first from to room kept : ℕ) (b : Beside 
       upper = ascending_tail (get_or rows t 0) (segment rows (t + 1) to) (rw upper_first at r.upper);
       lower = ascending_tail (get_or rows u 0) (segment rows (u + 1) (get_or starts (k + 1) 0)) (rw lower-first at r.lower);
       held = held-step (get_or rows t 0) (get_or rows u 0) (segment rows (t + 1) to) (segment rows (u + 1) (get_or starts (k + 1) 0))
-          (rw upper_first at r.upper) (rw (upper_first, lower-first) at r.held) e;
+          (rw upper_first at r.upper) first_held e;
     }
 
 -- what `along_front` says of some rows

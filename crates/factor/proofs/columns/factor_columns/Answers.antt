@@ -1,6 +1,6 @@
 -- `factor::columns::factor_columns` meets its contract: the columns from j on give what all of them do.
 use mathlib.Core.Path.{sym, ◌∙◌}
-use Prim.Native.Nat.{◌-◌, ◌<◌}
+use Prim.Native.Nat.{◌<◌}
 use native.Mathlib.Omega.{arith}
 use borrow.Author.Rules.{rules}
 use borrow.Author.Tests.{not-true, not-false}
@@ -17,7 +17,7 @@ pub loop-j-init : goal.loop-j-init
 loop-j-init c = columns-begin c.args.starts.now c.args.rows.now c.args.diagonal.now c.args.values.now c.open-report.result _ _ _ (search rules) (search rules) (search rules) c.open-report.ensures
 
 pub returns-then-not-is_pivot : goal.returns-then-not-is_pivot
-returns-then-not-is_pivot c = columns_stop c.args.starts.now c.args.rows.now c.args.diagonal.now c.args.values.now c.open-report.result c.loop-j.diagonal c.loop-j.values c.loop-j.auto c.loop-j.lower c.loop-j.places c.loop-j.report c.loop-j.j c.loop-j.invariant c.open-report.ensures (omega (arith, c.loop-j-test.true, c.loop-j.invariant.long_diagonal)) (sym c.is_pivot.ensures ∙ not-true c.is_pivot.result (ap not c.if-not-is_pivot.true)) c.refused.result c.refused.ensures
+returns-then-not-is_pivot c = columns_stop c.args.starts.now c.args.rows.now c.args.diagonal.now c.args.values.now c.open-report.result c.loop-j.diagonal c.loop-j.values c.loop-j.kept c.loop-j.lower c.loop-j.places c.loop-j.report c.loop-j.j c.loop-j.invariant c.open-report.ensures (omega (arith, c.loop-j-test.true, c.loop-j.invariant.long_diagonal)) (sym c.is_pivot.ensures ∙ not-true c.is_pivot.result (ap not c.if-not-is_pivot.true)) c.refused.result c.refused.ensures
 
 pub factor_column-requires : goal.factor_column-requires
 factor_column-requires c =
@@ -48,13 +48,13 @@ after-report-requires c = omega (arith, c.loop-j.invariant.few, column (goal.at.
 
 pub loop-j-preserved : goal.loop-j-preserved
 loop-j-preserved c =
-    columns-next c.args.starts.now c.args.rows.now c.args.diagonal.now c.args.values.now c.open-report.result c.loop-j.diagonal c.loop-j.values c.loop-j.auto c.loop-j.lower c.loop-j.places c.loop-j.report c.loop-j.j c.loop-j.invariant
+    columns-next c.args.starts.now c.args.rows.now c.args.diagonal.now c.args.values.now c.open-report.result c.loop-j.diagonal c.loop-j.values c.loop-j.kept c.loop-j.lower c.loop-j.places c.loop-j.report c.loop-j.j c.loop-j.invariant
     c.requires.plan c.requires.few (column (goal.at.loop-j-preserved c).In-loop-j) (sym c.is_pivot.ensures ∙ not-false c.is_pivot.result (ap not c.if-not-is_pivot.false))
     c.factor_column.new.diagonal c.factor_column.new.values c.factor_column.new.kept c.factor_column.new.lower c.factor_column.new.places c.after-report.result c.operations.result c.factor_column.ensures
     c.factor_column.auto.diagonal c.factor_column.auto.values c.factor_column.auto.kept c.factor_column.auto.lower c.factor_column.auto.places c.operations.ensures c.after-report.ensures
 
 pub returns : goal.returns
-returns c = columns-end c.args.starts.now c.args.rows.now c.args.diagonal.now c.args.values.now c.open-report.result c.loop-j.diagonal c.loop-j.values c.loop-j.auto c.loop-j.lower c.loop-j.places c.loop-j.report c.loop-j.j c.loop-j.invariant c.open-report.ensures (omega (arith, c.loop-j-test.false, c.loop-j.invariant.long_diagonal))
+returns c = columns-end c.args.starts.now c.args.rows.now c.args.diagonal.now c.args.values.now c.open-report.result c.loop-j.diagonal c.loop-j.values c.loop-j.kept c.loop-j.lower c.loop-j.places c.loop-j.report c.loop-j.j c.loop-j.invariant c.open-report.ensures (omega (arith, c.loop-j-test.false, c.loop-j.invariant.long_diagonal))
 
 pub slice_bounds-factor_column-end : goal.slice_bounds-factor_column-end
 slice_bounds-factor_column-end c = sym c.loop-j.invariant.long_kept

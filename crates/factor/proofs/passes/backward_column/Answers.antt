@@ -1,5 +1,5 @@
 -- `factor::passes::backward_column` meets its contract: with x in the column's place, the rows from slot s on are left.
-use Prim.Native.Nat.{◌+◌, ◌-◌, ◌<◌}
+use Prim.Native.Nat.{◌+◌, ◌<◌}
 use native.Mathlib.Omega.{arith}
 use borrow.Author.Rules.{rules}
 use lib.ListN.{length, get_or}

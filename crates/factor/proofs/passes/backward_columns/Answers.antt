@@ -1,5 +1,4 @@
 -- `factor::passes::backward_columns` meets its contract: the columns below j are left.
-use Prim.Native.Nat.{◌-◌}
 use native.Mathlib.Omega.{arith}
 use lib.ListN.{length}
 use Rattle.plan.specs.Solving.{backward_column, backward}

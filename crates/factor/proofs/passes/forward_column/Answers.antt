@@ -1,6 +1,6 @@
 -- `factor::passes::forward_column` meets its contract: the rows from slot s on are left, and the column's entry is as it was read.
 use mathlib.Core.Path.{refl}
-use Prim.Native.Nat.{◌+◌, ◌-◌, ◌<◌}
+use Prim.Native.Nat.{◌+◌, ◌<◌}
 use native.Mathlib.Omega.{arith}
 use borrow.Author.Rules.{rules}
 use lib.ListN.{length, get_or}

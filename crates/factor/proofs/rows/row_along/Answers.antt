@@ -17,7 +17,10 @@ inside c =
 pub less_along-requires : goal.less_along-requires
 less_along-requires c =
     rw c.wide-k.ensures
-    (row_beside c.args.starts.now c.args.rows.now (length c.args.diagonal.now) (length c.args.values.now) (length c.args.kept.now) (length c.args.lower.now) c.args.first c.args.s c.args.to c.requires.at_row, c.requires.to_value)
+    record {
+      beside = row_beside c.args.starts.now c.args.rows.now (length c.args.diagonal.now) (length c.args.values.now) (length c.args.kept.now) (length c.args.lower.now) c.args.first c.args.s c.args.to c.requires.at_row;
+      to_value = c.requires.to_value;
+    }
 
 pub returns : goal.returns
 returns c =

@@ -21,10 +21,11 @@ less_down-requires c =
 
 pub returns : goal.returns
 returns c =
-    rw c.wide-k.ensures (
-      row_advances c.args.starts.now c.args.rows.now c.args.kept.now c.args.lower.now c.args.diagonal.now c.args.values.now c.less_down.new.values c.args.first c.args.s c.args.to c.requires.0 c.less_down.auto.values (rw c.wide-k.ensures at c.less_down.ensures.values_after),
-      rw c.wide-k.ensures at c.less_down.ensures.placed,
-    )
+    rw c.wide-k.ensures
+    record {
+      advanced = row_advances c.args.starts.now c.args.rows.now c.args.kept.now c.args.lower.now c.args.diagonal.now c.args.values.now c.less_down.new.values c.args.first c.args.s c.args.to c.requires.0 c.less_down.auto.values (rw c.wide-k.ensures at c.less_down.ensures.values_after);
+      placed = rw c.wide-k.ensures at c.less_down.ensures.placed;
+    }
 
 pub offset_bounds-rows-s : goal.offset_bounds-rows-s
 offset_bounds-rows-s c = omega (arith, inside (goal.at.offset_bounds-rows-s c).Start)

@@ -17,7 +17,10 @@ inside c =
 pub less_known-requires : goal.less_known-requires
 less_known-requires c =
     rw c.wide-k.ensures
-    ((row_beside c.args.starts.now c.args.rows.now (length c.args.diagonal.now) (length c.args.values.now) (length c.args.kept.now) (length c.args.lower.now) c.args.first c.args.s c.args.to c.requires.at_row.0, c.requires.at_row.1), c.requires.shift_bound)
+    record {
+      beside = (row_beside c.args.starts.now c.args.rows.now (length c.args.diagonal.now) (length c.args.values.now) (length c.args.kept.now) (length c.args.lower.now) c.args.first c.args.s c.args.to c.requires.at_row.0, c.requires.at_row.1);
+      shift_bound = c.requires.shift_bound;
+    }
 
 pub returns : goal.returns
 returns c =
