@@ -2,7 +2,7 @@
  * opens the file, fills the plan with stiffnesses, factors, solves for a load, and looks how well the solution fits. The stiffnesses and the load are
  * made up.
  *
- * In the repository's root, after `rt staticlib ndplan` and `rt staticlib ndfactor`:
+ * In the repository's root, after `tools/staticlib ndplan` and `tools/staticlib ndfactor`:
  *   gcc -Iinclude examples/week.c target/staticlib/libndfactor.a target/staticlib/libndplan.a -lm -o target/week && target/week
  * Another mesh: its Matrix Market text's path as the argument. bindings/rust/examples/week.rs is the same in Rust, and prints the same. */
 #include "ndfactor.h"

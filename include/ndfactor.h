@@ -1,4 +1,4 @@
-/* The factoring's C interface, in libndfactor.a (`rt staticlib ndfactor`, for x86-64), a second library above the planner's. It fills a plan of
+/* The factoring's C interface, in libndfactor.a (`tools/staticlib ndfactor`, for x86-64), a second library above the planner's. It fills a plan of
  * ndplan.h: ndf_factor makes of the values of a symmetric matrix the factors L and D of L D Lᵀ, in place, in 64-bit floats; ndf_solve finds with them
  * the x of L D Lᵀ x = b; ndf_held reads, for display, what they hold at a pair of positions.
  *

@@ -1,4 +1,4 @@
-/* The planner's C interface, in libndplan.a (`rt staticlib ndplan`, for x86-64). It cuts a mesh into parts by nested dissection, numbers the nodes
+/* The planner's C interface, in libndplan.a (`tools/staticlib ndplan`, for x86-64). It cuts a mesh into parts by nested dissection, numbers the nodes
  * in the order of their elimination, lays out the triangular factor slot by slot, and writes and reads plan files. It also reads a mesh from a
  * Matrix Market text, and joins two meshes into one.
  *

@@ -14,7 +14,7 @@ fn main() {
     for library in LIBRARIES {
         if !archive(library).is_file() {
             let missing = archive(library);
-            eprintln!("{} is missing: run `rt staticlib {library}` in the repository's root", missing.display());
+            eprintln!("{} is missing: run `tools/staticlib {library}` in the repository's root", missing.display());
             process::exit(1);
         }
     }
