@@ -5,7 +5,8 @@
 
 ghost use Rattle.std.specs.Prelude.{◌≤◌, length};
 
-use libc::{STDIN_FILENO, STDOUT_FILENO};
+use input::read_full;
+use std::io;
 
 // Where the case that begins at `at` ends; 0 where no whole case stands there.
 fn end_of(input: &[u8], at: usize) -> usize
@@ -25,33 +26,32 @@ fn end_of(input: &[u8], at: usize) -> usize
     from + size
 }
 
-// The listing of one case.
-fn list_one(input: &[u8]) {
+// Prints the listing of one case.
+fn list_one(rt: &impl Print, input: &[u8]) -> io::Result<()> {
     let text = text::list(input);
-    let bytes = text.bytes;
-    let length = text.length;
-    io::write_all(STDOUT_FILENO, &bytes[..length]);
+    rt.write_all(&text.bytes[..text.length])
 }
 
-// The listings of all cases, up to the first that is not whole.
-fn list_all(input: &[u8]) {
+// Prints the listings of all cases, up to the first that is not whole.
+fn list_all(rt: &impl Print, input: &[u8]) -> io::Result<()> {
     let mut at: usize = 0;
     while at < input.len() {
         let end = end_of(input, at);
         if end <= at {
-            return;
+            return Ok(());
         }
         if end - at < 2 {
-            return;
+            return Ok(());
         }
         let from = at + 2;
-        list_one(&input[from..end]);
+        list_one(rt, &input[from..end])?;
         at = end;
     }
+    Ok(())
 }
 
-fn main() {
-    let mut buffer = io::large_buffer();
-    let read = io::read_full(STDIN_FILENO, &mut buffer);
-    list_all(&buffer[..read]);
+fn main(rt: HostRuntime) -> io::Result<()> {
+    let mut buffer = [0u8; 65536];
+    let read = read_full(&mut rt.stdin(), &mut buffer)?;
+    list_all(&rt, &buffer[..read])
 }
