@@ -9,13 +9,14 @@ mod trial;
 use crate::counts::{Counts, counted, none, print};
 use crate::trial::{try_case, try_lent};
 use meshes::{Case, allowed_unknowns, first16, refused_unknowns};
+use std::io;
 
 // Every mesh of n nodes, of which there are `count`.
 fn every(c: Counts, n: u8, count: u64) -> Counts {
     let mut d = c;
     for number in 0..count {
         let o = try_case(allowed_unknowns(number), meshes::numbered(n, number));
-        d = counted(d, o, b"nodes and number", n as usize, number as usize);
+        d = counted(d, o, "nodes and number", n as usize, number as usize);
     }
     d
 }
@@ -24,9 +25,9 @@ fn every(c: Counts, n: u8, count: u64) -> Counts {
 fn tried(c: Counts, m: Case, seed: u64, damages: usize) -> Counts {
     let s = seed as usize;
     let o = try_case(allowed_unknowns(seed), m);
-    let d = counted(c, o, b"seed and damages", s, damages);
+    let d = counted(c, o, "seed and damages", s, damages);
     let p = try_case(refused_unknowns(seed), m);
-    counted(d, p, b"unknowns outside, seed and damages", s, damages)
+    counted(d, p, "unknowns outside, seed and damages", s, damages)
 }
 
 // The mesh that the seed draws, and the same damaged once and twice.
@@ -56,7 +57,7 @@ fn many(c: Counts, n: u8, starts: &[u32], count: usize, entry: u16) -> Counts {
         first16(&entries, count),
         meshes::least(n),
     );
-    counted(c, o, b"nodes and entries", n as usize, count)
+    counted(c, o, "nodes and entries", n as usize, count)
 }
 
 // As many entries as are allowed, and one more. The last mesh fails checks 3 and 4.
@@ -69,11 +70,11 @@ fn all_many(c: Counts) -> Counts {
     many(h, 1, &[0, 65537], 65537, 9)
 }
 
-fn main() {
+fn main(rt: HostRuntime) -> io::Result<()> {
     let c = every(
         every(every(every(every(none(), 1, 1), 2, 2), 3, 8), 4, 64),
         5,
         1024,
     );
-    print(all_many(all_drawn(c)));
+    print(&rt, &all_many(all_drawn(c)))
 }

@@ -30,7 +30,7 @@ pub fn least(n: u8) -> Lengths
 }
 
 // What a planner is lent: n, the first of the starts and of the neighbours, and results of these lengths.
-#[derive(Drop)]
+#[derive(Clone, Copy)]
 pub struct Case {
     pub n: usize,
     pub starts: [u32; 72],

@@ -1,7 +1,7 @@
 // Numbers one less and one more, and numbers in lines.
 ghost use Rattle.std.specs.Prelude.{◌≡◌, ◌+◌, ◌-◌, ◌%◌};
 
-use libc::STDOUT_FILENO;
+use std::io;
 
 // One less than x, and 0 for 0.
 pub fn less(x: usize) -> usize
@@ -21,22 +21,21 @@ pub fn more(x: usize) -> usize
 }
 
 // A number that ends a line.
-pub fn print_number(x: usize) {
-    io::print_decimal(STDOUT_FILENO, x as u64);
-    io::write_all(STDOUT_FILENO, b"\n");
+pub fn print_number(rt: &impl Print, x: usize) -> io::Result<()> {
+    println!(rt; "{x}")
 }
 
 // Where something was found: words and two numbers, which end a line.
-pub fn print_place(what: &[u8], first: usize, second: usize) {
-    io::write_all(STDOUT_FILENO, what);
-    io::write_all(STDOUT_FILENO, b" ");
-    io::print_decimal(STDOUT_FILENO, first as u64);
-    io::write_all(STDOUT_FILENO, b" ");
-    print_number(second);
+pub fn print_place(rt: &impl Print, what: &str, first: usize, second: usize) -> io::Result<()> {
+    println!(rt; "{what} {first} {second}")
 }
 
 // The line that tells where the proved code and the naive code differ.
-pub fn print_difference(what: &[u8], first: usize, second: usize) {
-    io::write_all(STDOUT_FILENO, b"different: ");
-    print_place(what, first, second);
+pub fn print_difference(
+    rt: &impl Print,
+    what: &str,
+    first: usize,
+    second: usize,
+) -> io::Result<()> {
+    println!(rt; "different: {what} {first} {second}")
 }

@@ -37,7 +37,7 @@ pub use text::{NaiveMesh, read_text};
 pub const TOO_LARGE: u32 = 65535;
 
 // What planning and reading hand out. `refusal` is 0 where there is a plan; otherwise everything else is 0.
-#[derive(Drop)]
+#[derive(Clone, Copy)]
 pub struct NaivePlan {
     pub refusal: u32,
     pub nodes: u32,
