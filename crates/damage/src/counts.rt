@@ -1,7 +1,7 @@
 // How often each operation was met with each answer, and how often the proved code and the naive code differed.
-use libc::STDOUT_FILENO;
 use meshes::{more, print_difference, print_number};
 use naive::TOO_LARGE;
+use std::io;
 
 // The operations. `OLD_READ` is reading in the workshop that never updates.
 pub(crate) const READ: usize = 0;
@@ -39,8 +39,20 @@ pub(crate) const DRAWN_LAYOUTS: usize = 6000;
 
 pub(crate) const TREES: usize = 7000;
 
-// Answers by operation and refusal. `subject` is what is tried, and `turn` how many comparisons of it were made: they tell where a difference is.
-#[derive(Drop)]
+// How many differences have a line each, which is written when all comparisons are made.
+const NOTES: usize = 20;
+
+// Where a difference is: in which operation, on which subject and in which comparison of it.
+#[derive(Clone, Copy)]
+struct Note {
+    operation: usize,
+    subject: usize,
+    turn: usize,
+}
+
+// Answers by operation and refusal. `subject` is what is tried, and `turn` how many comparisons of it were made: they tell where a difference is. The
+// notes are those of the first differences.
+#[derive(Clone, Copy)]
 pub(crate) struct Counts {
     met: [usize; MET],
     too_large: usize,
@@ -49,6 +61,7 @@ pub(crate) struct Counts {
     different: usize,
     subject: usize,
     turn: usize,
+    notes: [Note; NOTES],
 }
 
 pub(crate) fn none() -> Counts {
@@ -60,6 +73,11 @@ pub(crate) fn none() -> Counts {
         different: 0,
         subject: 0,
         turn: 0,
+        notes: [Note {
+            operation: 0,
+            subject: 0,
+            turn: 0,
+        }; NOTES],
     }
 }
 
@@ -70,13 +88,17 @@ pub(crate) fn begun(mut c: Counts, first: usize, number: u64) -> Counts {
     c
 }
 
-// One more comparison. The first twenty differences have a line each.
+// One more comparison. The first twenty differences have a note each.
 fn compared(mut c: Counts, operation: usize, same: bool) -> Counts {
     c.turn = more(c.turn);
     if !same {
-        if c.different < 20 {
-            print_name(operation);
-            print_difference(b"subject and turn", c.subject, c.turn);
+        let at = c.different;
+        if at < NOTES {
+            c.notes[at] = Note {
+                operation,
+                subject: c.subject,
+                turn: c.turn,
+            };
         }
         c.different = more(c.different);
     }
@@ -111,27 +133,35 @@ pub(crate) fn counted(mut c: Counts, operation: usize, refusal: u32, same: bool)
     compared(c, operation, same)
 }
 
-fn print_name(operation: usize) {
+fn print_name(rt: &impl Print, operation: usize) -> io::Result<()> {
     if operation == READ {
-        io::write_all(STDOUT_FILENO, b"read ");
+        print!(rt; "read ")
     } else if operation == OLD_READ {
-        io::write_all(STDOUT_FILENO, b"old read ");
+        print!(rt; "old read ")
     } else if operation == WRITE {
-        io::write_all(STDOUT_FILENO, b"write ");
+        print!(rt; "write ")
     } else if operation == PAIR {
-        io::write_all(STDOUT_FILENO, b"pair ");
+        print!(rt; "pair ")
     } else if operation == COLUMN {
-        io::write_all(STDOUT_FILENO, b"column ");
+        print!(rt; "column ")
     } else if operation == SLOT {
-        io::write_all(STDOUT_FILENO, b"slot ");
+        print!(rt; "slot ")
     } else if operation == ROUND_TRIP {
-        io::write_all(STDOUT_FILENO, b"round trip ");
+        print!(rt; "round trip ")
     } else {
-        io::write_all(STDOUT_FILENO, b"plan ");
+        print!(rt; "plan ")
     }
 }
 
-fn met(c: Counts, operation: usize, refusal: usize) -> usize {
+fn print_notes(rt: &impl Print, c: &Counts) -> io::Result<()> {
+    for note in c.notes.iter().take(c.different) {
+        print_name(rt, note.operation)?;
+        print_difference(rt, "subject and turn", note.subject, note.turn)?;
+    }
+    Ok(())
+}
+
+fn met(c: &Counts, operation: usize, refusal: usize) -> usize {
     if operation < OPERATIONS {
         if refusal < ANSWERS {
             let at = operation * ANSWERS + refusal;
@@ -141,33 +171,35 @@ fn met(c: Counts, operation: usize, refusal: usize) -> usize {
     0
 }
 
-fn print_met(c: Counts, operation: usize, refusal: usize) {
+fn print_met(rt: &impl Print, c: &Counts, operation: usize, refusal: usize) -> io::Result<()> {
     let times = met(c, operation, refusal);
     if 0 < times {
-        print_name(operation);
-        io::print_decimal(STDOUT_FILENO, refusal as u64);
-        io::write_all(STDOUT_FILENO, b": ");
-        print_number(times);
+        print_name(rt, operation)?;
+        print!(rt; "{refusal}: ")?;
+        print_number(rt, times)?;
     }
+    Ok(())
 }
 
-fn print_operation(c: Counts, operation: usize) {
+fn print_operation(rt: &impl Print, c: &Counts, operation: usize) -> io::Result<()> {
     for refusal in 0..ANSWERS {
-        print_met(c, operation, refusal);
+        print_met(rt, c, operation, refusal)?;
     }
+    Ok(())
 }
 
 // A line for each answer that was met.
-pub(crate) fn print(c: Counts) {
+pub(crate) fn print(rt: &impl Print, c: &Counts) -> io::Result<()> {
+    print_notes(rt, c)?;
     for operation in 0..OPERATIONS {
-        print_operation(c, operation);
+        print_operation(rt, c, operation)?;
     }
-    io::write_all(STDOUT_FILENO, b"too large to compare ");
-    print_number(c.too_large);
-    io::write_all(STDOUT_FILENO, b"meshes refused ");
-    print_number(c.meshes_refused);
-    io::write_all(STDOUT_FILENO, b"round trips ");
-    print_number(c.round_trips);
-    io::write_all(STDOUT_FILENO, b"different ");
-    print_number(c.different);
+    print!(rt; "too large to compare ")?;
+    print_number(rt, c.too_large)?;
+    print!(rt; "meshes refused ")?;
+    print_number(rt, c.meshes_refused)?;
+    print!(rt; "round trips ")?;
+    print_number(rt, c.round_trips)?;
+    print!(rt; "different ")?;
+    print_number(rt, c.different)
 }

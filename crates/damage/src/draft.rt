@@ -5,7 +5,7 @@ use naive::LONGEST;
 use plan::WriteAnswer;
 
 // `lengths` has those of the lists (order, sizes, parents, column starts, rows) and the room for the bytes.
-#[derive(Drop)]
+#[derive(Clone, Copy)]
 pub(crate) struct Draft {
     pub(crate) unknowns: usize,
     pub(crate) n: usize,
@@ -41,7 +41,7 @@ pub(crate) fn draft_of(h: Held) -> Draft {
 }
 
 // What writing leaves: the refusal or 0, the length or 0, and the bytes, which were 77.
-#[derive(Drop)]
+#[derive(Clone, Copy)]
 pub(crate) struct Wrote {
     pub(crate) refusal: u32,
     pub(crate) length: usize,

@@ -14,7 +14,7 @@ pub(crate) const S: usize = 3;
 pub(crate) const UNKNOWNS: usize = 4;
 
 // `version` is the one that the file was made in, whatever its bytes say.
-#[derive(Drop)]
+#[derive(Clone, Copy)]
 pub(crate) struct File {
     pub(crate) version: usize,
     pub(crate) bytes: [u8; LONGEST],

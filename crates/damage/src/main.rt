@@ -26,6 +26,7 @@ use crate::file::{File, order_at};
 use crate::held::{ENOUGH, planned, read, same};
 use crate::trials::{try_file, try_writing};
 use meshes::{Case, Held, allowed_unknowns, from_edges};
+use std::io;
 
 // A plan written, read into results that are longer than needed, and written again.
 fn round_trip(c: Counts, h: Held) -> Counts {
@@ -167,7 +168,7 @@ fn all_drawn(c: Counts) -> Counts {
     d
 }
 
-fn main() {
+fn main(rt: HostRuntime) -> io::Result<()> {
     let c = all_drawn(all_full(all_middling(all_small(none()))));
-    print(trees::all(layouts::all_drawn(drafts::all_drawn(c))));
+    print(&rt, &trees::all(layouts::all_drawn(drafts::all_drawn(c))))
 }

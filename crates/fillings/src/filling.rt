@@ -25,7 +25,7 @@ pub(crate) const POSITION_2: usize = 13;
 pub(crate) const NUMBERS: usize = 14;
 
 // `multiplications` is the plan's own count, or 0 where it is not known.
-#[derive(Drop)]
+#[derive(Clone, Copy)]
 pub(crate) struct Filling {
     pub(crate) numbers: [usize; 14],
     pub(crate) multiplications: u64,

@@ -15,6 +15,7 @@ use crate::filling::{Filling, planned, tight};
 use crate::trial::try_filling;
 use crate::values::{KINDS, ZEROS, with_values};
 use meshes::Case;
+use std::io;
 
 // Values of each kind, in lists that are longer than needed and in such as are just long enough.
 fn every_kind(c: Counts, f: Filling, seed: u64) -> Counts {
@@ -65,6 +66,6 @@ fn every_mesh(c: Counts) -> Counts {
     d
 }
 
-fn main() {
-    print(every_mesh(none()));
+fn main(rt: HostRuntime) -> io::Result<()> {
+    print(&rt, &every_mesh(none()))
 }

@@ -20,7 +20,7 @@ pub(crate) fn front64<'a>(s: &'a mut [f64], k: usize) -> &'a mut [f64] {
 }
 
 // What the library leaves: its answer and the arrays whose first entries were lent.
-#[derive(Drop)]
+#[derive(Clone, Copy)]
 struct Left {
     refusal: u32,
     smallest: f64,

@@ -19,12 +19,13 @@ mod trial;
 
 use crate::counts::{none, print};
 use crate::lent::{NODES_LENT, STARTS_LENT};
+use std::io;
 
-fn main() {
+fn main(rt: HostRuntime) -> io::Result<()> {
     let mut starts = [0u32; STARTS_LENT];
     let mut nodes = [0u16; NODES_LENT];
     let c = given::all(none(), &mut starts, &mut nodes);
     let d = drawn::all(c, &mut starts, &mut nodes);
     let e = faults::all(d, &mut starts, &mut nodes);
-    print(large::all(e, &mut starts, &mut nodes));
+    print(&rt, &large::all(e, &mut starts, &mut nodes))
 }

@@ -12,7 +12,7 @@ const GREATEST: f64 = 1.7976931348623157e308;
 
 // What factoring hands out: the report, which is all zeros on a refusal, and the first values of both buffers as they are left, 0 behind their ends.
 // `strays` counts the pairs of two different rows in a column that have no slot, over all columns, where the plan's own checks pass.
-#[derive(Drop)]
+#[derive(Clone, Copy)]
 pub struct NaiveFactor {
     pub refusal: u32,
     pub smallest: f64,

@@ -1,8 +1,7 @@
 // How often each answer was met, and how often the proved reader and the naive one differed.
-use crate::text::piece;
-use libc::STDOUT_FILENO;
-use meshes::{more, print_difference, print_number};
+use meshes::{less, more, print_difference, print_number};
 use naive::NaiveMesh;
+use std::io;
 
 // The counts, in the order in which they are printed. The comparisons whose answer is a refusal have its number, counted from `ACCEPTED`.
 const NUMBERS: usize = 31;
@@ -18,14 +17,27 @@ pub(crate) const NOT_AS_KNOWN: usize = 29;
 
 pub(crate) const DIFFERENT: usize = 30;
 
+// The most lines about single texts: twenty of each kind of failure.
+const NOTES: usize = 40;
+
+// A line about a failure, which is written when all texts are tried: what failed, on which subject, and a number.
+#[derive(Clone, Copy)]
+struct Note {
+    what: &'static str,
+    subject: usize,
+    number: usize,
+}
+
 // `subject` is what is tried, a line of the input or a number that draws, and `turn` how many comparisons of it were made: they tell where a
-// difference is. `answer` is the last one.
-#[derive(Drop)]
+// difference is. `answer` is the last one. `noted` is how many notes there are, in the order in which they were made.
+#[derive(Clone, Copy)]
 pub(crate) struct Counts {
     numbers: [usize; NUMBERS],
     subject: usize,
     turn: usize,
     pub(crate) answer: NaiveMesh,
+    notes: [Note; NOTES],
+    noted: usize,
 }
 
 pub(crate) fn none() -> Counts {
@@ -38,6 +50,12 @@ pub(crate) fn none() -> Counts {
             nodes: 0,
             entries: 0,
         },
+        notes: [Note {
+            what: "",
+            subject: 0,
+            number: 0,
+        }; NOTES],
+        noted: 0,
     }
 }
 
@@ -55,14 +73,29 @@ pub(crate) fn raised(mut c: Counts, k: usize) -> Counts {
     c
 }
 
-// One more failure. The first twenty of a kind have a line each, with a number.
-pub(crate) fn failed(c: Counts, k: usize, what: &[u8], number: usize) -> Counts {
+// One more note, where there is room.
+fn with_note(mut c: Counts, what: &'static str, number: usize) -> Counts {
+    let at = c.noted;
+    if at < NOTES {
+        c.notes[at] = Note {
+            what,
+            subject: c.subject,
+            number,
+        };
+        c.noted = at + 1;
+    }
+    c
+}
+
+// One more failure. The first twenty of a kind have a note each, with a number.
+pub(crate) fn failed(c: Counts, k: usize, what: &'static str, number: usize) -> Counts {
+    let mut d = c;
     if k < NUMBERS {
-        if c.numbers[k] < 20 {
-            print_difference(what, c.subject, number);
+        if d.numbers[k] < 20 {
+            d = with_note(d, what, number);
         }
     }
-    raised(c, k)
+    raised(d, k)
 }
 
 // One more comparison, whose answer should be this one.
@@ -76,29 +109,51 @@ pub(crate) fn counted(mut c: Counts, answer: NaiveMesh, same: bool) -> Counts {
     if same {
         return d;
     }
-    failed(d, DIFFERENT, b"subject and turn", c.turn)
+    failed(d, DIFFERENT, "subject and turn", c.turn)
+}
+
+fn print_notes(rt: &impl Print, c: &Counts) -> io::Result<()> {
+    for note in c.notes.iter().take(c.noted) {
+        print_difference(rt, note.what, note.subject, note.number)?;
+    }
+    Ok(())
+}
+
+// The words before a count.
+fn print_label(rt: &impl Print, k: usize) -> io::Result<()> {
+    if k == TEXTS {
+        print!(rt; "texts ")
+    } else if k == ACCEPTED {
+        print!(rt; "accepted ")
+    } else if k == TOO_LARGE {
+        print!(rt; "too large to compare ")
+    } else if k == NOT_AS_KNOWN {
+        print!(rt; "not as known ")
+    } else if k == DIFFERENT {
+        print!(rt; "different ")
+    } else {
+        let refusal = less(k);
+        print!(rt; "refused {refusal}: ")
+    }
 }
 
 // A line of its own, none for a refusal that was not met.
-fn print_line(k: usize, x: usize) {
+fn print_line(rt: &impl Print, k: usize, x: usize) -> io::Result<()> {
     if x == 0 {
         if ACCEPTED < k {
             if k < TOO_LARGE {
-                return;
+                return Ok(());
             }
         }
     }
-    let labels =
-        b"texts |accepted |refused 1: |refused 2: |refused 3: |refused 4: |refused 5: |refused 6: |refused 7: |refused 8: |refused 9: |\
-        refused 10: |refused 11: |refused 12: |refused 13: |refused 14: |refused 15: |refused 16: |refused 17: |refused 18: |refused 19: |\
-        refused 20: |refused 21: |refused 22: |refused 23: |refused 24: |refused 25: |refused 26: |too large to compare |not as known |\
-        different |";
-    io::write_all(STDOUT_FILENO, piece(labels, k, b'|'));
-    print_number(x);
+    print_label(rt, k)?;
+    print_number(rt, x)
 }
 
-pub(crate) fn print(c: Counts) {
+pub(crate) fn print(rt: &impl Print, c: &Counts) -> io::Result<()> {
+    print_notes(rt, c)?;
     for k in 0..NUMBERS {
-        print_line(k, c.numbers[k]);
+        print_line(rt, k, c.numbers[k])?;
     }
+    Ok(())
 }

@@ -6,7 +6,7 @@ use plan::Plan;
 const PAIRS: usize = 300;
 
 // The list has the numbers of the pairs, `count` of them, each row before its column.
-#[derive(Drop)]
+#[derive(Clone, Copy)]
 pub(crate) struct Draft {
     pub(crate) height: usize,
     pub(crate) width: usize,

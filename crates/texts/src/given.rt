@@ -4,7 +4,6 @@ use crate::damage::every_damage;
 use crate::ring::try_ring;
 use crate::text::{Text, byte, empty, piece, with};
 use crate::trial::{ANY, try_text};
-use libc::STDIN_FILENO;
 
 // The most lines.
 const LINES: usize = 500;
@@ -70,10 +69,7 @@ fn try_line(c: Counts, line: &[u8]) -> Counts {
     }
 }
 
-pub(crate) fn all(c: Counts) -> Counts {
-    let mut input = io::large_buffer();
-    let length = io::read_full(STDIN_FILENO, &mut input);
-    let lines = &input[..length];
+pub(crate) fn all(c: Counts, lines: &[u8]) -> Counts {
     let mut d = c;
     for k in 0..LINES {
         d = try_line(begun(d, k + 1), piece(lines, k, b'\n'));

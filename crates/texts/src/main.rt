@@ -18,7 +18,12 @@ mod text;
 mod trial;
 
 use crate::counts::{none, print};
+use input::read_full;
+use std::io;
 
-fn main() {
-    print(drawn::all(given::all(none())));
+// Of the input the first 65,536 bytes are read.
+fn main(rt: HostRuntime) -> io::Result<()> {
+    let mut input = [0u8; 65536];
+    let length = read_full(&mut rt.stdin(), &mut input)?;
+    print(&rt, &drawn::all(given::all(none(), &input[..length])))
 }

@@ -1,11 +1,12 @@
 // Texts of at most 4,096 bytes, what is put into texts, and parts of them. What does not fit is left out.
+use itoa::Buffer;
 use meshes::more;
 
 const BANNER: [u8; 50] = *b"%%MatrixMarket matrix coordinate pattern symmetric";
 
 pub(crate) const SIZE: usize = 4096;
 
-#[derive(Drop)]
+#[derive(Clone, Copy)]
 pub(crate) struct Text {
     pub(crate) bytes: [u8; SIZE],
     pub(crate) length: usize,
@@ -38,9 +39,8 @@ pub(crate) fn with_all(t: Text, piece: &[u8]) -> Text {
 
 // The text with a number behind a byte.
 fn with_number(t: Text, before: u8, x: usize) -> Text {
-    let mut digits = [0u8; 20];
-    let count = io::decimal(x as u64, &mut digits);
-    with_all(with(t, before), &digits[..count])
+    let mut digits = Buffer::new();
+    with_all(with(t, before), digits.format(x).as_bytes())
 }
 
 // The text with the line of a pair, plainly; the line feed comes first.

@@ -82,12 +82,7 @@ pub(crate) fn try_text(c: Counts, t: Text, known: usize) -> Counts {
     let refusal = long(answer.refusal);
     let mut d = lent(first, t, 0, 0);
     if (known != ANY) & (refusal != known) {
-        d = failed(
-            d,
-            NOT_AS_KNOWN,
-            b"not as known, subject and answer",
-            refusal,
-        );
+        d = failed(d, NOT_AS_KNOWN, "not as known, subject and answer", refusal);
     }
     if refusal != 0 {
         return d;
