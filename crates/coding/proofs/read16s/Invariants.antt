@@ -15,6 +15,3 @@ pub record Read (bytes : List ℕ) (at apart count : ℕ) (found numbers : List 
 
 abbrev pub invariant-loop-k : goal.invariant-loop-k
 invariant-loop-k l = Read l.bytes l.at l.apart l.count l.initial.numbers l.numbers l.k
-
-abbrev pub decreases-loop-k : goal.decreases-loop-k
-decreases-loop-k l = l.count - l.k

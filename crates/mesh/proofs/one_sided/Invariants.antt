@@ -21,6 +21,3 @@ invariant-loop-k l = (l.missing ≡ false) × Clear (element_at (lone (lent l.n 
 
 abbrev pub invariant-nodes : goal.invariant-nodes
 invariant-nodes l = (l.missing ≡ false) × Clear (lone_in (lent l.n l.starts l.neighbours)) l.v
-
-abbrev pub decreases-nodes : goal.decreases-nodes
-decreases-nodes l = l.n - l.v

@@ -13,6 +13,3 @@ faulty rule m v = breaks_rule rule v (neighbours_of m v)
 
 abbrev pub invariant-loop-v : goal.invariant-loop-v
 invariant-loop-v l = Clear (faulty l.rule (lent l.n l.starts l.neighbours)) l.v
-
-abbrev pub decreases-loop-v : goal.decreases-loop-v
-decreases-loop-v l = l.n - l.v

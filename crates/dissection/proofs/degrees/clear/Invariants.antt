@@ -7,6 +7,3 @@ use Rattle.dissection.proofs.degrees.clear.Given as goal
 
 abbrev pub invariant-loop-c : goal.invariant-loop-c
 invariant-loop-c l = (l.c ≤ l.count) × (length l.degrees ≡ length l.initial.degrees) × ((k : ℕ) → k < l.c → get_or l.degrees k 0 ≡ none)
-
-abbrev pub decreases-loop-c : goal.decreases-loop-c
-decreases-loop-c l = l.count - l.c

@@ -11,6 +11,3 @@ abbrev pub invariant-loop-i : goal.invariant-loop-i
 invariant-loop-i l =
     (l.i ≤ length l.nodes) × (l.i-end ≡ length l.nodes) × (length l.best ≡ length l.initial.best) × (length l.degrees ≡ length l.initial.degrees)
     × Leading (degree_by (lent l.n l.starts l.neighbours) l.region) l.groups l.count (take l.i l.nodes) l.best l.degrees
-
-abbrev pub decreases-loop-i : goal.decreases-loop-i
-decreases-loop-i l = length l.nodes - l.i

@@ -7,6 +7,3 @@ use Rattle.dissection.proofs.levels.advance.Given as goal
 
 abbrev pub invariant-loop-k : goal.invariant-loop-k
 invariant-loop-k l = (l.lo ≤ l.k) × (l.k ≤ l.hi) × (l.hi ≤ l.n) × Spread l.n l.x l.hi l.initial.numbers l.initial.queue (λ v. exists (λ u. adjacent (lent l.n l.starts l.neighbours) u v) (segment l.initial.queue l.lo l.k)) l.numbers l.queue l.tail
-
-abbrev pub decreases-loop-k : goal.decreases-loop-k
-decreases-loop-k l = l.hi - l.k

@@ -8,6 +8,3 @@ use Rattle.dissection.proofs.parts.block_end.Given as goal
 -- the block goes on to place e
 abbrev pub invariant-loop-e : goal.invariant-loop-e
 invariant-loop-e l = (l.e ≤ l.n) × (l.at + 1 + leading (drop (l.at + 1) (take l.n l.heads)) ≡ l.e + leading (drop l.e (take l.n l.heads)))
-
-abbrev pub decreases-loop-e : goal.decreases-loop-e
-decreases-loop-e l = l.n - l.e

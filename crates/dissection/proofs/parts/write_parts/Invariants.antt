@@ -20,6 +20,3 @@ pub record Turn (hs : List ℕ) (count : ℕ) (sizes₀ parents₀ sizes parents
 
 abbrev pub invariant-loop-q : goal.invariant-loop-q
 invariant-loop-q l = Turn (take l.n l.heads) l.count l.initial.sizes l.initial.parents l.sizes l.parents l.at l.q
-
-abbrev pub decreases-loop-q : goal.decreases-loop-q
-decreases-loop-q l = l.count - l.q

@@ -12,6 +12,3 @@ abbrev pub invariant-loop-c : goal.invariant-loop-c
 invariant-loop-c l =
     (l.c ≤ l.count) × (length l.numbers ≡ length l.initial.numbers) × (length l.queue ≡ length l.initial.queue) × Regional (lent l.n l.starts l.neighbours) l.nodes l.numbers l.queue
     × (keep (improves (lent l.n l.starts l.neighbours) l.nodes l.root.node) (take l.count l.found) ≡ keep (improves (lent l.n l.starts l.neighbours) l.nodes l.root.node) (drop l.c (take l.count l.found)))
-
-abbrev pub decreases-loop-c : goal.decreases-loop-c
-decreases-loop-c l = l.count - l.c

@@ -10,6 +10,3 @@ use Rattle.join.proofs.lists.count_entries.Given as goal
 
 abbrev pub invariant-loop-v : goal.invariant-loop-v
 invariant-loop-v l = (l.v ≤ l.n) × (length l.initial.counts ≡ max_nodes) × (l.counts ≡ written (map length (merged_lists (lent l.n1 l.starts1 l.neighbours1) (lent l.n2 l.starts2 l.neighbours2) l.goes l.from l.v)) l.initial.counts)
-
-abbrev pub decreases-loop-v : goal.decreases-loop-v
-decreases-loop-v l = l.n - l.v

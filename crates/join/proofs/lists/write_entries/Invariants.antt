@@ -8,6 +8,3 @@ use Rattle.join.proofs.lists.write_entries.Given as goal
 
 abbrev pub invariant-loop-v : goal.invariant-loop-v
 invariant-loop-v l = (l.v ≤ l.n) × Reached l.initial.neighbours (flatten (merged_lists (lent l.n1 l.starts1 l.neighbours1) (lent l.n2 l.starts2 l.neighbours2) l.goes l.from l.v)) l.neighbours l.at
-
-abbrev pub decreases-loop-v : goal.decreases-loop-v
-decreases-loop-v l = l.n - l.v

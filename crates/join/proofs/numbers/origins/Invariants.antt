@@ -6,6 +6,3 @@ use Rattle.join.proofs.numbers.origins.Given as goal
 
 abbrev pub invariant-loop-w : goal.invariant-loop-w
 invariant-loop-w l = (l.w ≤ l.n2) × Scattered (take l.n2 l.goes) (λ i. i) l.initial.from l.w l.from
-
-abbrev pub decreases-loop-w : goal.decreases-loop-w
-decreases-loop-w l = l.n2 - l.w

@@ -5,6 +5,3 @@ use Rattle.join.proofs.numbers.put_unpaired.Given as goal
 
 abbrev pub invariant-loop-w : goal.invariant-loop-w
 invariant-loop-w l = (l.w ≤ l.n2) × Followed l.n1 l.initial.goes l.goes l.next l.w
-
-abbrev pub decreases-loop-w : goal.decreases-loop-w
-decreases-loop-w l = l.n2 - l.w

@@ -13,6 +13,3 @@ breaks n column_starts rows j = bad_column n j (list_at column_starts rows j)
 
 abbrev pub invariant-loop-j : goal.invariant-loop-j
 invariant-loop-j l = Clear (breaks l.n l.column_starts l.rows) l.j
-
-abbrev pub decreases-loop-j : goal.decreases-loop-j
-decreases-loop-j l = l.n - l.j

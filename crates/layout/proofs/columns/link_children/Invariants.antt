@@ -7,6 +7,3 @@ use Rattle.layout.proofs.columns.link_children.Given as goal
 
 abbrev pub invariant-loop-c : goal.invariant-loop-c
 invariant-loop-c l = (l.c ≤ l.n) × (length l.first ≡ length l.initial.first) × (length l.next ≡ length l.initial.next) × Children l.n l.tree l.c l.first l.next
-
-abbrev pub decreases-loop-c : goal.decreases-loop-c
-decreases-loop-c l = l.n - l.c

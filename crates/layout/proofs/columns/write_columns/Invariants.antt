@@ -9,6 +9,3 @@ use Rattle.layout.proofs.columns.write_columns.Given as goal
 
 abbrev pub invariant-loop-j : goal.invariant-loop-j
 invariant-loop-j l = (l.j ≤ l.n) × (length l.rows ≡ length l.initial.rows) × (length l.marks ≡ max_nodes) × Unmarked l.n l.j l.marks × (l.rows ≡ written (rows_before (lent l.n l.starts l.neighbours) l.order l.j) l.initial.rows)
-
-abbrev pub decreases-loop-j : goal.decreases-loop-j
-decreases-loop-j l = l.n - l.j

@@ -22,6 +22,3 @@ pub record Inv (m : Mesh) (order positions : List ℕ) (i : ℕ) (entries tree�
 
 abbrev pub invariant-loop-e : goal.invariant-loop-e
 invariant-loop-e l = Inv (lent l.n l.starts l.neighbours) l.order l.positions l.i l.entries l.initial.tree l.initial.marks l.initial.counts l.tree l.marks l.counts l.e
-
-abbrev pub decreases-loop-e : goal.decreases-loop-e
-decreases-loop-e l = length l.entries - l.e

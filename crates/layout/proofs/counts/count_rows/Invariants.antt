@@ -20,6 +20,3 @@ pub record Inv (m : Mesh) (order tree₀ counts₀ tree counts marks : List ℕ)
 
 abbrev pub invariant-loop-i : goal.invariant-loop-i
 invariant-loop-i l = Inv (lent l.n l.starts l.neighbours) l.order l.initial.tree l.initial.counts l.tree l.counts l.marks l.i
-
-abbrev pub decreases-loop-i : goal.decreases-loop-i
-decreases-loop-i l = l.n - l.i

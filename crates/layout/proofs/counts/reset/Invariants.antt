@@ -7,6 +7,3 @@ use Rattle.layout.proofs.counts.reset.Given as goal
 
 abbrev pub invariant-loop-k : goal.invariant-loop-k
 invariant-loop-k l = (l.k ≤ l.n) × (length l.numbers ≡ length l.initial.numbers) × (l.numbers ≡ written (replicate l.k l.x) l.initial.numbers)
-
-abbrev pub decreases-loop-k : goal.decreases-loop-k
-decreases-loop-k l = l.n - l.k

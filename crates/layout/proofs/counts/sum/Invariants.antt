@@ -17,6 +17,3 @@ pub record Summed (n : ℕ) (counts : List ℕ) (sumSlots sumProducts j : ℕ) :
 
 abbrev pub invariant-loop-j : goal.invariant-loop-j
 invariant-loop-j l = Summed l.n l.counts l.slots l.multiplications l.j
-
-abbrev pub decreases-loop-j : goal.decreases-loop-j
-decreases-loop-j l = l.n - l.j

@@ -16,6 +16,3 @@ pub record Started (n : ℕ) (counts found starts : List ℕ) (start j : ℕ) : 
 
 abbrev pub invariant-loop-j : goal.invariant-loop-j
 invariant-loop-j l = Started l.n l.counts l.initial.column_starts l.column_starts l.start l.j
-
-abbrev pub decreases-loop-j : goal.decreases-loop-j
-decreases-loop-j l = l.n - l.j

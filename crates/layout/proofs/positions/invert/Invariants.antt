@@ -6,6 +6,3 @@ use Rattle.layout.proofs.positions.invert.Given as goal
 
 abbrev pub invariant-loop-i : goal.invariant-loop-i
 invariant-loop-i l = (l.i ≤ length l.order) × Inverted (length l.order) l.order l.i l.initial.positions l.positions
-
-abbrev pub decreases-loop-i : goal.decreases-loop-i
-decreases-loop-i l = length l.order - l.i

@@ -9,6 +9,3 @@ use Rattle.mesh.proofs.made.too_long.Given as goal
 
 abbrev pub invariant-loop-v : goal.invariant-loop-v
 invariant-loop-v l = (l.v ≤ l.n) × (l.long ≡ exists (ltb max_neighbours) (take l.v l.counts))
-
-abbrev pub decreases-loop-v : goal.decreases-loop-v
-decreases-loop-v l = l.n - l.v

@@ -6,6 +6,3 @@ use Rattle.naive.proofs.joining.put_list.Given as goal
 
 abbrev pub invariant-loop-w : goal.invariant-loop-w
 invariant-loop-w l = length l.neighbours ≡ length l.initial.neighbours
-
-abbrev pub decreases-loop-w : goal.decreases-loop-w
-decreases-loop-w l = l.n - l.w

@@ -6,6 +6,3 @@ use Rattle.naive.proofs.joining.put_neighbours.Given as goal
 
 abbrev pub invariant-loop-v : goal.invariant-loop-v
 invariant-loop-v l = length l.neighbours ≡ length l.initial.neighbours
-
-abbrev pub decreases-loop-v : goal.decreases-loop-v
-decreases-loop-v l = l.n - l.v

@@ -16,6 +16,3 @@ count starts j = encode16 (many starts j)
 
 abbrev pub invariant-loop-j : goal.invariant-loop-j
 invariant-loop-j l = Blocks (count l.column_starts) 2 l.n l.initial.bytes l.bytes l.j
-
-abbrev pub decreases-loop-j : goal.decreases-loop-j
-decreases-loop-j l = l.n - l.j

@@ -11,6 +11,3 @@ use Rattle.rowchecks.proofs.encoded.not_covered_encoded.Given as goal
 
 abbrev pub invariant-loop-j : goal.invariant-loop-j
 invariant-loop-j l = (length l.marks ≡ max_nodes) × Unmarked l.n l.j l.marks × Clear (breaks l.column_starts (rows_in l.bytes)) l.j
-
-abbrev pub decreases-loop-j : goal.decreases-loop-j
-decreases-loop-j l = l.n - l.j

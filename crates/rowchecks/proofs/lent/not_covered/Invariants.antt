@@ -10,6 +10,3 @@ use Rattle.rowchecks.proofs.lent.not_covered.Given as goal
 
 abbrev pub invariant-loop-j : goal.invariant-loop-j
 invariant-loop-j l = (length l.marks ≡ max_nodes) × Unmarked l.n l.j l.marks × Clear (breaks l.column_starts l.rows) l.j
-
-abbrev pub decreases-loop-j : goal.decreases-loop-j
-decreases-loop-j l = l.n - l.j

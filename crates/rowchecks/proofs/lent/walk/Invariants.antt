@@ -6,6 +6,3 @@ use Rattle.rowchecks.proofs.lent.walk.Given as goal
 
 abbrev pub invariant-loop-j : goal.invariant-loop-j
 invariant-loop-j l = (l.j ≤ l.n) × Ranges l.n l.sizes l.parents l.lows l.ends × Carried l.j (parts_and_rows l.n l.sizes l.parents l.column_starts l.rows) l.faults.unordered l.faults.outside
-
-abbrev pub decreases-loop-j : goal.decreases-loop-j
-decreases-loop-j l = l.n - l.j

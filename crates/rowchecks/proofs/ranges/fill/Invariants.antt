@@ -19,6 +19,3 @@ pub record Filled (at count low end : ℕ) (lows₀ ends₀ lows ends : List ℕ
 
 abbrev pub invariant-loop-k : goal.invariant-loop-k
 invariant-loop-k l = Filled l.at l.count l.low l.end l.initial.lows l.initial.ends l.lows l.ends l.k
-
-abbrev pub decreases-loop-k : goal.decreases-loop-k
-decreases-loop-k l = l.count - l.k

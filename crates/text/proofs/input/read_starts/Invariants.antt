@@ -14,6 +14,3 @@ pub record Front (l found buffer : List ℕ) (k : ℕ) : Type 0 where
 
 abbrev pub invariant-loop-k : goal.invariant-loop-k
 invariant-loop-k l = Front (input_mesh l.input).starts l.initial.starts l.starts l.k
-
-abbrev pub decreases-loop-k : goal.decreases-loop-k
-decreases-loop-k l = l.count - l.k

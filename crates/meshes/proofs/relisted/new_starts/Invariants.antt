@@ -1,9 +1,0 @@
--- `meshes::relisted::new_starts` is safe and ends.
-use Prim.Native.Nat.{◌-◌}
-use Rattle.meshes.proofs.relisted.new_starts.Given as goal
-
-abbrev pub invariant-loop-v : goal.invariant-loop-v
-invariant-loop-v l = Unit {0}
-
-abbrev pub decreases-loop-v : goal.decreases-loop-v
-decreases-loop-v l = 72 - l.v

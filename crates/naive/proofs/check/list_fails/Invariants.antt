@@ -1,6 +1,0 @@
--- `naive::check::list_fails` is safe and ends.
-use Prim.Native.Nat.{◌-◌}
-use Rattle.naive.proofs.check.list_fails.Given as goal
-
-abbrev pub invariant-loop-e : goal.invariant-loop-e
-invariant-loop-e l = Unit {0}

@@ -1,9 +1,0 @@
--- `naive::cliques::clique` is safe and ends.
-use Prim.Native.Nat.{◌-◌}
-use Rattle.naive.proofs.cliques.clique.Given as goal
-
-abbrev pub invariant-loop-v : goal.invariant-loop-v
-invariant-loop-v l = Unit {0}
-
-abbrev pub decreases-loop-v : goal.decreases-loop-v
-decreases-loop-v l = 64 - l.v

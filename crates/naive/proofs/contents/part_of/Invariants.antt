@@ -1,9 +1,0 @@
--- `naive::contents::part_of` is safe and ends.
-use Prim.Native.Nat.{◌-◌}
-use Rattle.naive.proofs.contents.part_of.Given as goal
-
-abbrev pub invariant-loop-k : goal.invariant-loop-k
-invariant-loop-k l = Unit {0}
-
-abbrev pub decreases-loop-k : goal.decreases-loop-k
-decreases-loop-k l = l.p - l.k

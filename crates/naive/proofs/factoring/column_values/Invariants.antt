@@ -1,9 +1,0 @@
--- `naive::factoring::column_values` is safe and ends.
-use Prim.Native.Nat.{◌-◌}
-use Rattle.naive.proofs.factoring.column_values.Given as goal
-
-abbrev pub invariant-loop-i : goal.invariant-loop-i
-invariant-loop-i l = Unit {0}
-
-abbrev pub decreases-loop-i : goal.decreases-loop-i
-decreases-loop-i l = 64 - l.i

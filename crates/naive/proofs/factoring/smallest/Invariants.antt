@@ -1,9 +1,0 @@
--- `naive::factoring::smallest` is safe and ends.
-use Prim.Native.Nat.{◌-◌}
-use Rattle.naive.proofs.factoring.smallest.Given as goal
-
-abbrev pub invariant-loop-j : goal.invariant-loop-j
-invariant-loop-j l = Unit {0}
-
-abbrev pub decreases-loop-j : goal.decreases-loop-j
-decreases-loop-j l = l.n - l.j

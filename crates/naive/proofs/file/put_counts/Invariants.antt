@@ -1,9 +1,0 @@
--- `naive::file::put_counts` is safe and ends.
-use Prim.Native.Nat.{◌-◌}
-use Rattle.naive.proofs.file.put_counts.Given as goal
-
-abbrev pub invariant-loop-j : goal.invariant-loop-j
-invariant-loop-j l = Unit {0}
-
-abbrev pub decreases-loop-j : goal.decreases-loop-j
-decreases-loop-j l = l.n - l.j

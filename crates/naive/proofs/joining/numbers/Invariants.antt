@@ -1,9 +1,0 @@
--- `naive::joining::numbers` is safe and ends.
-use Prim.Native.Nat.{◌-◌}
-use Rattle.naive.proofs.joining.numbers.Given as goal
-
-abbrev pub invariant-loop-w : goal.invariant-loop-w
-invariant-loop-w l = Unit {0}
-
-abbrev pub decreases-loop-w : goal.decreases-loop-w
-decreases-loop-w l = 4096 - l.w

@@ -1,6 +1,0 @@
--- `naive::joining::place` is safe and ends.
-use Prim.Native.Nat.{◌-◌}
-use Rattle.naive.proofs.joining.place.Given as goal
-
-abbrev pub invariant-loop-k : goal.invariant-loop-k
-invariant-loop-k l = Unit {0}

@@ -1,6 +1,0 @@
--- `naive::questions::search` is safe and ends.
-use Prim.Native.Nat.{◌-◌}
-use Rattle.naive.proofs.questions.search.Given as goal
-
-abbrev pub invariant-loop-e : goal.invariant-loop-e
-invariant-loop-e l = Unit {0}

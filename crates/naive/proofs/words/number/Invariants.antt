@@ -1,6 +1,0 @@
--- `naive::words::number` is safe and ends.
-use Prim.Native.Nat.{◌-◌}
-use Rattle.naive.proofs.words.number.Given as goal
-
-abbrev pub invariant-loop-i : goal.invariant-loop-i
-invariant-loop-i l = Unit {0}

@@ -1,9 +1,0 @@
--- `naive::words::numbers_only` is safe and ends.
-use Prim.Native.Nat.{◌-◌}
-use Rattle.naive.proofs.words.numbers_only.Given as goal
-
-abbrev pub invariant-loop-k : goal.invariant-loop-k
-invariant-loop-k l = Unit {0}
-
-abbrev pub decreases-loop-k : goal.decreases-loop-k
-decreases-loop-k l = l.count - l.k
