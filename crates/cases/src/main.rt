@@ -15,9 +15,11 @@ mod versions;
 use crate::show::{print_answer, print_buffers, print_family, print_title};
 use meshes::{first16, first32, from_edges, front16, front32};
 use plan::Plan;
+use std::io;
 
 // A mesh planned with so many unknowns for each node into four buffers of `length` entries, column starts of `columns` and rows of `slots`.
 fn plan_lent(
+    rt: &impl Print,
     unknowns: usize,
     n: usize,
     starts: &[u32],
@@ -25,7 +27,7 @@ fn plan_lent(
     length: usize,
     columns: usize,
     slots: usize,
-) {
+) -> io::Result<()> {
     let mut order = [60000u16; 32];
     let mut positions = [60000u16; 32];
     let mut sizes = [60000u16; 32];
@@ -44,26 +46,28 @@ fn plan_lent(
         front32(&mut column_starts, columns),
         front16(&mut rows, slots),
     );
-    print_answer(answer);
+    print_answer(rt, answer)?;
     print_buffers(
+        rt,
         first16(&order, length),
         first16(&positions, length),
         first16(&sizes, length),
         first16(&parents, length),
         first32(&column_starts, columns),
         first16(&rows, slots),
-    );
+    )
 }
 
 // A mesh of n nodes by its edges, planned into buffers of n + 1 entries, n + 2 for the columns, and rows of this length.
-fn plan_edges(title: u8, n: u8, edges: &[u8], slots: usize) {
-    print_title(title);
+fn plan_edges(rt: &impl Print, title: u8, n: u8, edges: &[u8], slots: usize) -> io::Result<()> {
+    print_title(rt, title)?;
     let c = from_edges(n, edges);
     let starts = c.starts;
     let neighbours = c.neighbours;
     let entries = c.entry_count;
     let size = n as usize;
     plan_lent(
+        rt,
         1,
         size,
         first32(&starts, size + 1),
@@ -71,11 +75,12 @@ fn plan_edges(title: u8, n: u8, edges: &[u8], slots: usize) {
         size + 1,
         size + 2,
         slots,
-    );
+    )
 }
 
 // Any lists of n nodes with so many unknowns each, planned into buffers of this length, one more for the columns, and rows of their length.
 pub(crate) fn plan_unknowns(
+    rt: &impl Print,
     title: u8,
     unknowns: usize,
     n: usize,
@@ -83,27 +88,28 @@ pub(crate) fn plan_unknowns(
     neighbours: &[u16],
     length: u8,
     slots: usize,
-) {
-    print_title(title);
+) -> io::Result<()> {
+    print_title(rt, title)?;
     let size = length as usize;
-    plan_lent(unknowns, n, starts, neighbours, size, size + 1, slots);
+    plan_lent(rt, unknowns, n, starts, neighbours, size, size + 1, slots)
 }
 
 // Such lists with one unknown for each node.
 pub(crate) fn plan_lists(
+    rt: &impl Print,
     title: u8,
     n: usize,
     starts: &[u32],
     neighbours: &[u16],
     length: u8,
     slots: usize,
-) {
-    plan_unknowns(title, 1, n, starts, neighbours, length, slots);
+) -> io::Result<()> {
+    plan_unknowns(rt, title, 1, n, starts, neighbours, length, slots)
 }
 
 // n nodes without entries: the answer, the last entries of each buffer and the entry behind them.
-fn plan_bare(title: u8, n: usize) {
-    print_title(title);
+fn plan_bare(rt: &impl Print, title: u8, n: usize) -> io::Result<()> {
+    print_title(rt, title)?;
     let starts = [0u32; Plan::NODES + 2];
     let mut order = [60000u16; Plan::NODES + 1];
     let mut positions = [60000u16; Plan::NODES + 1];
@@ -123,150 +129,163 @@ fn plan_bare(title: u8, n: usize) {
         &mut column_starts,
         &mut rows,
     );
-    print_answer(answer);
+    print_answer(rt, answer)?;
     print_buffers(
+        rt,
         &order[Plan::NODES - 2..Plan::NODES + 1],
         &positions[Plan::NODES - 2..Plan::NODES + 1],
         &sizes[Plan::NODES - 2..Plan::NODES + 1],
         &parents[Plan::NODES - 2..Plan::NODES + 1],
         &column_starts[Plan::NODES - 1..Plan::NODES + 2],
         &rows,
-    );
+    )
 }
 
 // "Meshes worked through", 1 to 9 and 13.
-fn worked() {
-    plan_edges(1, 1, &[], 1);
-    plan_edges(2, 2, &[], 1);
-    plan_edges(3, 3, &[0, 1, 0, 2, 1, 2], 2);
-    plan_edges(3, 3, &[0, 1, 0, 2, 1, 2], 3);
-    plan_edges(4, 5, &[0, 1, 1, 2, 2, 3, 3, 4], 6);
-    plan_edges(5, 4, &[0, 1, 1, 2, 2, 3, 0, 3], 6);
-    plan_edges(6, 4, &[0, 1, 0, 2, 0, 3], 4);
-    plan_lists(7, 0, &[0], &[], 2, 1);
-    plan_lists(8, 2, &[0, 1, 1], &[1], 3, 1);
-    plan_lists(9, 2, &[0, 2, 2], &[5, 0], 3, 1);
-    plan_bare(13, Plan::NODES);
-    plan_bare(13, Plan::NODES + 1);
+fn worked(rt: &impl Print) -> io::Result<()> {
+    plan_edges(rt, 1, 1, &[], 1)?;
+    plan_edges(rt, 2, 2, &[], 1)?;
+    plan_edges(rt, 3, 3, &[0, 1, 0, 2, 1, 2], 2)?;
+    plan_edges(rt, 3, 3, &[0, 1, 0, 2, 1, 2], 3)?;
+    plan_edges(rt, 4, 5, &[0, 1, 1, 2, 2, 3, 3, 4], 6)?;
+    plan_edges(rt, 5, 4, &[0, 1, 1, 2, 2, 3, 0, 3], 6)?;
+    plan_edges(rt, 6, 4, &[0, 1, 0, 2, 0, 3], 4)?;
+    plan_lists(rt, 7, 0, &[0], &[], 2, 1)?;
+    plan_lists(rt, 8, 2, &[0, 1, 1], &[1], 3, 1)?;
+    plan_lists(rt, 9, 2, &[0, 2, 2], &[5, 0], 3, 1)?;
+    plan_bare(rt, 13, Plan::NODES)?;
+    plan_bare(rt, 13, Plan::NODES + 1)
 }
 
 // Meshes whose order tells a misreading of the cut or of the root search.
-fn telling() {
-    plan_edges(21, 4, &[0, 1, 0, 2, 0, 3, 1, 2], 6);
-    plan_edges(22, 4, &[0, 1, 0, 2, 1, 3], 6);
-    plan_edges(23, 7, &[0, 1, 0, 2, 1, 3, 1, 4, 2, 5, 2, 6, 3, 5], 16);
-    plan_edges(24, 5, &[0, 1, 0, 2, 0, 3, 0, 4, 1, 2, 1, 3, 2, 4], 12);
-    plan_edges(25, 5, &[0, 1, 0, 2, 1, 3, 1, 4], 8);
-    plan_edges(26, 7, &[0, 3, 0, 4, 1, 2, 1, 4, 2, 3, 3, 6, 4, 5], 16);
-    plan_edges(27, 5, &[0, 1, 0, 2, 0, 3, 0, 4, 1, 4, 3, 4], 12);
-    plan_edges(28, 5, &[0, 1, 0, 2, 0, 3, 0, 4, 1, 3, 3, 4], 12);
+fn telling(rt: &impl Print) -> io::Result<()> {
+    plan_edges(rt, 21, 4, &[0, 1, 0, 2, 0, 3, 1, 2], 6)?;
+    plan_edges(rt, 22, 4, &[0, 1, 0, 2, 1, 3], 6)?;
+    plan_edges(rt, 23, 7, &[0, 1, 0, 2, 1, 3, 1, 4, 2, 5, 2, 6, 3, 5], 16)?;
+    plan_edges(rt, 24, 5, &[0, 1, 0, 2, 0, 3, 0, 4, 1, 2, 1, 3, 2, 4], 12)?;
+    plan_edges(rt, 25, 5, &[0, 1, 0, 2, 1, 3, 1, 4], 8)?;
+    plan_edges(rt, 26, 7, &[0, 3, 0, 4, 1, 2, 1, 4, 2, 3, 3, 6, 4, 5], 16)?;
+    plan_edges(rt, 27, 5, &[0, 1, 0, 2, 0, 3, 0, 4, 1, 4, 3, 4], 12)?;
+    plan_edges(rt, 28, 5, &[0, 1, 0, 2, 0, 3, 0, 4, 1, 3, 3, 4], 12)?;
     plan_edges(
+        rt,
         29,
         7,
         b"\x00\x01\x00\x02\x00\x03\x01\x02\x01\x03\x02\x04\x02\x05\x03\x04\x03\x05\x04\x06\x05\x06",
         24,
-    );
-    plan_edges(30, 7, &[0, 1, 1, 2, 2, 3, 3, 4, 4, 5, 5, 6], 12);
+    )?;
+    plan_edges(rt, 30, 7, &[0, 1, 1, 2, 2, 3, 3, 4, 4, 5, 5, 6], 12)
 }
 
 // Meshes that tell which neighbours a degree counts, and that a widest level is looked at. If a degree counted nodes already chosen, a region of 31
 // would stay uncut, though no clique; if it counted neighbours in the last level only, 34 would be cut in another way. If the root's and a
 // candidate's widest levels were not compared, a region that a cut has left in 32, and the first region of 33, would be cut in another way.
-fn telling_degrees() {
+fn telling_degrees(rt: &impl Print) -> io::Result<()> {
     plan_edges(
+        rt,
         31,
         7,
         b"\x00\x01\x00\x05\x01\x02\x01\x03\x01\x06\x02\x03\x02\x06\x03\x04\x04\x05\x04\x06",
         24,
-    );
+    )?;
     plan_edges(
+        rt,
         32,
         9,
         b"\x00\x01\x00\x02\x00\x06\x01\x04\x01\x05\x01\x07\x01\x08\x02\x03\x03\x05\x03\x07\x04\x05\x04\x08\x07\x08",
         24,
-    );
+    )?;
     plan_edges(
+        rt,
         33,
         7,
         b"\x00\x01\x00\x02\x00\x03\x00\x04\x01\x04\x01\x05\x02\x03\x02\x04\x02\x05\x05\x06",
         24,
-    );
-    plan_edges(34, 6, &[0, 1, 0, 2, 1, 3, 1, 4, 2, 3, 2, 5, 3, 4], 16);
+    )?;
+    plan_edges(rt, 34, 6, &[0, 1, 0, 2, 1, 3, 1, 4, 2, 3, 2, 5, 3, 4], 16)
 }
 
 // Meshes that tell which candidate replaces the root. If the best one did, and not the first that improves, 35 and 38 would be cut in another way;
 // if the last level were taken for the widest, 35 and 37; if the widest were not looked at, 35. In 36 the first candidate is as far as the root
 // and its widest level as wide: the root stays, until the second, which is farther, replaces it.
-fn telling_widths() {
-    plan_edges(35, 6, &[0, 2, 0, 3, 0, 5, 1, 3, 3, 4, 3, 5, 4, 5], 16);
-    plan_edges(36, 5, &[0, 1, 0, 2, 1, 3, 2, 3, 2, 4], 12);
-    plan_edges(37, 5, &[0, 1, 0, 3, 0, 4, 1, 2], 8);
-    plan_edges(38, 7, &[0, 1, 0, 2, 0, 6, 1, 3, 1, 5, 2, 3, 2, 4], 16);
+fn telling_widths(rt: &impl Print) -> io::Result<()> {
+    plan_edges(rt, 35, 6, &[0, 2, 0, 3, 0, 5, 1, 3, 3, 4, 3, 5, 4, 5], 16)?;
+    plan_edges(rt, 36, 5, &[0, 1, 0, 2, 1, 3, 2, 3, 2, 4], 12)?;
+    plan_edges(rt, 37, 5, &[0, 1, 0, 3, 0, 4, 1, 2], 8)?;
+    plan_edges(rt, 38, 7, &[0, 1, 0, 2, 0, 6, 1, 3, 1, 5, 2, 3, 2, 4], 16)
 }
 
 // Meshes whose deeper regions tell which neighbours a degree counts. If it counted nodes already chosen, in 39 only a region two cuts deep would be
 // left uncut, though no clique; in 40 two nodes would not be equal, and the greater would be taken.
-fn telling_deep_degrees() {
+fn telling_deep_degrees(rt: &impl Print) -> io::Result<()> {
     plan_edges(
+        rt,
         39,
         8,
         b"\x00\x01\x00\x02\x00\x06\x00\x07\x01\x04\x02\x04\x02\x05\x02\x06\x02\x07\x03\x04\x04\x06\x04\x07\x05\x06\x05\x07",
         24,
-    );
+    )?;
     plan_edges(
+        rt,
         40,
         7,
         b"\x00\x02\x00\x03\x00\x04\x01\x03\x01\x04\x01\x05\x01\x06\x03\x05\x04\x05\x04\x06",
         24,
-    );
+    )
 }
 
 // Lists with two faults, or with buffers that are too short, that tell the order of the checks.
-fn refused() {
-    plan_lists(41, 0, &[], &[], 2, 1);
-    plan_lists(42, 3, &[0, 0, 0], &[], 4, 1);
-    plan_lists(43, 2, &[0, 2, 2], &[1, 0], 3, 1);
-    plan_lists(44, 3, &[0, 2, 2, 2], &[2, 1], 4, 1);
-    plan_lists(45, 2, &[0, 1, 2], &[0, 2], 3, 1);
-    plan_lists(46, 2, &[0, 1, 2], &[1, 0], 1, 0);
-    plan_lists(47, 2, &[0, 1, 2], &[1, 0], 2, 0);
+fn refused(rt: &impl Print) -> io::Result<()> {
+    plan_lists(rt, 41, 0, &[], &[], 2, 1)?;
+    plan_lists(rt, 42, 3, &[0, 0, 0], &[], 4, 1)?;
+    plan_lists(rt, 43, 2, &[0, 2, 2], &[1, 0], 3, 1)?;
+    plan_lists(rt, 44, 3, &[0, 2, 2, 2], &[2, 1], 4, 1)?;
+    plan_lists(rt, 45, 2, &[0, 1, 2], &[0, 2], 3, 1)?;
+    plan_lists(rt, 46, 2, &[0, 1, 2], &[1, 0], 1, 0)?;
+    plan_lists(rt, 47, 2, &[0, 1, 2], &[1, 0], 2, 0)
 }
 
 // A mesh that tells the order of the candidates. If they came by their own numbers, or if the last level's components were joined through the region,
 // 48 would be cut in another way.
-fn telling_candidates() {
-    plan_edges(48, 6, &[0, 1, 0, 2, 0, 3, 0, 4, 0, 5, 1, 4, 1, 5, 2, 3], 16);
+fn telling_candidates(rt: &impl Print) -> io::Result<()> {
+    plan_edges(
+        rt,
+        48,
+        6,
+        &[0, 1, 0, 2, 0, 3, 0, 4, 0, 5, 1, 4, 1, 5, 2, 3],
+        16,
+    )
 }
 
 // The families of refusals: numbers at both ends of each range, and just outside.
-fn families() {
-    print_title(91);
-    print_family(0);
-    print_family(1);
-    print_family(9);
-    print_family(10);
-    print_family(19);
-    print_family(20);
-    print_family(21);
-    print_family(22);
-    print_family(23);
-    print_family(27);
-    print_family(28);
+fn families(rt: &impl Print) -> io::Result<()> {
+    print_title(rt, 91)?;
+    print_family(rt, 0)?;
+    print_family(rt, 1)?;
+    print_family(rt, 9)?;
+    print_family(rt, 10)?;
+    print_family(rt, 19)?;
+    print_family(rt, 20)?;
+    print_family(rt, 21)?;
+    print_family(rt, 22)?;
+    print_family(rt, 23)?;
+    print_family(rt, 27)?;
+    print_family(rt, 28)
 }
 
-fn main() {
-    worked();
-    telling();
-    telling_degrees();
-    telling_widths();
-    telling_deep_degrees();
-    refused();
-    telling_candidates();
-    files::all();
-    questions::all();
-    families();
-    long_lists::all();
-    slots::all();
-    row_faults::all();
-    versions::all();
+fn main(rt: HostRuntime) -> io::Result<()> {
+    worked(&rt)?;
+    telling(&rt)?;
+    telling_degrees(&rt)?;
+    telling_widths(&rt)?;
+    telling_deep_degrees(&rt)?;
+    refused(&rt)?;
+    telling_candidates(&rt)?;
+    files::all(&rt)?;
+    questions::all(&rt)?;
+    families(&rt)?;
+    long_lists::all(&rt)?;
+    slots::all(&rt)?;
+    row_faults::all(&rt)?;
+    versions::all(&rt)
 }
