@@ -1,5 +1,5 @@
 -- The levels from a root as they stand in the numbers, and the division of a region by them.
-use Rattle.std.specs.Prelude.{◌≡◌, Bool, true, false, cond, ◌&&◌, ℕ, ◌+◌, ◌≤◌, ◌<◌, eqb, length, get_or}
+use Rattle.std.specs.Prelude.{◌≡◌, Bool, true, false, ◌&&◌, ℕ, ◌+◌, ◌≤◌, ◌<◌, eqb, length, get_or}
 use mathlib.Core.List.{List, [], ◌∷◌, ◌++◌, flatten}
 use Rattle.plan.specs.Lists.{exists, is_in, without}
 use Rattle.plan.specs.Mesh.{Mesh, neighbours_of, adjacent}

@@ -1,11 +1,8 @@
 -- What the functions' contracts cite of a plan, besides the book: plans of some of their lists, and checks 15 and 16 by themselves.
-use Rattle.std.specs.Prelude.{◌≡◌, Bool, true, not, List, [], ◌∷◌, ℕ, ◌≤◌, ◌<◌, length, get_or}
-use Rattle.plan.specs.Lists.{exists}
+use Rattle.std.specs.Prelude.{List, [], ◌∷◌, ℕ, length}
 use Rattle.plan.specs.Refusals.{Checks}
-use Rattle.plan.specs.Mesh.{max_nodes}
-use Rattle.plan.specs.Parts.{at_or_above}
 use Rattle.plan.specs.Planning.{Contents, contents}
-use Rattle.plan.specs.File.{may_be_parent, bad_order, bad_parts}
+use Rattle.plan.specs.File.{bad_order, bad_parts}
 
 -- a plan of its three counts alone: what check 13 looks at
 abbrev pub counts_only : ℕ → ℕ → ℕ → Contents

@@ -1,7 +1,7 @@
 -- The nodes that have gone nowhere follow the others in their order; after the paired nodes have gone, each node is where the book says.
 use mathlib.Core.Path.{◌≡◌, refl, sym, ap, ◌∙◌}
 use mathlib.Core.Logic.{◌≢◌, inl, inr}
-use mathlib.Core.Bool.{Bool, true, false, not, cond}
+use mathlib.Core.Bool.{true, false, not, cond}
 use mathlib.Core.List.{List}
 use Prim.Native.Nat.{ℕ, ◌+◌, ◌≤◌, ◌<◌}
 use native.Mathlib.Omega.{arith}
@@ -13,7 +13,6 @@ use Rattle.plan.specs.Lists.{below, is_in, index_of}
 use Rattle.plan.specs.Mesh.{max_nodes}
 use Rattle.plan.specs.Joining.{Pairing, goes_to}
 use Rattle.mesh.specs.Lists.{none}
-use Rattle.theory.specs.Counting.{count}
 use Rattle.theory.specs.Pairings.{Paired}
 use Rattle.theory.proofs.Bools.{tested, cond_true, cond_false, eq_or_ne}
 use Rattle.theory.proofs.Ranges.{length-up_from, is_in-below}

@@ -1,5 +1,5 @@
 -- What joining answers: from the checks of what is lent, through where the nodes go and come from, to the joined mesh in the buffers.
-use mathlib.Core.Path.{◌≡◌, refl, sym, ap, subst, ◌∙◌}
+use mathlib.Core.Path.{◌≡◌, sym, ap, subst, ◌∙◌}
 use mathlib.Core.Bool.{true, false}
 use mathlib.Core.List.{List, map}
 use Prim.Native.Nat.{ℕ, ◌+◌, ◌-◌, ◌≤◌, ◌<◌}
@@ -16,7 +16,6 @@ use Rattle.plan.specs.Joining.{Pairing, goes_to, joined_nodes, comes_from, joine
 use Rattle.theory.proofs.Ranges.{get_or-map-below, length-map-up_from}
 use Rattle.theory.proofs.Ascending.{ascending-up_from}
 use Rattle.theory.proofs.Refusals.{first_some, fault_here, fault_later}
-use Rattle.theory.proofs.Checked.{node_count}
 use Rattle.theory.proofs.Twice.{once-ascending, once-map}
 use Rattle.theory.proofs.HandedMesh.{refused-mesh}
 use Rattle.theory.proofs.JoinedNodes.{goes_inside, goes_apart, nodes-many}

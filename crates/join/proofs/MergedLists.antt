@@ -1,26 +1,25 @@
 -- The lists of the joined mesh, by the two arrays: their lengths, one after the other, and that they are those of the book.
-use mathlib.Core.Path.{◌≡◌, refl, sym, ap, ◌∙◌}
-use mathlib.Core.Bool.{Bool, true, false, not, ◌||◌, or_comm}
-use mathlib.Core.List.{List, [], ◌∷◌, ◌++◌, map, flatten, map-append, map-map}
+use mathlib.Core.Path.{◌≡◌, sym, ap, ◌∙◌}
+use mathlib.Core.Bool.{true, false, not, or_comm}
+use mathlib.Core.List.{List, [], ◌∷◌, ◌++◌, map, flatten, map-append}
 use Prim.Native.Nat.{ℕ, ◌+◌, ◌*◌, ◌≤◌, ◌<◌}
 use native.Mathlib.Nat.{zero-add}
 use native.Mathlib.Numerals.{add-one}
 use native.Mathlib.Omega.{arith}
 use lib.ListN.{length, take, get_or, length-map}
-use lib.Seq.{get_or-take, length-take-le, ext_get_or}
+use lib.Seq.{get_or-take, length-take-le}
 use Rattle.plan.specs.Lists.{keep, below, is_in, twice, index_of}
-use Rattle.plan.specs.Mesh.{max_nodes, max_neighbours, Mesh, neighbours_of, adjacent}
+use Rattle.plan.specs.Mesh.{max_neighbours, Mesh, neighbours_of, adjacent}
 use Rattle.plan.specs.Elimination.{tabulate}
 use Rattle.plan.specs.Joining.{Pairing, goes_to, joined_nodes, comes_from, joined_neighbours, joined_lists}
 use Rattle.theory.specs.Checked.{Checked}
 use Rattle.theory.specs.Counting.{count}
 use Rattle.theory.specs.Pairings.{Paired}
 use Rattle.theory.proofs.Lists.{map_ext}
-use Rattle.theory.proofs.Ranges.{up_from_snoc, get_or-map-below, length-map-up_from, map_ext_up_from}
+use Rattle.theory.proofs.Ranges.{up_from_snoc, length-map-up_from, map_ext_up_from}
 use Rattle.theory.proofs.Flatten.{blocks_more, blocks_grow}
 use Rattle.theory.proofs.Counting.{count_le}
 use Rattle.theory.proofs.Twice.{once_index, once-ascending, once-map}
-use Rattle.theory.proofs.JoinedNodes.{goes_inside, goes_apart}
 use Rattle.theory.proofs.JoinedMesh.{merged_list_lem}
 use Rattle.join.specs.Merging.{merged, gone}
 use Rattle.join.specs.Lists.{merged_list, merged_lists, Mergeable}

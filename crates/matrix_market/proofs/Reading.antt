@@ -3,7 +3,7 @@ use mathlib.Core.Path.{◌≡◌, refl, sym, ap, ap₂, ◌∙◌}
 use mathlib.Core.Logic.{inl, inr, ◌≢◌}
 use mathlib.Core.Bool.{Bool, true, false, not, ◌&&◌, ◌||◌}
 use mathlib.Core.List.{List, [], map}
-use Prim.Native.Nat.{ℕ, suc, ◌+◌, ◌≤◌, ◌<◌}
+use Prim.Native.Nat.{ℕ, ◌≤◌, ◌<◌}
 use native.Mathlib.Omega.{arith}
 use lib.Dec.{ltb, eqb}
 use lib.ListN.{length, get_or, length-map}
@@ -15,7 +15,7 @@ use Rattle.plan.specs.Lists.{exists, every, keep, below, ascending, written}
 use Rattle.plan.specs.Refusals.{first_fault}
 use Rattle.plan.specs.Mesh.{max_nodes, max_entries, max_neighbours, Mesh, bad_node_count, too_many_entries, list_too_long}
 use Rattle.plan.specs.Elimination.{tabulate}
-use Rattle.plan.specs.MadeMesh.{mesh_of, MeshBuffers, MeshCapacity, mesh_capacity, mesh_buffers_too_short, made_checks, hand_mesh, fill_mesh}
+use Rattle.plan.specs.MadeMesh.{mesh_of, MeshBuffers, MeshCapacity, mesh_capacity, mesh_buffers_too_short, made_checks}
 use Rattle.plan.specs.MatrixMarket.{Line, word_lines, is_banner, holds_numbers, size_line, row_count, stated_pairs, pair_lines, pair_of, pairs_of, bad_text, bad_pair, bad_matrix, repeated_pair, are_neighbours, lists_of, text_mesh, text_checks, reading_text, TextRead}
 use Rattle.theory.specs.Keys.{pair_of_key}
 use Rattle.theory.proofs.Bools.{or_left, or_false_left, or_false_right, tested}

@@ -14,7 +14,7 @@ use Rattle.theory.specs.PartTree.{PartTree}
 use Rattle.theory.proofs.Bools.{refuted, lt_or_le}
 use Rattle.theory.proofs.PartOf.{part-next, part_lt}
 use Rattle.theory.proofs.PartAncestors.{Under, here, up, under_of_test}
-use Rattle.rowchecks.specs.Rows.{in_range, SoundParts, reaches, Ranges}
+use Rattle.rowchecks.specs.Rows.{SoundParts, reaches, Ranges}
 use Rattle.rowchecks.specs.Numbering.{width, Numbered}
 use Rattle.rowchecks.proofs.Passed.{parts-tree, parts-total, parts-parents}
 use Rattle.rowchecks.proofs.Numbering.{range_exact}

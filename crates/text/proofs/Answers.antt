@@ -14,7 +14,6 @@ use Rattle.plan.specs.Lists.{below, list_at, written}
 use Rattle.plan.specs.Refusals.{Checks, first_fault}
 use Rattle.plan.specs.Answers.{Reply}
 use Rattle.plan.specs.Mesh.{Mesh, mesh_checks}
-use Rattle.plan.specs.Elimination.{columns}
 use Rattle.plan.specs.Planning.{plan_by, plan_of, Buffers, Capacity, capacity, bad_unknowns, buffers_too_short, rows_too_short, plan_checks, hand_out, planning, Filled, Planned}
 use Rattle.plan.specs.Listing.{max_listed_nodes, input_mesh, bad_input, listing_checks, head_line, position_line, refusal_line, print, listed_plan, listing}
 use Rattle.theory.proofs.Bools.{tested}

@@ -6,22 +6,22 @@ use mathlib.Core.Bool.{Bool, true, false, ◌&&◌, ◌||◌, false≢true, or-f
 use mathlib.Core.List.{List, [], ◌∷◌, map}
 use Prim.Native.Nat.{ℕ, ◌+◌, ◌≤◌, ◌<◌}
 use native.Mathlib.Omega.{arith}
-use lib.Dec.{ltb, eqb}
-use lib.ListN.{length, get_or}
-use borrow.Author.Tests.{eqb-true, ltb-true, lt-ltb}
-use Rattle.plan.specs.Lists.{exists, keep, below, is_in, without, ascending}
+use lib.Dec.{ltb}
+use lib.ListN.{length}
+use borrow.Author.Tests.{ltb-true, lt-ltb}
+use Rattle.plan.specs.Lists.{keep, below, is_in, ascending}
 use Rattle.plan.specs.Refusals.{first_fault}
 use Rattle.plan.specs.Answers.{Reply}
 use Rattle.plan.specs.Mesh.{Mesh, neighbours_of, adjacent, mesh_checks}
 use Rattle.plan.specs.Elimination.{tabulate}
-use Rattle.plan.specs.MadeMesh.{mesh_of, MeshBuffers, MeshCapacity, mesh_capacity, made_checks}
+use Rattle.plan.specs.MadeMesh.{mesh_of, MeshCapacity, mesh_capacity, made_checks}
 use Rattle.plan.specs.Joining.{Pairing, pairing, bad_pairing, paired_twice, goes_to, joined_nodes, comes_from, joined_neighbours, joined_lists, joined_mesh, lent_checks, join_checks, joining}
 use Rattle.plan.specs.JoinStatements.{NeighboursAsStated, NeighboursStay, UnpairedStay, SideBySide, JoinedPasses, JoinedHanded}
 use Rattle.theory.specs.Checked.{Checked}
 use Rattle.theory.specs.Pairings.{Paired}
-use Rattle.theory.proofs.Bools.{or_cases, or_left, or_right, or_neither, and_left, and_right, and_both, iff_eq, eqb_same}
+use Rattle.theory.proofs.Bools.{or_cases, or_left, or_right, or_neither, and_left, and_right, and_both, iff_eq}
 use Rattle.theory.proofs.Lists.{map-is_in, is_in-map, map_ext, of_keep, in_keep, keep_all}
-use Rattle.theory.proofs.Ranges.{length-up_from, is_in-below, below-is_in}
+use Rattle.theory.proofs.Ranges.{length-up_from, below-is_in}
 use Rattle.theory.proofs.Ascending.{ascending-kept, ascending_ext}
 use Rattle.theory.proofs.Refusals.{no_fault, no_fault_first, first-none}
 use Rattle.theory.proofs.Checked.{checked, mesh-passed, list_out}

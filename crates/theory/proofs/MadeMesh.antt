@@ -9,7 +9,7 @@ use native.Mathlib.Omega.{arith}
 use lib.Dec.{leb, ltb}
 use lib.ListN.{length, get_or, length-map, get_or-map}
 use borrow.Author.Tests.{lt-ltb, lt-leb, le-ltb, eq-eqb}
-use Rattle.plan.specs.Lists.{exists, keep, below, is_in, list_at, ascending, total, running_sums}
+use Rattle.plan.specs.Lists.{exists, keep, below, is_in, ascending, total, running_sums}
 use Rattle.plan.specs.Refusals.{first_fault}
 use Rattle.plan.specs.Mesh.{max_neighbours, Mesh, neighbours_of, adjacent, bad_node_count, bad_starts, bad_mesh_starts, too_many_entries, neighbour_outside, lists_itself, not_ascending, list_too_long, one_sided, mesh_checks}
 use Rattle.plan.specs.Elimination.{starts_of}

@@ -13,7 +13,7 @@ use Rattle.plan.specs.Lists.{same}
 use Rattle.plan.specs.Refusals.{Checks, first_fault}
 use Rattle.plan.specs.Mesh.{Mesh, mesh_checks}
 use Rattle.plan.specs.Planning.{Contents, plan_by, plan_of, Capacity, bad_unknowns, buffers_too_short, rows_too_short, plan_checks, hand_out, planning}
-use Rattle.plan.specs.File.{decode16, decode16s, magic, version_of, nodes_at, length_at, length_in, file_length, encode, parse_at, unknowns_in, parse, Whole, bad_header, contents_checks}
+use Rattle.plan.specs.File.{decode16s, magic, version_of, nodes_at, length_at, length_in, file_length, encode, parse_at, unknowns_in, parse, Whole, bad_header, contents_checks}
 use Rattle.plan.specs.Reading.{too_few_bytes, bad_magic, bad_version, too_few_in_version2, bad_length, header_checks, read_checks, reading}
 use Rattle.plan.specs.Writing.{bad_supply, used, supplied_checks, output_too_short, write_checks, WriteOutcome, write_out, writing}
 use Rattle.plan.specs.RoundTrips.{handed, accepted_writing, WrittenIsFile, WrittenThenRead, ReadThenWritten, ReadWrittenRead, PlannedIsWritable, PlannedThenRead, OtherVersions, Sound, ReadIsSound}

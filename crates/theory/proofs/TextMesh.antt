@@ -3,25 +3,21 @@ use mathlib.Core.Path.{◌≡◌, refl, sym, ap, ap₂, ◌∙◌}
 use mathlib.Core.Logic.{inl, inr}
 use mathlib.Core.Bool.{Bool, true, false, not, ◌&&◌, ◌||◌, false≢true, or_comm}
 use mathlib.Core.List.{List, [], ◌∷◌}
-use Prim.Native.Nat.{ℕ, zero, suc, ◌+◌, ◌≤◌, ◌<◌, min, max}
+use Prim.Native.Nat.{ℕ, ◌+◌, ◌≤◌, ◌<◌, min, max}
 use native.Mathlib.Omega.{arith}
 use lib.Dec.{ltb, eqb}
-use lib.ListN.{length, get_or, take}
 use borrow.Author.Tests.{eqb-true, eqb-false, ltb-false, lt-ltb}
-use Rattle.plan.specs.declared.MeshAnswer.TheVariants.{Accepted}
-use Rattle.plan.specs.declared.MeshCounts.{MeshCounts}
 use Rattle.plan.specs.Lists.{exists, keep, below}
 use Rattle.plan.specs.Refusals.{first_fault}
 use Rattle.plan.specs.Answers.{Reply}
-use Rattle.plan.specs.Mesh.{Mesh, lent, adjacent, bad_node_count, too_many_entries, list_too_long, mesh_checks}
+use Rattle.plan.specs.Mesh.{Mesh, adjacent, bad_node_count, too_many_entries, list_too_long, mesh_checks}
 use Rattle.plan.specs.Elimination.{tabulate}
-use Rattle.plan.specs.MadeMesh.{mesh_of, MeshBuffers, MeshCapacity, mesh_capacity, mesh_buffers_too_short, made_checks, hand_mesh, fill_mesh, MeshFilled}
+use Rattle.plan.specs.MadeMesh.{mesh_of, MeshCapacity, mesh_capacity, mesh_buffers_too_short}
 use Rattle.plan.specs.MatrixMarket.{Pair, row_count, column_count, pairs_of, bad_text, index_outside, bad_pair, bad_matrix, same_pair, has_pair, repeated_pair, are_neighbours, lists_of, text_mesh, text_checks, reading_text}
 use Rattle.plan.specs.AcceptedTexts.{AcceptedPasses, HandedPasses, ListsArePairs, SamePairsSameMesh}
 use Rattle.theory.proofs.Bools.{or_cases, or_left, or_right, or_false_left, or_false_right, and_left, and_right, and_both, eqb_same, eqb_comm, iff_eq, lt_or_le}
 use Rattle.theory.proofs.Lists.{keep_ext}
 use Rattle.theory.proofs.Ranges.{map_ext_up_from}
-use Rattle.theory.proofs.Written.{front-written}
 use Rattle.theory.proofs.Refusals.{no_fault}
 use Rattle.theory.proofs.Checked.{checked}
 use Rattle.theory.proofs.HandedMesh.{made-passed, hand_number, filled-mesh}

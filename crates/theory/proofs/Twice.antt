@@ -1,17 +1,17 @@
 -- Numbers that stand twice in a list, and lists in which none does.
 use mathlib.Core.Path.{◌≡◌, refl, sym, ap, ◌∙◌}
 use mathlib.Core.Logic.{inl, inr}
-use mathlib.Core.Bool.{Bool, true, false, ◌||◌, false≢true}
+use mathlib.Core.Bool.{true, false, ◌||◌, false≢true}
 use mathlib.Core.List.{List, [], ◌∷◌, map}
 use Prim.Native.Nat.{ℕ, ◌+◌, ◌≤◌, ◌<◌}
 use native.Mathlib.Omega.{arith}
 use lib.Dec.{eqb}
 use lib.ListN.{length, take, get_or}
 use borrow.Author.Tests.{eq-eqb, ne_eqb, eqb-true}
-use Rattle.plan.specs.Lists.{exists, is_in, twice, index_of, ascending}
+use Rattle.plan.specs.Lists.{is_in, twice, index_of, ascending}
 use Rattle.theory.specs.Counting.{count}
-use Rattle.theory.proofs.Bools.{or_cases, or_left, or_right, or_neither, or_false_left, or_false_right, clash, refuted, iff_eq, eqb_same, eq_or_ne, lt_or_le}
-use Rattle.theory.proofs.Lists.{is_in-head, is_in_tail, exists-map, exists-is_in, none-exists, index_of_le, get_or-index_of}
+use Rattle.theory.proofs.Bools.{or_cases, or_left, or_right, or_neither, or_false_left, or_false_right, clash, refuted, iff_eq, eqb_same, eq_or_ne}
+use Rattle.theory.proofs.Lists.{is_in-head, is_in_tail, exists-map, none-exists, index_of_le, get_or-index_of}
 use Rattle.theory.proofs.Counting.{unit, count_cons, count_more, count-front, exists-count, count-exists, count-ascending, count-twice}
 
 -- such a number is counted more than once

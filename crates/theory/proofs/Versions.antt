@@ -1,8 +1,8 @@
 -- The reader of the workshop that never updates beside the reader of versions 1 and 2: it answers 12 to version 2, and both answer alike to any other file.
 use mathlib.Core.Path.{◌≡◌, refl, sym, ap, ◌∙◌}
 use mathlib.Core.Logic.{◌≢◌, inl, inr}
-use mathlib.Core.Bool.{Bool, true, false, not, ◌&&◌, ◌||◌}
-use mathlib.Core.List.{List, [], ◌∷◌, ◌++◌}
+use mathlib.Core.Bool.{Bool, true, false, not}
+use mathlib.Core.List.{List, ◌∷◌}
 use Prim.Native.Nat.{ℕ, ◌≤◌}
 use native.Mathlib.Omega.{arith}
 use lib.Dec.{eqb}
@@ -11,8 +11,8 @@ use borrow.Author.Tests.{ne_eqb, le-ltb, ltb-false, not-false}
 use Rattle.plan.specs.Lists.{same}
 use Rattle.plan.specs.Refusals.{Checks, first_fault}
 use Rattle.plan.specs.Answers.{Reply}
-use Rattle.plan.specs.Planning.{Contents, Capacity, bad_unknowns, buffers_too_short, rows_too_short, Outcome, hand_out}
-use Rattle.plan.specs.File.{magic, version_of, length_in, encode, parse, parse_at, bad_header, contents_checks}
+use Rattle.plan.specs.Planning.{Contents, Capacity, bad_unknowns, hand_out}
+use Rattle.plan.specs.File.{magic, version_of, encode, parse, parse_at}
 use Rattle.plan.specs.Reading.{too_few_bytes, bad_magic, bad_version, too_few_in_version2, bad_length, header_checks, read_checks, reading}
 use Rattle.plan.specs.Writing.{used, writing}
 use Rattle.plan.specs.Version1.{parse1, not_version1, bad_length1, read_checks1, untold, reading1, RefusesVersion2, RefusesWritten, RefusesWrote, SameButVersion2, Version1IsOne}

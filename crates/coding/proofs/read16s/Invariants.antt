@@ -1,7 +1,7 @@
 -- `coding::read16s` meets its contract: the loop writes the numbers one after the other.
 use mathlib.Core.Path.{◌≡◌}
 use mathlib.Core.List.{List}
-use Prim.Native.Nat.{ℕ, ◌-◌, ◌≤◌}
+use Prim.Native.Nat.{ℕ, ◌≤◌}
 use lib.ListN.{length}
 use Rattle.plan.specs.Lists.{written}
 use Rattle.plan.specs.File.{decode16s}

@@ -1,6 +1,6 @@
 -- `lexer::digits` meets its contract: the loop passes digits only, and counts their value up to 2^32.
 use mathlib.Core.Path.{sym, ap, ◌∙◌}
-use Prim.Native.Nat.{ℕ, ◌+◌, ◌*◌, ◌-◌, min}
+use Prim.Native.Nat.{ℕ, ◌+◌, ◌*◌, min}
 use native.Mathlib.Omega.{arith}
 use Rattle.plan.specs.MatrixMarket.{is_digit}
 use Rattle.theory.proofs.Segments.{segment-none}

@@ -1,12 +1,11 @@
 -- `lexer::number` meets its contract.
 use mathlib.Core.Path.{◌≡◌, refl, sym, ap, ◌∙◌}
-use mathlib.Core.Logic.{⊎_elim}
 use mathlib.Core.Bool.{true, false, not, ◌&&◌}
 use Prim.Native.Nat.{ℕ}
 use native.Mathlib.Omega.{arith}
 use lib.Dec.{eqb, leb}
 use lib.ListN.{drop}
-use borrow.Author.Tests.{ltb-true, ltb-false, leb-true, le-leb, ne_eqb, not-true, not-false}
+use borrow.Author.Tests.{ltb-false, leb-true, le-leb, ne_eqb, not-false}
 use Rattle.plan.specs.Lists.{segment}
 use Rattle.plan.specs.MatrixMarket.{max_number, value_of}
 use Rattle.theory.proofs.Bools.{and_left, and_right, clash, refuted, not_eqb}

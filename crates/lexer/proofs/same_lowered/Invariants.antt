@@ -1,7 +1,6 @@
 -- `lexer::same_lowered` meets its contract: the bytes before i are the same, so what is left decides.
 use mathlib.Core.Path.{◌≡◌}
 use mathlib.Core.List.{map}
-use Prim.Native.Nat.{◌-◌}
 use lib.ListN.{drop}
 use Rattle.plan.specs.Lists.{same}
 use Rattle.plan.specs.MatrixMarket.{lower}

@@ -1,6 +1,5 @@
 -- `lexer::skip_blanks` meets its contract: the loop passes blanks only.
 use mathlib.Core.Path.{sym, ◌∙◌}
-use Prim.Native.Nat.{◌-◌}
 use Rattle.plan.specs.MatrixMarket.{is_blank}
 use Rattle.lexer.specs.Suffixes.{not_blank}
 use Rattle.lexer.proofs.Cuts.{passed_none, kind_more, kind-last, kind-end}

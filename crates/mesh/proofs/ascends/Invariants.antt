@@ -1,5 +1,5 @@
 -- `mesh::ascends` meets its contract: the loop tries each entry with the one before it.
-use Prim.Native.Nat.{◌-◌, ◌≤◌}
+use Prim.Native.Nat.{◌≤◌}
 use Rattle.theory.proofs.Scans.{Clear, pair_at, not_greater}
 use Rattle.mesh.proofs.ascends.Given as goal
 

@@ -2,7 +2,6 @@
 use mathlib.Core.Path.{◌≡◌, refl, sym, ◌∙◌}
 use mathlib.Core.Bool.{Bool, false}
 use lib.ListN.{drop}
-use borrow.Author.Rules.{rules}
 use Rattle.plan.specs.Refusals.{first_fault}
 use Rattle.plan.specs.Mesh.{Mesh, lent, adjacent, bad_node_count, bad_mesh_starts, too_many_entries, neighbour_outside, lists_itself, not_ascending, list_too_long, one_sided, mesh_checks}
 use Rattle.theory.proofs.Refusals.{fault_here, fault_later}

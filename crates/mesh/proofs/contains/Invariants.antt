@@ -1,6 +1,5 @@
 -- `mesh::contains` meets its contract: what has been found is whether x is among the entries before place k.
 use mathlib.Core.Path.{◌≡◌}
-use Prim.Native.Nat.{◌-◌}
 use lib.ListN.{take}
 use Rattle.plan.specs.Lists.{is_in}
 use Rattle.mesh.proofs.contains.Given as goal

@@ -1,6 +1,5 @@
 -- `mesh::copy` meets its contract: the loop writes one element more in each turn.
 use mathlib.Core.Path.{◌≡◌}
-use Prim.Native.Nat.{◌-◌}
 use lib.ListN.{length, take}
 use Rattle.plan.specs.Lists.{written}
 use Rattle.mesh.proofs.copy.Given as goal

@@ -1,5 +1,5 @@
 -- `mesh::falling` meets its contract: the loop tries each number with the one before it.
-use Prim.Native.Nat.{◌-◌, ◌≤◌}
+use Prim.Native.Nat.{◌≤◌}
 use Rattle.theory.proofs.Scans.{Clear, pair_at, less}
 use Rattle.mesh.proofs.falling.Given as goal
 

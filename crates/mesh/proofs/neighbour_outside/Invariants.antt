@@ -1,5 +1,4 @@
 -- `mesh::neighbour_outside` meets its contract: the loop tries each entry.
-use Prim.Native.Nat.{◌-◌}
 use lib.Dec.{leb}
 use Rattle.theory.proofs.Scans.{Clear, element_at}
 use Rattle.mesh.proofs.neighbour_outside.Given as goal

@@ -1,8 +1,8 @@
 -- `mesh::one_sided` meets its contract: the outer loop tries each node, the inner one each entry of its list, and the first entry that passes ends
 -- both.
 use mathlib.Core.Path.{◌≡◌, refl, sym, ap, ◌∙◌}
-use mathlib.Core.Bool.{true, false, not}
-use Prim.Native.Nat.{◌-◌, ◌<◌}
+use mathlib.Core.Bool.{true, not}
+use Prim.Native.Nat.{◌<◌}
 use native.Mathlib.Omega.{arith}
 use lib.ListN.{get_or}
 use borrow.Author.Rules.{rules}

@@ -2,7 +2,7 @@
 -- both.
 use mathlib.Core.Path.{◌≡◌}
 use mathlib.Core.Bool.{Bool, false, not}
-use Prim.Native.Nat.{ℕ, ◌-◌}
+use Prim.Native.Nat.{ℕ}
 use Rattle.plan.specs.Lists.{exists}
 use Rattle.plan.specs.Mesh.{Mesh, lent, neighbours_of, adjacent}
 use Rattle.theory.proofs.Scans.{Clear, element_at}

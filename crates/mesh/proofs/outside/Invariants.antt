@@ -1,5 +1,4 @@
 -- `mesh::outside` meets its contract: the loop tries each node.
-use Prim.Native.Nat.{◌-◌}
 use lib.Dec.{leb}
 use Rattle.theory.proofs.Scans.{Clear, element_at}
 use Rattle.mesh.proofs.outside.Given as goal

@@ -1,6 +1,5 @@
 -- `mesh::some_list_breaks` meets its contract: the loop tries each node.
 use mathlib.Core.Path.{◌≡◌, sym, ap, ◌∙◌}
-use Prim.Native.Nat.{◌-◌}
 use native.Mathlib.Omega.{arith}
 use borrow.Author.Rules.{rules}
 use Rattle.plan.specs.Mesh.{lent, neighbours_of}

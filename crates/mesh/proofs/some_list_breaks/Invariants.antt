@@ -1,6 +1,6 @@
 -- `mesh::some_list_breaks` meets its contract: the loop tries each node.
 use mathlib.Core.Bool.{Bool}
-use Prim.Native.Nat.{ℕ, ◌-◌}
+use Prim.Native.Nat.{ℕ}
 use Rattle.plan.specs.Mesh.{Mesh, lent, neighbours_of}
 use Rattle.theory.proofs.Scans.{Clear}
 use Rattle.mesh.specs.declared.ListRule.{ListRule}

@@ -1,5 +1,4 @@
 -- `dissection::cut::next_to` meets its contract: the loop tries each entry of the node's list.
-use Prim.Native.Nat.{◌-◌}
 use Rattle.theory.proofs.Scans.{Clear, element_at}
 use Rattle.dissection.proofs.Grouped.{has_number}
 use Rattle.dissection.proofs.cut.next_to.Given as goal

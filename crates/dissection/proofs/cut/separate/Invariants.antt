@@ -1,6 +1,5 @@
 -- `dissection::cut::separate` meets its contract: of the nodes passed, those of the separator are left out.
 use mathlib.Core.Path.{◌≡◌}
-use Prim.Native.Nat.{◌-◌}
 use lib.ListN.{length}
 use Rattle.plan.specs.Mesh.{lent}
 use Rattle.dissection.proofs.Renumbering.{Renumbering}

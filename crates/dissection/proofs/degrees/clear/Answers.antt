@@ -1,6 +1,5 @@
 -- `dissection::degrees::clear` meets its contract: the groups passed have no least degree.
 use mathlib.Core.Logic.{inl, inr}
-use Prim.Native.Nat.{◌-◌}
 use native.Mathlib.Omega.{arith}
 use lib.ListN.{length-set}
 use lib.Seq.{get_or-set_same, get_or-set_other}

@@ -1,6 +1,6 @@
 -- `dissection::degrees::clear` meets its contract: the groups passed have no least degree.
 use mathlib.Core.Path.{◌≡◌}
-use Prim.Native.Nat.{ℕ, ◌-◌, ◌≤◌, ◌<◌}
+use Prim.Native.Nat.{ℕ, ◌≤◌, ◌<◌}
 use lib.ListN.{length, get_or}
 use Rattle.mesh.specs.Lists.{none}
 use Rattle.dissection.proofs.degrees.clear.Given as goal

@@ -1,6 +1,5 @@
 -- `dissection::degrees::degree` meets its contract: the entries before place k have been counted.
 use mathlib.Core.Path.{◌≡◌}
-use Prim.Native.Nat.{◌-◌}
 use lib.ListN.{take}
 use Rattle.theory.specs.Counting.{count}
 use Rattle.dissection.specs.Degrees.{is_inside}

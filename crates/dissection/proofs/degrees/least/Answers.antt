@@ -1,5 +1,4 @@
 -- `dissection::degrees::least` meets its contract: after i nodes each group is led by the least of its nodes among them.
-use Prim.Native.Nat.{◌-◌}
 use native.Mathlib.Omega.{arith}
 use lib.ListN.{get_or}
 use borrow.Author.Rules.{rules}

@@ -1,6 +1,6 @@
 -- `dissection::degrees::least` meets its contract: after i nodes each group is led by the least of its nodes among them.
 use mathlib.Core.Path.{◌≡◌}
-use Prim.Native.Nat.{◌-◌, ◌≤◌}
+use Prim.Native.Nat.{◌≤◌}
 use lib.ListN.{length, take}
 use Rattle.plan.specs.Mesh.{lent}
 use Rattle.dissection.specs.Degrees.{degree_by}

@@ -1,5 +1,5 @@
 -- `dissection::levels::advance` meets its contract: the lists of the nodes before place k have been visited.
-use Prim.Native.Nat.{◌-◌, ◌≤◌}
+use Prim.Native.Nat.{◌≤◌}
 use Rattle.plan.specs.Lists.{exists, segment}
 use Rattle.plan.specs.Mesh.{lent, adjacent}
 use Rattle.dissection.specs.Spread.{Spread}

@@ -1,5 +1,4 @@
 -- `dissection::levels::is_irregular` is safe and ends: the lists of a checked mesh lie within its entries.
-use Prim.Native.Nat.{◌-◌}
 use Rattle.plan.specs.Mesh.{lent}
 use Rattle.mesh.proofs.Lists.{checked-within}
 use Rattle.dissection.proofs.levels.is_irregular.Goals as goal

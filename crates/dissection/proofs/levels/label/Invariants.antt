@@ -1,6 +1,5 @@
 -- `dissection::levels::label` meets its contract: the loop finds one component after the other.
 use mathlib.Core.Path.{◌≡◌}
-use Prim.Native.Nat.{◌-◌}
 use lib.ListN.{length}
 use Rattle.plan.specs.Mesh.{lent, adjacent}
 use Rattle.dissection.proofs.Labels.{Labelling}

@@ -2,11 +2,6 @@
 use native.Mathlib.Omega.{arith}
 use borrow.Author.Rules.{rules}
 use Rattle.dissection.proofs.Spreads.{spread_touch}
-use Rattle.dissection.proofs.levels.touch_unpredicted.Reads as reads
-use Rattle.dissection.proofs.levels.touch_unpredicted.Lts as lts
-use Rattle.dissection.proofs.levels.places.Reads as places-reads
-use Rattle.dissection.proofs.levels.taken.Reads as taken-reads
-use Rattle.mesh.proofs.wide.Reads as wide-reads
 use Rattle.dissection.proofs.levels.touch_unpredicted.Goals as goal
 
 -- src/levels.rt:49:9

@@ -1,5 +1,4 @@
 -- `dissection::levels::visit` meets its contract: the entries before place k have been touched.
-use Prim.Native.Nat.{◌-◌}
 use lib.ListN.{take}
 use Rattle.plan.specs.Lists.{is_in}
 use Rattle.dissection.specs.Spread.{Spread}

@@ -1,7 +1,7 @@
 -- `dissection::levels::walk` meets its contract: between two levels, the levels so far stand in the numbers and in the queue.
 use mathlib.Core.Path.{◌≡◌, refl, sym, ◌∙◌}
 use mathlib.Core.Bool.{true}
-use Prim.Native.Nat.{ℕ, ◌-◌, ◌≤◌, ◌<◌}
+use Prim.Native.Nat.{ℕ, ◌≤◌, ◌<◌}
 use native.Mathlib.Omega.{arith}
 use lib.ListN.{set, length-set}
 use Rattle.plan.specs.Mesh.{lent, adjacent}

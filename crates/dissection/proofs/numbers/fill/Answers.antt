@@ -1,6 +1,5 @@
 -- `dissection::numbers::fill` meets its contract: the loop renumbers one node after the other.
 use mathlib.Core.Path.{refl}
-use Prim.Native.Nat.{◌-◌}
 use native.Mathlib.Omega.{arith}
 use Rattle.dissection.proofs.Renumbering.{renumbering_none, renumbering_inside, renumbering_more, renumbering_all}
 use Rattle.dissection.proofs.numbers.fill.Goals as goal

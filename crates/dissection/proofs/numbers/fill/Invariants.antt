@@ -1,6 +1,5 @@
 -- `dissection::numbers::fill` meets its contract: the loop renumbers one node after the other.
 use mathlib.Core.Path.{◌≡◌}
-use Prim.Native.Nat.{◌-◌}
 use lib.ListN.{length}
 use Rattle.dissection.proofs.Renumbering.{Renumbering}
 use Rattle.dissection.proofs.numbers.fill.Given as goal

@@ -1,6 +1,5 @@
 -- `dissection::numbers::renumber` meets its contract: the loop renumbers one node after the other.
 use mathlib.Core.Path.{refl}
-use Prim.Native.Nat.{◌-◌}
 use native.Mathlib.Omega.{arith}
 use Rattle.dissection.specs.Changes.{changed_by}
 use Rattle.dissection.proofs.Renumbering.{renumbering_none, renumbering_inside, renumbering_each, renumbering_all}

@@ -1,6 +1,6 @@
 -- `dissection::numbers::transfer` meets its contract: the loop renumbers one node after the other.
 use mathlib.Core.Path.{refl, ap}
-use Prim.Native.Nat.{ℕ, ◌-◌}
+use Prim.Native.Nat.{ℕ}
 use native.Mathlib.Omega.{arith}
 use lib.ListN.{get_or}
 use Rattle.theory.proofs.Lists.{is_in-get_or}

@@ -1,6 +1,5 @@
 -- `dissection::parts::block_end` meets its contract: the loop stops at the next head, or at the end of the list.
 use mathlib.Core.Path.{◌≡◌, sym, ◌∙◌}
-use Prim.Native.Nat.{◌-◌}
 use native.Mathlib.Omega.{arith}
 use lib.ListN.{length, take, get_or}
 use lib.Seq.{length-take-le, get_or-take}

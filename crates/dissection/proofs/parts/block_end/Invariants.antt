@@ -1,6 +1,6 @@
 -- `dissection::parts::block_end` meets its contract: the loop stops at the next head, or at the end of the list.
 use mathlib.Core.Path.{◌≡◌}
-use Prim.Native.Nat.{◌+◌, ◌-◌, ◌≤◌}
+use Prim.Native.Nat.{◌+◌, ◌≤◌}
 use lib.ListN.{take, drop}
 use Rattle.dissection.specs.Blocks.{leading}
 use Rattle.dissection.proofs.parts.block_end.Given as goal

@@ -1,7 +1,7 @@
 -- `dissection::parts::write_parts` meets its contract: the loop passes one block in each turn, and writes its size and its parent.
 use mathlib.Core.Path.{◌≡◌}
 use mathlib.Core.List.{List}
-use Prim.Native.Nat.{ℕ, ◌-◌, ◌≤◌}
+use Prim.Native.Nat.{ℕ, ◌≤◌}
 use lib.ListN.{length, take}
 use Rattle.plan.specs.Lists.{written}
 use Rattle.plan.specs.Steps.{by_number}

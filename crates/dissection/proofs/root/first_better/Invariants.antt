@@ -1,6 +1,6 @@
 -- `dissection::root::first_better` meets its contract: no candidate passed improves.
 use mathlib.Core.Path.{◌≡◌}
-use Prim.Native.Nat.{◌-◌, ◌≤◌}
+use Prim.Native.Nat.{◌≤◌}
 use lib.ListN.{length, take, drop}
 use Rattle.plan.specs.Lists.{keep}
 use Rattle.plan.specs.Mesh.{lent}

@@ -1,6 +1,5 @@
 -- `dissection::root::search` meets its contract: what is found from the root at hand is the region's root, and the search ends at it.
 use mathlib.Core.Path.{◌≡◌, refl, ap, subst, ◌∙◌}
-use mathlib.Core.Bool.{false}
 use Prim.Native.Nat.{ℕ, ◌≤◌}
 use native.Mathlib.Omega.{arith}
 use lib.ListN.{length}

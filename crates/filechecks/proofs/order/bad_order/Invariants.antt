@@ -1,5 +1,4 @@
 -- `filechecks::order::bad_order` meets its contract: each entry met is marked, and one that lies outside or is met again is a fault.
-use Prim.Native.Nat.{◌-◌}
 use Rattle.filechecks.proofs.Once.{Marked}
 use Rattle.filechecks.proofs.order.bad_order.Given as goal
 

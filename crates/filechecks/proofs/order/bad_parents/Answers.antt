@@ -1,10 +1,8 @@
 -- `filechecks::order::bad_parents` meets its contract: the loop tries each parent.
 use mathlib.Core.Path.{sym, ap, ◌∙◌}
 use mathlib.Core.Bool.{not}
-use Prim.Native.Nat.{◌-◌}
 use native.Mathlib.Omega.{arith}
 use lib.ListN.{length}
-use Rattle.plan.specs.File.{may_be_parent}
 use Rattle.theory.proofs.Scans.{clear_more, found_below, none_below}
 use Rattle.filechecks.proofs.order.bad_parents.Invariants.{bad}
 use Rattle.filechecks.proofs.order.bad_parents.Goals as goal

@@ -1,7 +1,7 @@
 -- `filechecks::order::bad_parents` meets its contract: the loop tries each parent.
 use mathlib.Core.Bool.{Bool, not}
 use mathlib.Core.List.{List}
-use Prim.Native.Nat.{ℕ, ◌-◌}
+use Prim.Native.Nat.{ℕ}
 use lib.ListN.{length, get_or}
 use Rattle.plan.specs.File.{may_be_parent}
 use Rattle.theory.proofs.Scans.{Clear}

@@ -1,6 +1,6 @@
 -- `filechecks::order::sum_sizes` meets its contract: each turn adds one size, and the sum stays far below 64 bits.
 use mathlib.Core.Path.{refl}
-use Prim.Native.Nat.{◌-◌, ◌<◌}
+use Prim.Native.Nat.{◌<◌}
 use native.Mathlib.Omega.{arith}
 use lib.Seq.{take_all}
 use borrow.Author.Rules.{rules}

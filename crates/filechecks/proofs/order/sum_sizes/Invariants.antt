@@ -1,7 +1,7 @@
 -- `filechecks::order::sum_sizes` meets its contract: each turn adds one size, and the sum stays far below 64 bits.
 use mathlib.Core.Path.{◌≡◌}
 use mathlib.Core.List.{List}
-use Prim.Native.Nat.{ℕ, ◌*◌, ◌-◌, ◌≤◌}
+use Prim.Native.Nat.{ℕ, ◌*◌, ◌≤◌}
 use lib.ListN.{take}
 use Rattle.plan.specs.Lists.{total}
 use Rattle.filechecks.proofs.order.sum_sizes.Given as goal

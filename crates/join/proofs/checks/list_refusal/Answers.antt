@@ -1,6 +1,6 @@
 -- `join::checks::list_refusal` meets its contract: the first fault is that of the checks to come, as long as none is found.
 use mathlib.Core.Path.{◌≡◌, sym, ap, ◌∙◌}
-use mathlib.Core.Bool.{true, false}
+use mathlib.Core.Bool.{false}
 use Prim.Native.Nat.{ℕ}
 use native.Mathlib.Omega.{arith}
 use lib.Dec.{ltb}

@@ -1,5 +1,4 @@
 -- `join::checks::repeats` meets its contract: each node met is marked, and one that is met again stands twice.
-use Prim.Native.Nat.{◌-◌}
 use Rattle.join.proofs.Seen.{Seen}
 use Rattle.join.proofs.checks.repeats.Given as goal
 

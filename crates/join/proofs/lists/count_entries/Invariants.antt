@@ -1,7 +1,7 @@
 -- `join::lists::count_entries` meets its contract: the loop writes the length of one list more in each turn.
 use mathlib.Core.Path.{◌≡◌}
 use mathlib.Core.List.{map}
-use Prim.Native.Nat.{◌-◌, ◌≤◌}
+use Prim.Native.Nat.{◌≤◌}
 use lib.ListN.{length}
 use Rattle.plan.specs.Lists.{written}
 use Rattle.plan.specs.Mesh.{max_nodes, lent}

@@ -1,6 +1,6 @@
 -- `join::lists::write_entries` meets its contract: the loop writes one list more in each turn, behind those before it.
 use mathlib.Core.List.{flatten}
-use Prim.Native.Nat.{◌-◌, ◌≤◌}
+use Prim.Native.Nat.{◌≤◌}
 use Rattle.plan.specs.Mesh.{lent}
 use Rattle.theory.proofs.Written.{Reached}
 use Rattle.join.specs.Lists.{merged_lists}

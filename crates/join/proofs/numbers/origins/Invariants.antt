@@ -1,5 +1,5 @@
 -- `join::numbers::origins` meets its contract: each turn stores one more node at the place that it goes to.
-use Prim.Native.Nat.{◌-◌, ◌≤◌}
+use Prim.Native.Nat.{◌≤◌}
 use lib.ListN.{take}
 use Rattle.join.proofs.Scattered.{Scattered}
 use Rattle.join.proofs.numbers.origins.Given as goal

@@ -1,7 +1,7 @@
 -- `join::numbers::put_paired` meets its contract: each turn stores where one more paired node goes.
 use mathlib.Core.Path.{refl}
 use mathlib.Core.List.{List}
-use Prim.Native.Nat.{ℕ, ◌-◌, ◌<◌}
+use Prim.Native.Nat.{ℕ, ◌<◌}
 use native.Mathlib.Omega.{arith}
 use lib.ListN.{length, get_or}
 use Rattle.theory.proofs.Lists.{is_in-get_or}

@@ -1,5 +1,4 @@
 -- `join::numbers::put_paired` meets its contract: each turn stores where one more paired node goes.
-use Prim.Native.Nat.{◌-◌}
 use lib.ListN.{get_or}
 use Rattle.join.proofs.Scattered.{Scattered}
 use Rattle.join.proofs.numbers.put_paired.Given as goal

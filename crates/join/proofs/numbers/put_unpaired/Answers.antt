@@ -1,5 +1,4 @@
 -- `join::numbers::put_unpaired` meets its contract: a node that waits goes to the next number, the others stay.
-use Prim.Native.Nat.{◌-◌}
 use native.Mathlib.Omega.{arith}
 use borrow.Author.Rules.{rules}
 use Rattle.join.proofs.Following.{followed_none, followed_gone, followed_kept, waiting_few}

@@ -1,5 +1,5 @@
 -- `join::numbers::put_unpaired` meets its contract: a node that waits goes to the next number, the others stay.
-use Prim.Native.Nat.{◌-◌, ◌≤◌}
+use Prim.Native.Nat.{◌≤◌}
 use Rattle.join.proofs.Following.{Followed}
 use Rattle.join.proofs.numbers.put_unpaired.Given as goal
 

@@ -1,6 +1,5 @@
 -- `joins::buffers::put_stale16` is safe and ends.
 use mathlib.Core.Path.{◌≡◌}
-use Prim.Native.Nat.{◌-◌}
 use lib.ListN.{length}
 use Rattle.joins.proofs.buffers.put_stale16.Given as goal
 

@@ -1,7 +1,6 @@
 -- `layout::checks::bad_column` meets its contract: behind k rows, the last of them `before`, the rule is that of column `before` for the
 -- rows to come.
 use mathlib.Core.Path.{sym}
-use Prim.Native.Nat.{◌-◌}
 use native.Mathlib.Omega.{arith}
 use Rattle.layout.proofs.ColumnScan.{scan_low, scan_high, scan_next, scan_end}
 use Rattle.layout.proofs.checks.bad_column.Goals as goal

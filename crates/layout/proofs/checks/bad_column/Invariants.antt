@@ -1,7 +1,6 @@
 -- `layout::checks::bad_column` meets its contract: behind k rows, the last of them `before`, the rule is that of column `before` for the
 -- rows to come.
 use mathlib.Core.Path.{◌≡◌}
-use Prim.Native.Nat.{◌-◌}
 use lib.ListN.{drop}
 use Rattle.plan.specs.File.{bad_column}
 use Rattle.layout.proofs.checks.bad_column.Given as goal

@@ -1,8 +1,7 @@
 -- `layout::checks::bad_columns` meets its contract: the loop tries each column.
 use mathlib.Core.Path.{◌≡◌, sym, ◌∙◌}
-use Prim.Native.Nat.{◌-◌}
 use native.Mathlib.Omega.{arith}
-use Rattle.plan.specs.File.{bad_column, bad_columns}
+use Rattle.plan.specs.File.{bad_columns}
 use Rattle.theory.proofs.Scans.{clear_more, found_below, none_below}
 use Rattle.mesh.proofs.Lists.{good-starts-within}
 use Rattle.layout.proofs.checks.bad_columns.Invariants.{breaks}

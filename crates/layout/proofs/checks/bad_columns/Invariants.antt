@@ -1,7 +1,7 @@
 -- `layout::checks::bad_columns` meets its contract: the loop tries each column.
 use mathlib.Core.Bool.{Bool}
 use mathlib.Core.List.{List}
-use Prim.Native.Nat.{ℕ, ◌-◌}
+use Prim.Native.Nat.{ℕ}
 use Rattle.plan.specs.Lists.{list_at}
 use Rattle.plan.specs.File.{bad_column}
 use Rattle.theory.proofs.Scans.{Clear}

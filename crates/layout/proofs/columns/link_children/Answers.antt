@@ -1,6 +1,5 @@
 -- `layout::columns::link_children` meets its contract: the loop links one column more each turn.
 use mathlib.Core.Path.{◌≡◌, refl, ◌∙◌}
-use Prim.Native.Nat.{◌-◌}
 use native.Mathlib.Omega.{arith}
 use borrow.Author.Rules.{rules}
 use Rattle.layout.proofs.Children.{children_start}

@@ -1,6 +1,6 @@
 -- `layout::columns::link_children` meets its contract: the loop links one column more each turn.
 use mathlib.Core.Path.{◌≡◌}
-use Prim.Native.Nat.{◌-◌, ◌≤◌}
+use Prim.Native.Nat.{◌≤◌}
 use lib.ListN.{length}
 use Rattle.layout.specs.Arrays.{Children}
 use Rattle.layout.proofs.columns.link_children.Given as goal

@@ -1,6 +1,6 @@
 -- `layout::columns::mark_neighbours` meets its contract: the loop marks the position of each neighbour.
 use mathlib.Core.Path.{◌≡◌}
-use Prim.Native.Nat.{◌-◌, ◌≤◌}
+use Prim.Native.Nat.{◌≤◌}
 use lib.Dec.{eqb}
 use lib.ListN.{length, take, get_or}
 use Rattle.plan.specs.Lists.{exists}

@@ -1,6 +1,6 @@
 -- `layout::columns::mark_rows` meets its contract: the loop marks each row.
 use mathlib.Core.Path.{◌≡◌}
-use Prim.Native.Nat.{◌-◌, ◌≤◌}
+use Prim.Native.Nat.{◌≤◌}
 use lib.ListN.{length, take}
 use Rattle.plan.specs.Lists.{is_in}
 use Rattle.layout.specs.Arrays.{Marked}

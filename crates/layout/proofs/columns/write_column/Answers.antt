@@ -1,6 +1,6 @@
 -- `layout::columns::write_column` meets its contract: the loop climbs from parent to parent and writes those that have the mark.
 use mathlib.Core.Path.{refl, ◌∙◌}
-use Prim.Native.Nat.{ℕ, ◌-◌, ◌<◌}
+use Prim.Native.Nat.{ℕ, ◌<◌}
 use native.Mathlib.Omega.{arith}
 use lib.ListN.{get_or}
 use Rattle.layout.proofs.Climbs.{ascent_start, ascent_parent, ascent_more, ascent_end}

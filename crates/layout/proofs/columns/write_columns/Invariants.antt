@@ -1,6 +1,6 @@
 -- `layout::columns::write_columns` meets its contract: the loop writes one column more each turn.
 use mathlib.Core.Path.{◌≡◌}
-use Prim.Native.Nat.{◌-◌, ◌≤◌}
+use Prim.Native.Nat.{◌≤◌}
 use lib.ListN.{length}
 use Rattle.plan.specs.Lists.{written}
 use Rattle.plan.specs.Mesh.{max_nodes, lent}

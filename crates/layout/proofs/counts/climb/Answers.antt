@@ -1,7 +1,7 @@
 -- `layout::counts::climb` meets its contract: each turn counts and marks one column on the way up, and the parent is later than the column.
 use mathlib.Core.Path.{◌≡◌, refl, ◌∙◌}
 use mathlib.Core.List.{List}
-use Prim.Native.Nat.{ℕ, ◌+◌, ◌-◌, ◌<◌}
+use Prim.Native.Nat.{ℕ, ◌+◌, ◌<◌}
 use native.Mathlib.Omega.{arith}
 use lib.ListN.{length, get_or, set, length-set}
 use Rattle.layout.specs.Climbing.{Climbable}

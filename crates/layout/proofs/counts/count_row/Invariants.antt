@@ -2,7 +2,7 @@
 -- that have row i are counted.
 use mathlib.Core.Path.{◌≡◌}
 use mathlib.Core.List.{List}
-use Prim.Native.Nat.{ℕ, ◌-◌, ◌≤◌, ◌<◌}
+use Prim.Native.Nat.{ℕ, ◌≤◌, ◌<◌}
 use lib.ListN.{length, drop, get_or}
 use Rattle.plan.specs.Mesh.{Mesh, lent, neighbours_of}
 use Rattle.layout.specs.Climbing.{Climbing}

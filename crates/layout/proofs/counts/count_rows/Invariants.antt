@@ -1,7 +1,7 @@
 -- `layout::counts::count_rows` meets its contract: row after row is counted.
 use mathlib.Core.Path.{◌≡◌}
 use mathlib.Core.List.{List}
-use Prim.Native.Nat.{ℕ, ◌-◌, ◌≤◌}
+use Prim.Native.Nat.{ℕ, ◌≤◌}
 use lib.ListN.{length, drop}
 use Rattle.plan.specs.Mesh.{max_nodes, Mesh, lent}
 use Rattle.layout.specs.Arrays.{Unmarked, CountedBelow}

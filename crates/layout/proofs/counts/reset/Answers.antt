@@ -1,7 +1,6 @@
 -- `layout::counts::reset` meets its contract: the first k numbers are set.
 use mathlib.Core.Path.{◌≡◌, ap, ◌∙◌}
 use mathlib.Core.List.{List}
-use Prim.Native.Nat.{◌-◌}
 use native.Mathlib.Omega.{arith}
 use borrow.Author.Rules.{rules}
 use lib.ListN.{set, replicate, length-set, length-replicate, replicate-append-replicate}

@@ -1,6 +1,6 @@
 -- `layout::counts::reset` meets its contract: the first k numbers are set.
 use mathlib.Core.Path.{◌≡◌}
-use Prim.Native.Nat.{◌-◌, ◌≤◌}
+use Prim.Native.Nat.{◌≤◌}
 use lib.ListN.{length, replicate}
 use Rattle.plan.specs.Lists.{written}
 use Rattle.layout.proofs.counts.reset.Given as goal

@@ -1,7 +1,7 @@
 -- `layout::counts::sum` meets its contract: each turn adds one column, and the sums stay far below 32 and 64 bits.
 use mathlib.Core.Path.{◌≡◌}
 use mathlib.Core.List.{List}
-use Prim.Native.Nat.{ℕ, ◌*◌, ◌-◌, ◌≤◌}
+use Prim.Native.Nat.{ℕ, ◌*◌, ◌≤◌}
 use lib.ListN.{take}
 use Rattle.plan.specs.Lists.{total}
 use Rattle.plan.specs.Elimination.{multiplications}

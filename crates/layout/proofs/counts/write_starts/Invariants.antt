@@ -1,7 +1,7 @@
 -- `layout::counts::write_starts` meets its contract: each turn writes one more running sum.
 use mathlib.Core.Path.{◌≡◌}
 use mathlib.Core.List.{List}
-use Prim.Native.Nat.{ℕ, ◌*◌, ◌-◌, ◌≤◌}
+use Prim.Native.Nat.{ℕ, ◌*◌, ◌≤◌}
 use lib.ListN.{length, take}
 use Rattle.plan.specs.Lists.{total, running_sums, written}
 use Rattle.layout.proofs.counts.write_starts.Given as goal

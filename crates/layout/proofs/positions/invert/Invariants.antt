@@ -1,5 +1,5 @@
 -- `layout::positions::invert` meets its contract: each turn gives one more node its position.
-use Prim.Native.Nat.{◌-◌, ◌≤◌}
+use Prim.Native.Nat.{◌≤◌}
 use lib.ListN.{length}
 use Rattle.layout.proofs.Inverse.{Inverted}
 use Rattle.layout.proofs.positions.invert.Given as goal

@@ -1,6 +1,5 @@
 -- `naive::joining::put_neighbours` is safe and ends.
 use mathlib.Core.Path.{◌≡◌}
-use Prim.Native.Nat.{◌-◌}
 use lib.ListN.{length}
 use Rattle.naive.proofs.joining.put_neighbours.Given as goal
 

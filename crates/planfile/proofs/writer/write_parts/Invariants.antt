@@ -1,6 +1,6 @@
 -- `planfile::writer::write_parts` meets its contract: the loop writes the parts' pairs of size and parent one after the other.
 use mathlib.Core.List.{List, ◌++◌}
-use Prim.Native.Nat.{ℕ, ◌+◌, ◌-◌}
+use Prim.Native.Nat.{ℕ}
 use lib.ListN.{length, get_or}
 use Rattle.plan.specs.File.{encode16}
 use Rattle.theory.proofs.Coding.{Blocks}

@@ -1,5 +1,5 @@
 -- `rowchecks::encoded::walk_encoded` meets its contract: column after column is added to what is carried.
-use Prim.Native.Nat.{◌-◌, ◌≤◌}
+use Prim.Native.Nat.{◌≤◌}
 use Rattle.plan.specs.RowFaults.{Carried}
 use Rattle.rowchecks.specs.Rows.{parts_and_rows, rows_in, Ranges}
 use Rattle.rowchecks.proofs.encoded.walk_encoded.Given as goal

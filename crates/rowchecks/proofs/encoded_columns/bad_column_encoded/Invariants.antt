@@ -1,7 +1,6 @@
 -- `rowchecks::encoded_columns::bad_column_encoded` meets its contract: behind k rows, the last of them `before`, the rule is that of column `before`
 -- for the rows to come.
 use mathlib.Core.Path.{◌≡◌}
-use Prim.Native.Nat.{◌-◌}
 use lib.ListN.{drop}
 use Rattle.plan.specs.File.{bad_column}
 use Rattle.rowchecks.specs.Rows.{rows_in}

@@ -1,6 +1,6 @@
 -- `rowchecks::encoded_columns::mark_encoded` meets its contract: the loop marks each row.
 use mathlib.Core.Path.{refl}
-use Prim.Native.Nat.{◌-◌, ◌<◌}
+use Prim.Native.Nat.{◌<◌}
 use native.Mathlib.Omega.{arith}
 use borrow.Author.Rules.{rules}
 use lib.ListN.{length, get_or}

@@ -1,6 +1,5 @@
 -- `rowchecks::encoded_columns::mark_encoded` meets its contract: the loop marks each row.
 use mathlib.Core.Path.{◌≡◌}
-use Prim.Native.Nat.{◌-◌}
 use lib.ListN.{length, take}
 use Rattle.plan.specs.Lists.{is_in}
 use Rattle.layout.specs.Arrays.{Marked}

@@ -1,5 +1,4 @@
 -- `rowchecks::encoded_columns::outside_encoded` meets its contract: none of the rows before place k breaks 18's rule.
-use Prim.Native.Nat.{◌-◌}
 use Rattle.rowchecks.specs.Rows.{rows_in}
 use Rattle.rowchecks.proofs.ColumnDown.{Inside}
 use Rattle.rowchecks.proofs.encoded_columns.outside_encoded.Given as goal

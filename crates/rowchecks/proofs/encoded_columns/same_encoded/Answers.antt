@@ -1,6 +1,5 @@
 -- `rowchecks::encoded_columns::same_encoded` meets its contract: what differs so far is whether the rows before place k do.
 use mathlib.Core.Path.{◌≡◌}
-use Prim.Native.Nat.{◌-◌}
 use native.Mathlib.Omega.{arith}
 use lib.ListN.{length}
 use Rattle.rowchecks.specs.Rows.{rows_in}

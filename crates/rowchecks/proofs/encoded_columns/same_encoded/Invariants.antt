@@ -1,5 +1,4 @@
 -- `rowchecks::encoded_columns::same_encoded` meets its contract: what differs so far is whether the rows before place k do.
-use Prim.Native.Nat.{◌-◌}
 use Rattle.rowchecks.specs.Rows.{rows_in}
 use Rattle.rowchecks.proofs.Covering.{Compared}
 use Rattle.rowchecks.proofs.encoded_columns.same_encoded.Given as goal

@@ -1,7 +1,6 @@
 -- `rowchecks::lent::not_covered` meets its contract: the loop tries each column, and no mark is of a column to come.
 use mathlib.Core.Path.{◌≡◌, refl, sym, ap, ◌∙◌}
 use mathlib.Core.Bool.{not}
-use Prim.Native.Nat.{◌-◌}
 use native.Mathlib.Omega.{arith}
 use Rattle.plan.specs.File.{not_covered}
 use Rattle.theory.proofs.Scans.{clear_more, found_below, none_below}

@@ -1,6 +1,5 @@
 -- `rowchecks::lent::not_covered` meets its contract: the loop tries each column, and no mark is of a column to come.
 use mathlib.Core.Path.{◌≡◌}
-use Prim.Native.Nat.{◌-◌}
 use lib.ListN.{length}
 use Rattle.plan.specs.Mesh.{max_nodes}
 use Rattle.theory.proofs.Scans.{Clear}

@@ -1,6 +1,5 @@
 -- `rowchecks::lent::walk` meets its contract: column after column is added to what is carried.
 use mathlib.Core.Path.{◌≡◌}
-use Prim.Native.Nat.{◌-◌}
 use native.Mathlib.Omega.{arith}
 use borrow.Author.Rules.{rules}
 use Rattle.theory.proofs.RowFaults.{carried_none}

@@ -1,5 +1,5 @@
 -- `rowchecks::lent::walk` meets its contract: column after column is added to what is carried.
-use Prim.Native.Nat.{◌-◌, ◌≤◌}
+use Prim.Native.Nat.{◌≤◌}
 use Rattle.plan.specs.RowFaults.{Carried}
 use Rattle.rowchecks.specs.Rows.{parts_and_rows, Ranges}
 use Rattle.rowchecks.proofs.lent.walk.Given as goal

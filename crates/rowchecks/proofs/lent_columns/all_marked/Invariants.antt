@@ -1,5 +1,4 @@
 -- `rowchecks::lent_columns::all_marked` meets its contract: no row before place k lacks the mark.
-use Prim.Native.Nat.{◌-◌}
 use lib.Dec.{eqb}
 use lib.ListN.{get_or}
 use Rattle.theory.proofs.Scans.{Clear, element_at, fails}

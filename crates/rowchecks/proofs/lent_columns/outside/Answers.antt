@@ -1,6 +1,5 @@
 -- `rowchecks::lent_columns::outside` meets its contract: none of the rows before place k breaks 18's rule.
 use mathlib.Core.Path.{refl, sym}
-use Prim.Native.Nat.{◌-◌}
 use native.Mathlib.Omega.{arith}
 use Rattle.rowchecks.proofs.ColumnDown.{inside-high, inside_out, inside-next, inside-end}
 use mathlib.Core.Bool.{not}

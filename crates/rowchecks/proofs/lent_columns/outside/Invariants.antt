@@ -1,5 +1,4 @@
 -- `rowchecks::lent_columns::outside` meets its contract: none of the rows before place k breaks 18's rule.
-use Prim.Native.Nat.{◌-◌}
 use Rattle.rowchecks.proofs.ColumnDown.{Inside}
 use Rattle.rowchecks.proofs.lent_columns.outside.Given as goal
 

@@ -1,5 +1,4 @@
 -- `rowchecks::lent_columns::same` meets its contract: what differs so far is whether the entries before place k do.
-use Prim.Native.Nat.{◌-◌}
 use native.Mathlib.Omega.{arith}
 use borrow.Author.Rules.{rules}
 use Rattle.rowchecks.proofs.Covering.{compared_more, compared_all}

@@ -1,5 +1,4 @@
 -- `rowchecks::lent_columns::same` meets its contract: what differs so far is whether the entries before place k do.
-use Prim.Native.Nat.{◌-◌}
 use Rattle.rowchecks.proofs.Covering.{Compared}
 use Rattle.rowchecks.proofs.lent_columns.same.Given as goal
 

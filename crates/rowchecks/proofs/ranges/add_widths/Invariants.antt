@@ -1,7 +1,7 @@
 -- `rowchecks::ranges::add_widths` meets its contract: turn after turn a part's width is added to its parent's.
 use mathlib.Core.Path.{◌≡◌}
 use mathlib.Core.List.{List}
-use Prim.Native.Nat.{ℕ, ◌-◌, ◌≤◌}
+use Prim.Native.Nat.{ℕ, ◌≤◌}
 use lib.ListN.{length, get_or}
 use Rattle.rowchecks.specs.Numbering.{width_after}
 use Rattle.rowchecks.proofs.ranges.add_widths.Given as goal

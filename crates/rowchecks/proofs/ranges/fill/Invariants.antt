@@ -1,8 +1,8 @@
 -- `rowchecks::ranges::fill` meets its contract: place after place is set, in both lists, and none before the first.
 use mathlib.Core.Path.{◌≡◌}
 use mathlib.Core.List.{List}
-use Prim.Native.Nat.{ℕ, ◌+◌, ◌-◌, ◌≤◌, ◌<◌}
-use lib.ListN.{length, get_or, set}
+use Prim.Native.Nat.{ℕ, ◌+◌, ◌≤◌, ◌<◌}
+use lib.ListN.{length, get_or}
 use Rattle.rowchecks.proofs.ranges.fill.Given as goal
 
 -- the k places from `at` on are set to x, those before are as they were

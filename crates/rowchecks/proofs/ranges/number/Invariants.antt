@@ -2,7 +2,7 @@
 -- begins behind what is left.
 use mathlib.Core.Path.{◌≡◌}
 use mathlib.Core.List.{List}
-use Prim.Native.Nat.{ℕ, ◌+◌, ◌-◌, ◌≤◌, ◌<◌}
+use Prim.Native.Nat.{ℕ, ◌+◌, ◌≤◌, ◌<◌}
 use lib.ListN.{length, get_or}
 use Rattle.rowchecks.specs.Numbering.{rooted_parent, width_after, width}
 use Rattle.rowchecks.proofs.ranges.number.Given as goal

@@ -1,7 +1,7 @@
 -- `rowchecks::ranges::spread` meets its contract: part after part its range is written at its positions.
 use mathlib.Core.Path.{◌≡◌}
 use mathlib.Core.List.{List}
-use Prim.Native.Nat.{ℕ, ◌-◌, ◌≤◌, ◌<◌}
+use Prim.Native.Nat.{ℕ, ◌≤◌, ◌<◌}
 use lib.ListN.{length, take, get_or}
 use Rattle.plan.specs.Lists.{total}
 use Rattle.plan.specs.Parts.{part_of}

@@ -1,7 +1,7 @@
 -- `text::input::read_starts` meets its contract: the loop writes each start.
 use mathlib.Core.Path.{◌≡◌}
 use mathlib.Core.List.{List}
-use Prim.Native.Nat.{ℕ, ◌-◌}
+use Prim.Native.Nat.{ℕ}
 use lib.ListN.{length, take}
 use Rattle.plan.specs.Lists.{written}
 use Rattle.plan.specs.Listing.{input_mesh}

@@ -1,5 +1,4 @@
 -- `text::listed::part_of` meets its contract: the loop passes over the parts before the position's.
-use Prim.Native.Nat.{◌-◌}
 use native.Mathlib.Omega.{arith}
 use borrow.Author.Rules.{rules}
 use Rattle.text.proofs.Parts.{part_here, part-behind, part_none}

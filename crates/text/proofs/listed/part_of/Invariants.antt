@@ -1,6 +1,6 @@
 -- `text::listed::part_of` meets its contract: the loop passes over the parts before the position's.
 use mathlib.Core.Path.{◌≡◌}
-use Prim.Native.Nat.{◌+◌, ◌-◌, ◌≤◌}
+use Prim.Native.Nat.{◌+◌, ◌≤◌}
 use lib.ListN.{length, drop}
 use Rattle.plan.specs.Parts.{part_of}
 use Rattle.text.proofs.listed.part_of.Given as goal

@@ -1,6 +1,5 @@
 -- `text::listed::put_lines` meets its contract: the loop puts each position's line.
 use mathlib.Core.Path.{◌≡◌, refl, ap}
-use Prim.Native.Nat.{◌-◌}
 use native.Mathlib.Omega.{arith}
 use lib.ListN.{length, get_or}
 use borrow.Author.Rules.{rules}

@@ -1,6 +1,5 @@
 -- `text::listed::put_lines` meets its contract: the loop puts each position's line.
 use mathlib.Core.Path.{◌≡◌}
-use Prim.Native.Nat.{◌-◌}
 use lib.ListN.{length}
 use Rattle.plan.specs.Lists.{below}
 use Rattle.plan.specs.Listing.{position_line}

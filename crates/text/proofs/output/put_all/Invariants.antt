@@ -1,6 +1,5 @@
 -- `text::output::put_all` meets its contract: the loop puts each number.
 use mathlib.Core.Path.{◌≡◌}
-use Prim.Native.Nat.{◌-◌}
 use lib.ListN.{length}
 use Rattle.text.proofs.Sequences.{Puts}
 use Rattle.text.proofs.Decimals.{spaced_one}

@@ -1,7 +1,7 @@
 -- `text::output::put_bytes` meets its contract: the loop puts each byte.
 use mathlib.Core.Path.{◌≡◌}
 use mathlib.Core.List.{List, [], ◌∷◌}
-use Prim.Native.Nat.{ℕ, ◌-◌}
+use Prim.Native.Nat.{ℕ}
 use lib.ListN.{length}
 use Rattle.text.proofs.Sequences.{Puts}
 use Rattle.text.proofs.output.put_bytes.Given as goal

@@ -1,6 +1,5 @@
 -- `texts::ring::put_all` is safe and ends.
 use mathlib.Core.Path.{◌≡◌}
-use Prim.Native.Nat.{◌-◌}
 use lib.ListN.{length}
 use Rattle.texts.proofs.ring.put_all.Given as goal
 

@@ -1,6 +1,5 @@
 -- `texts::ring::put_text` is safe and ends.
 use mathlib.Core.Path.{◌≡◌}
-use Prim.Native.Nat.{◌-◌}
 use lib.ListN.{length}
 use Rattle.texts.proofs.ring.put_text.Given as goal
 
