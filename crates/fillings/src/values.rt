@@ -29,6 +29,15 @@ fn bits(seed: u64, at: usize, what: usize) -> f64 {
     (draw(seed, at, what, 2097152) % 4294967296) as u32 as f64
 }
 
+// The remainders of such a number by 8 and by 5. They are taken of whole numbers: `%` of two `f64` calls the C library.
+fn remainder8(seed: u64, at: usize, what: usize) -> f64 {
+    (draw(seed, at, what, 2097152) % 8) as u32 as f64
+}
+
+fn remainder5(seed: u64, at: usize, what: usize) -> f64 {
+    (draw(seed, at, what, 2097152) % 5) as u32 as f64
+}
+
 // From 1 up to 2, with every bit drawn.
 fn unit(seed: u64, at: usize) -> f64 {
     let high = bits(seed, at, 20) * 4398046511104.0;
@@ -89,7 +98,7 @@ fn diagonal_value(kind: usize, seed: u64, at: usize) -> f64 {
         EVERY_MAGNITUDE => x * magnitude(draw(seed, at, 23, 9)),
         SPECIAL => special(draw(seed, at, 24, SPECIALS)),
         ZEROS => special(draw(seed, at, 24, 4)),
-        _ => 1.0 + bits(seed, at, 25) % 8.0,
+        _ => 1.0 + remainder8(seed, at, 25),
     }
 }
 
@@ -114,7 +123,7 @@ fn slot_value(kind: usize, seed: u64, at: usize) -> f64 {
         }
         SPECIAL => special(draw(seed, at, 29, SPECIALS)),
         ZEROS => signed(0.0, x < 0.0),
-        _ => bits(seed, at, 30) % 5.0 - 2.0,
+        _ => remainder5(seed, at, 30) - 2.0,
     }
 }
 
