@@ -5,8 +5,7 @@ ghost use Rattle.plan.specs.Mesh.{max_nodes, no_parent};
 ghost use Rattle.plan.specs.Steps.{by_number};
 ghost use Rattle.dissection.specs.Blocks.{leading, block_sizes, block_parents, Heads};
 
-use crate::state::INNER;
-use mesh::copy;
+use crate::state::{INNER, copy};
 use plan::Plan;
 
 // The place behind the block that begins at place `at`. O(its length).
