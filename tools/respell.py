@@ -105,7 +105,7 @@ def main():
         put(path, text, turn(text, own))
     for path in files("crates", ".rt"):
         text = read(path)
-        put(path, text, re.sub(r"(?<![\w.'\"-])[a-z][a-z0-9]*[A-Z]\w*", lambda m: snake(m[0]), turn(text, set())))
+        put(path, text, re.sub(r"(?<![\w.'\"-])[a-z][a-z0-9]*[A-Z]\w*", lambda m: snake(m[0]), turn(text, {n for n in table if n.lower() == n and "-" not in n})))
     for path in files("crates", ".edit"):
         text = read(path)
         put(path, text, edit(turn(text, set())))
