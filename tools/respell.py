@@ -103,9 +103,15 @@ def main():
         text = read(path)
         own = {n for n in declared(text) if "-" in n} if is_function(path) else set()
         put(path, text, turn(text, own))
+    same = {n for n in table if n.lower() == n and "-" not in n}
     for path in files("crates", ".rt"):
         text = read(path)
-        put(path, text, re.sub(r"(?<![\w.'\"-])[a-z][a-z0-9]*[A-Z]\w*", lambda m: snake(m[0]), turn(text, {n for n in table if n.lower() == n and "-" not in n})))
+        camel = r"([a-z][a-z0-9]*[A-Z]\w*)"
+        bound = set(re.findall(r"(?:\blet |\bmut |\bas )" + camel, text) + re.findall(r"\b" + camel + r": ", text))
+        text = turn(text, same)
+        for n in sorted(bound):
+            text = re.sub(r"(?<![\w'-])" + n + r"(?![\w'-])", snake(n), text)
+        put(path, read(path), text)
     for path in files("crates", ".edit"):
         text = read(path)
         put(path, text, edit(turn(text, set())))
