@@ -55,8 +55,8 @@ pub(crate) fn factor_columns(
     values: &mut [f64],
 ) -> FactorAnswer
     requires { Lent starts.now rows.now diagonal.old values.old }
-    ensures { Reached (factor_from starts.now rows.now 0 (length diagonal.entry.now) open_report
-        (record { diagonal = diagonal.entry.now; values = values.old })) result diagonal.exit.now values.new }
+    ensures { Reached (factor_from starts.now rows.now 0 (length diagonal.old) open_report
+        (record { diagonal = diagonal.old; values = values.old })) result diagonal.new values.new }
 {
     let mut kept = [0.0; Plan::NODES];
     let mut lower = [0.0; Plan::NODES];

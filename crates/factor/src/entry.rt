@@ -10,7 +10,7 @@ use planfile::supplied_refusal;
 
 // Check 30: a value buffer has another length than needed. O(1).
 pub(crate) fn bad_filling(n: usize, s: usize, diagonal: &[f64], values: &[f64]) -> bool
-    ensures { result ≡ bad_filling n s (record { diagonal = diagonal.entry.now; values = values.now }) }
+    ensures { result ≡ bad_filling n s (record { diagonal = diagonal.now; values = values.now }) }
 {
     if diagonal.len() != n {
         return true;
@@ -32,7 +32,7 @@ pub(crate) fn refusal(
     diagonal: &[f64],
     values: &[f64],
 ) -> u32
-    ensures { result ≡ first_fault (factor_checks (contents unknowns n p s order.now sizes.now parents.now column_starts.now rows.now) (record { diagonal = diagonal.entry.now; values = values.now })) }
+    ensures { result ≡ first_fault (factor_checks (contents unknowns n p s order.now sizes.now parents.now column_starts.now rows.now) (record { diagonal = diagonal.now; values = values.now })) }
 {
     let fault = supplied_refusal(
         unknowns,
@@ -73,8 +73,8 @@ pub fn factor(
     values: &mut [f64],
 ) -> FactorAnswer
     ensures { Factored (contents unknowns n p s order.now sizes.now parents.now column_starts.now rows.now) result
-        (record { diagonal = diagonal.entry.now; values = values.old })
-        (record { diagonal = diagonal.exit.now; values = values.new }) }
+        (record { diagonal = diagonal.old; values = values.old })
+        (record { diagonal = diagonal.new; values = values.new }) }
 {
     let fault = refusal(
         unknowns,

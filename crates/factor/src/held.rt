@@ -30,7 +30,7 @@ pub fn held_at(
     a: usize,
     b: usize,
 ) -> HeldAnswer
-    ensures { held_reply result ≡ held_question n column_starts.now rows.now (record { diagonal = diagonal.entry.now; values = values.now }) a b }
+    ensures { held_reply result ≡ held_question n column_starts.now rows.now (record { diagonal = diagonal.now; values = values.now }) a b }
 {
     let answer = slot_of_pair(n, column_starts, rows, a, b);
     // 30 comes behind 1 and 22, and before 21

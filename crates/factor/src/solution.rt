@@ -37,7 +37,7 @@ fn solve_refusal(
     values: &[f64],
     vector: &[f64],
 ) -> u32
-    ensures { result ≡ first_fault (solve_checks (contents unknowns n p s order.now sizes.now parents.now column_starts.now rows.now) (record { diagonal = diagonal.entry.now; values = values.now }) vector.now) }
+    ensures { result ≡ first_fault (solve_checks (contents unknowns n p s order.now sizes.now parents.now column_starts.now rows.now) (record { diagonal = diagonal.now; values = values.now }) vector.now) }
 {
     let fault = refusal(
         unknowns,
@@ -81,7 +81,7 @@ pub fn solve(
     vector: &mut [f64],
 ) -> u32
     ensures { Solved (contents unknowns n p s order.now sizes.now parents.now column_starts.now rows.now)
-        (record { diagonal = diagonal.entry.now; values = values.now }) result vector.old vector.new }
+        (record { diagonal = diagonal.now; values = values.now }) result vector.old vector.new }
 {
     let fault = solve_refusal(
         unknowns,

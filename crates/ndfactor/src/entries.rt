@@ -26,8 +26,8 @@ pub extern "C" fn ndf_factor(
     values: &mut [f64],
 ) -> NdfReport
     ensures { Factored (contents unknowns n p s order.now sizes.now parents.now column_starts.now rows.now) (factor_answer_of result)
-        (record { diagonal = diagonal.entry.now; values = values.old })
-        (record { diagonal = diagonal.exit.now; values = values.new }) }
+        (record { diagonal = diagonal.old; values = values.old })
+        (record { diagonal = diagonal.new; values = values.new }) }
 {
     factor_reply(factor(
         unknowns,
@@ -61,7 +61,7 @@ pub extern "C" fn ndf_solve(
     vector: &mut [f64],
 ) -> u32
     ensures { Solved (contents unknowns n p s order.now sizes.now parents.now column_starts.now rows.now)
-        (record { diagonal = diagonal.entry.now; values = values.now }) result vector.old vector.new }
+        (record { diagonal = diagonal.now; values = values.now }) result vector.old vector.new }
 {
     solve(
         unknowns,
@@ -90,7 +90,7 @@ pub extern "C" fn ndf_held(
     a: usize,
     b: usize,
 ) -> NdfHeld
-    ensures { result ≡ ndf_held (held_question n column_starts.now rows.now (record { diagonal = diagonal.entry.now; values = values.now }) a b) }
+    ensures { result ≡ ndf_held (held_question n column_starts.now rows.now (record { diagonal = diagonal.now; values = values.now }) a b) }
 {
     held_reply(held_at(n, column_starts, rows, diagonal, values, a, b))
 }
