@@ -1,4 +1,4 @@
--- `rowchecks::ranges::holds` meets its contract: the two tests are those of `inRange`.
+-- `rowchecks::ranges::holds` meets its contract: the two tests are those of `in_range`.
 use borrow.Author.Tests.{lt-ltb, le-ltb}
 use Rattle.rowchecks.proofs.ranges.holds.Goals as goal
 
