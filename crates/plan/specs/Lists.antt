@@ -1,22 +1,9 @@
 -- Numbers and lists, with tests that compute. Nothing here is of document 01; the files that are use these names.
 use Rattle.std.specs.Prelude.{Bool, true, false, not, cond, ◌&&◌, ◌||◌, List, [], ◌∷◌, ◌++◌, ℕ, zero, suc, ◌+◌, ◌-◌, ltb, eqb, length, take, drop, get_or}
+-- whether some element passes the test, whether every element passes it, and the elements that pass it, in their order
+pub use Rattle.std.specs.List.{list_any as exists, list_all as every, filter as keep}
 
 module _ {A : Type 0} where
-  -- whether some element passes the test
-  abbrev pub exists : (A → Bool) → List A → Bool
-  exists p [] = false
-  exists p (x ∷ xs) = p x || exists p xs
-
-  -- whether every element passes it
-  abbrev pub every : (A → Bool) → List A → Bool
-  every p [] = true
-  every p (x ∷ xs) = p x && every p xs
-
-  -- the elements that pass it, in their order
-  abbrev pub keep : (A → Bool) → List A → List A
-  keep p [] = []
-  keep p (x ∷ xs) = cond (p x) (x ∷ keep p xs) (keep p xs)
-
   -- l from place a up to, not including, place b
   abbrev pub segment : List A → ℕ → ℕ → List A
   segment l a b = take (b - a) (drop a l)
