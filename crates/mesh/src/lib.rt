@@ -2,17 +2,20 @@
 // crates use of such lists, of arrays with a place for each node, and of a mesh that is made.
 #![tactic(auto)]
 
+mod checked;
 mod made;
 
-ghost use Rattle.std.specs.Prelude.{◌≡◌, true, false, List, ℕ, ◌≤◌, leb, ltb, length};
+ghost use Rattle.std.specs.Prelude.{◌≡◌, true, false, List, ℕ, ◌≤◌, leb, ltb, length, IfOk};
 ghost use Rattle.plan.specs.Lists.{exists, is_in, list_at, ascending, falls, written};
-ghost use Rattle.plan.specs.Refusals.{first_fault};
+ghost use Rattle.plan.specs.Refusals.{fault_of, first_fault};
 ghost use Rattle.plan.specs.Mesh.{max_nodes, lent, bad_node_count, bad_starts, bad_mesh_starts, too_many_entries, neighbour_outside, one_sided, mesh_checks};
 ghost use Rattle.theory.specs.Counting.{count};
 ghost use Rattle.mesh.specs.Lists.{filled_with, breaks_rule, some_list_breaks, ListWithin};
+ghost use Rattle.mesh.specs.Lent.{as_lent};
 
+pub use checked::CheckedMesh;
 pub use made::{too_long, too_short};
-use plan::Plan;
+use plan::{Plan, Refusal};
 
 // no node, position or part
 pub const NONE: u16 = 65535;
@@ -75,13 +78,14 @@ pub fn bad_starts(n: usize, starts: &[u32]) -> bool
 }
 
 // Check 2: bad starts, or the last is not the number of entries. O(n).
+#[tactic(auto, unfolding(plan::specs::Mesh::bad_mesh_starts))]
 fn bad_mesh_starts(n: usize, starts: &[u32], neighbours: &[u16]) -> bool
     ensures { result ≡ bad_mesh_starts (lent n starts.now neighbours.now) }
 {
     if bad_starts(n, starts) {
         return true;
     }
-    index(starts[n]) != neighbours.len()
+    starts[n] as usize != neighbours.len()
 }
 
 // Check 3: too many entries, whatever the nodes and the starts. O(1).
@@ -92,37 +96,27 @@ fn too_many_entries(neighbours: &[u16]) -> bool
 }
 
 // Check 4: an entry is n or more, whatever the starts. O(entries).
+#[tactic(auto, unfolding(plan::specs::Mesh::neighbour_outside))]
 fn neighbour_outside(n: usize, neighbours: &[u16]) -> bool
     ensures { (starts : List ℕ) → result ≡ neighbour_outside (lent n starts neighbours.now) }
 {
-    for k in 0..neighbours.len() {
-        if wide(neighbours[k]) >= n {
-            return true;
-        }
-    }
-    false
+    outside(n, neighbours)
 }
 
 // Whether one of some nodes is n or more, and so none. O(length).
 pub fn outside(n: usize, nodes: &[u16]) -> bool
     ensures { result ≡ exists (leb n) nodes.now }
 {
-    for k in 0..nodes.len() {
-        if wide(nodes[k]) >= n {
-            return true;
-        }
-    }
-    false
+    nodes.iter().any(|v| usize::from(*v) >= n)
 }
 
 // Node v's list, as a part of the entries. O(1).
+#[tactic(auto, unfolding(plan::specs::Lists::list_at))]
 pub fn list<'a>(starts: &[u32], entries: &'a [u16], v: usize) -> &'a [u16]
     requires { ListWithin starts.now entries.now v }
     ensures { result.now ≡ list_at starts.now entries.now v }
 {
-    let a = index(starts[v]);
-    let e = index(starts[v + 1]);
-    &entries[a..e]
+    &entries[starts[v] as usize..starts[v + 1] as usize]
 }
 
 // A list is copied to the front of an array. O(length).
@@ -130,9 +124,7 @@ pub fn copy(entries: &[u16], buffer: &mut [u16])
     requires { length entries.now ≤ length buffer.old }
     ensures { buffer.new ≡ written entries.now buffer.old }
 {
-    for i in 0..entries.len() {
-        buffer[i] = entries[i];
-    }
+    buffer[..entries.len()].copy_from_slice(entries);
 }
 
 // Whether x stands in a list of any order. Each entry is looked at, whether x was found before or not: no branch has to be guessed. O(length).
@@ -140,8 +132,8 @@ pub fn contains(entries: &[u16], x: u16) -> bool
     ensures { result ≡ is_in x entries.now }
 {
     let mut found = false;
-    for k in 0..entries.len() {
-        found = found | (entries[k] == x);
+    for y in entries {
+        found |= *y == x;
     }
     found
 }
@@ -232,34 +224,44 @@ fn one_sided(n: usize, starts: &[u32], neighbours: &[u16]) -> bool
     missing
 }
 
-// The first refusal of checks 1 to 7, with 26 between 6 and 7, 0 for none. "Each check covers the whole input before the next begins."
+// Checks 1 to 7, with 26 between 6 and 7, and the mesh that has passed them. "Each check covers the whole input before the next begins."
 // O(n + 26 · entries).
-pub fn check(n: usize, starts: &[u32], neighbours: &[u16]) -> u32
-    ensures { result ≡ first_fault (mesh_checks (lent n starts.now neighbours.now)) }
+#[tactic(auto, unfolding(plan::specs::Refusals::first_fault, plan::specs::Mesh::mesh_checks, plan::specs::Mesh::lists_itself, plan::specs::Mesh::not_ascending, plan::specs::Mesh::list_too_long, plan::specs::Mesh::adjacent, crate::specs::Lists::some_list_breaks))]
+pub fn check<'a>(
+    n: usize,
+    starts: &'a [u32],
+    neighbours: &'a [u16],
+) -> Result<CheckedMesh<'a>, Refusal>
+    ensures fault { fault_of result ≡ first_fault (mesh_checks (lent n starts.now neighbours.now)) }
+    ensures passed { IfOk result (λ mesh. as_lent mesh ≡ lent n starts.now neighbours.now) }
 {
     if bad_node_count(n) {
-        return 1;
+        return Err(Refusal::NodeCount);
     }
     if bad_mesh_starts(n, starts, neighbours) {
-        return 2;
+        return Err(Refusal::Starts);
     }
     if too_many_entries(neighbours) {
-        return 3;
+        return Err(Refusal::EntryCount);
     }
     if neighbour_outside(n, neighbours) {
-        return 4;
+        return Err(Refusal::NeighbourOutside);
     }
     if some_list_breaks(ListRule::NotItself, n, starts, neighbours) {
-        return 5;
+        return Err(Refusal::ListsItself);
     }
     if some_list_breaks(ListRule::Ascending, n, starts, neighbours) {
-        return 6;
+        return Err(Refusal::NotAscending);
     }
     if some_list_breaks(ListRule::Short, n, starts, neighbours) {
-        return 26;
+        return Err(Refusal::TooManyNeighbours);
     }
     if one_sided(n, starts, neighbours) {
-        return 7;
+        return Err(Refusal::OneSided);
     }
-    0
+    Ok(CheckedMesh {
+        nodes: n,
+        starts,
+        neighbours,
+    })
 }

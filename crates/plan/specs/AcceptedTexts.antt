@@ -1,6 +1,5 @@
 -- What is shown of the reader of texts (document 02, E1): an accepted text's mesh passes planning's checks, and its lists are those of the pairs.
-use Rattle.std.specs.Prelude.{◌≡◌, Bool, false, not, ◌&&◌, List, [], ℕ, ◌+◌, ◌*◌, ◌≤◌, min, max, eqb, length, take, get_or}
-use Rattle.plan.specs.declared.MeshAnswer.TheVariants.{Accepted}
+use Rattle.std.specs.Prelude.{◌≡◌, Bool, false, not, ◌&&◌, List, [], ℕ, ◌+◌, ◌*◌, ◌≤◌, min, max, eqb, length, take, get_or, Ok}
 use Rattle.plan.specs.declared.MeshCounts.{MeshCounts}
 use Rattle.plan.specs.Lists.{keep}
 use Rattle.plan.specs.Refusals.{first_fault}
@@ -15,7 +14,7 @@ AcceptedPasses = (text : List ℕ) (room : MeshCapacity) → (reading_text text 
 -- So does what is handed out, lent to planning by the counts that were answered; it is the text's mesh.
 abbrev pub HandedPasses : Type 0
 HandedPasses =
-    (text : List ℕ) (c : MeshCounts) (found left : MeshBuffers) → TextRead text (Accepted c) found left
+    (text : List ℕ) (c : MeshCounts) (found left : MeshBuffers) → TextRead text (Ok c) found left
     → (lent c.nodes (take (c.nodes + 1) left.starts) (take c.entries left.neighbours) ≡ text_mesh text)
     × (first_fault (mesh_checks (text_mesh text)) ≡ 0)
 

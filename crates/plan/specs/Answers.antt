@@ -1,17 +1,14 @@
 -- Document 01, "Forms we want to see": "Where an answer is an enum, a definition states this paper's number and values for each of its cases".
-use Rattle.std.specs.Prelude.{List, [], ◌∷◌, ℕ, Float}
-use Rattle.plan.specs.declared.PlanAnswer.{PlanAnswer}
-use Rattle.plan.specs.declared.PlanAnswer.TheVariants as plan
-use Rattle.plan.specs.declared.WriteAnswer.{WriteAnswer}
-use Rattle.plan.specs.declared.WriteAnswer.TheVariants as write
+use Rattle.std.specs.Prelude.{List, [], ◌∷◌, ℕ, Float, Result, Ok, Err}
+use Rattle.plan.specs.declared.Plan.{Plan}
+use Rattle.plan.specs.declared.Pair.{Pair}
+use Rattle.plan.specs.declared.MeshCounts.{MeshCounts}
+use Rattle.plan.specs.declared.refusal.Refusal.{Refusal}
 use Rattle.plan.specs.declared.PairAnswer.{PairAnswer}
 use Rattle.plan.specs.declared.PairAnswer.TheVariants as pair
-use Rattle.plan.specs.declared.SlotAnswer.{SlotAnswer}
-use Rattle.plan.specs.declared.SlotAnswer.TheVariants as slot
-use Rattle.plan.specs.declared.MeshAnswer.{MeshAnswer}
-use Rattle.plan.specs.declared.MeshAnswer.TheVariants as mesh
 use Rattle.plan.specs.declared.HeldAnswer.{HeldAnswer}
 use Rattle.plan.specs.declared.HeldAnswer.TheVariants as held
+use Rattle.plan.specs.Refusals.{number_of}
 
 -- An answer in document 01's terms: the number of the refusal, 0 for none, and the values where nothing is refused.
 pub record Reply : Type 0 where
@@ -25,14 +22,14 @@ abbrev pub accepted : List ℕ → Reply
 accepted values = record { number = 0; values = values }
 
 -- planning and reading: nodes, parts, slots, multiplications and, by document 02, E7, the unknowns for each node
-abbrev pub plan_reply : PlanAnswer → Reply
-plan_reply (plan.Accepted p) = accepted (p.nodes ∷ p.parts ∷ p.slots ∷ p.multiplications ∷ p.unknowns ∷ [])
-plan_reply (plan.Refused k) = refused k
+abbrev pub plan_reply : Result Plan Refusal → Reply
+plan_reply (Ok p) = accepted (p.nodes ∷ p.parts ∷ p.slots ∷ p.multiplications ∷ p.unknowns ∷ [])
+plan_reply (Err r) = refused (number_of r)
 
 -- writing: "The writer returns that length"
-abbrev pub write_reply : WriteAnswer → Reply
-write_reply (write.Written bytes) = accepted (bytes ∷ [])
-write_reply (write.Refused k) = refused k
+abbrev pub write_reply : Result ℕ Refusal → Reply
+write_reply (Ok bytes) = accepted (bytes ∷ [])
+write_reply (Err r) = refused (number_of r)
 
 -- The pair question gives "its slot, "diagonal" or "no slot"": which of the three, by a number of the book's own, and behind the first the slot's
 -- number.
@@ -45,21 +42,21 @@ diagonal_case = 2
 abbrev pub no_slot_case : ℕ
 no_slot_case = 3
 
-abbrev pub pair_reply : PairAnswer → Reply
-pair_reply (pair.Slot s) = accepted (slot_case ∷ s ∷ [])
-pair_reply pair.Diagonal = accepted (diagonal_case ∷ [])
-pair_reply pair.NoSlot = accepted (no_slot_case ∷ [])
-pair_reply (pair.Refused k) = refused k
+abbrev pub pair_reply : Result PairAnswer Refusal → Reply
+pair_reply (Ok (pair.Slot s)) = accepted (slot_case ∷ s ∷ [])
+pair_reply (Ok pair.Diagonal) = accepted (diagonal_case ∷ [])
+pair_reply (Ok pair.NoSlot) = accepted (no_slot_case ∷ [])
+pair_reply (Err r) = refused (number_of r)
 
 -- the question about a slot: its row, then its column
-abbrev pub slot_reply : SlotAnswer → Reply
-slot_reply (slot.Found p) = accepted (p.row ∷ p.column ∷ [])
-slot_reply (slot.Refused k) = refused k
+abbrev pub slot_reply : Result Pair Refusal → Reply
+slot_reply (Ok p) = accepted (p.row ∷ p.column ∷ [])
+slot_reply (Err r) = refused (number_of r)
 
 -- reading a text, and joining: nodes and entries
-abbrev pub mesh_reply : MeshAnswer → Reply
-mesh_reply (mesh.Accepted m) = accepted (m.nodes ∷ m.entries ∷ [])
-mesh_reply (mesh.Refused k) = refused k
+abbrev pub mesh_reply : Result MeshCounts Refusal → Reply
+mesh_reply (Ok m) = accepted (m.nodes ∷ m.entries ∷ [])
+mesh_reply (Err r) = refused (number_of r)
 
 -- Reading the factor at a pair "answers with the number held there, or that there is no slot": which of the two, by a number of the book's own, and with
 -- the first the number. A refusal has kind 0, which keeps one of number 0 apart from "no slot": no question has that answer, so it keeps no promise.

@@ -1,12 +1,12 @@
 -- Document 02, E8: factoring in a plan's slots, "with the LDLᵀ form of document 002, in 64-bit floats". An operation of `lib.Ieee` on floats "rounds once",
 -- to the nearest, ties to even, and keeps denormal numbers. `get_or .. nan` reads a buffer; in a plan that passes the checks no place is outside of it.
-use Rattle.std.specs.Prelude.{Bool, false, not, cond, ◌||◌, ◌≡◌, List, [], ◌∷◌, ◌++◌, map, ℕ, zero, suc, ◌+◌, ltb, eqb, length, get_or, set, Float}
+use Rattle.std.specs.Prelude.{Bool, false, not, cond, ◌||◌, ◌≡◌, List, [], ◌∷◌, ◌++◌, map, ℕ, zero, suc, ◌+◌, ltb, eqb, length, get_or, set, Float, Result, Ok, Err}
 use Rattle.std.specs.Float.{nan, inf, binary64}
 use Rattle.std.specs.Float.Ieee.{lt, div, sub, mul, of_bits}
 use Rattle.std.specs.Float.Ieee.Positive.{positive}
 use Rattle.plan.specs.declared.Report.{Report}
-use Rattle.plan.specs.declared.FactorAnswer.{FactorAnswer}
-use Rattle.plan.specs.Refusals.{Checks, first_fault}
+use Rattle.plan.specs.declared.refusal.Refusal.{Refusal}
+use Rattle.plan.specs.Refusals.{number_of, Checks, first_fault}
 use Rattle.plan.specs.Planning.{Contents}
 use Rattle.plan.specs.Writing.{used, supplied_checks}
 use Rattle.plan.specs.Filling.{Filling, Place, on_diagonal, in_slot, no_place, place_of, slots_of}
@@ -77,9 +77,18 @@ after_column r d operations = record {
 
 -- ---- all columns
 
--- The answer: the number of the refusal, 0 for none, and the report; and what both buffers hold afterwards.
+-- What is answered: the number of the refusal, 0 for none, and the report.
+pub record FactorReply : Type 0 where
+  pub refusal : ℕ
+  pub report : Report
+
+abbrev pub factor_reply : Result Report Refusal → FactorReply
+factor_reply (Ok report) = record { refusal = 0; report = report }
+factor_reply (Err r) = record { refusal = number_of r; report = zero_report }
+
+-- The answer, and what both buffers hold afterwards.
 pub record FactorOutcome : Type 0 where
-  pub answer : FactorAnswer
+  pub answer : FactorReply
   pub filling : Filling
 
 abbrev pub factored : Report → Filling → FactorOutcome
@@ -122,7 +131,7 @@ unfoldable pub factoring : Contents → Filling → FactorOutcome
 factoring c f = factor_out (first_fault (factor_checks c f)) c f
 
 -- The promise of factoring: the answer and both buffers are those of `factoring`: "the results equal that definition bit for bit", a NaN being one number.
-pub record Factored (c : Contents) (answer : FactorAnswer) (found left : Filling) : Type 0 where
-  pub reply : answer ≡ (factoring c found).answer
+pub record Factored (c : Contents) (answer : Result Report Refusal) (found left : Filling) : Type 0 where
+  pub reply : factor_reply answer ≡ (factoring c found).answer
   pub diagonal : left.diagonal ≡ (factoring c found).filling.diagonal
   pub values : left.values ≡ (factoring c found).filling.values

@@ -1,6 +1,5 @@
 -- What is shown of joining (document 02, E10): where nodes go, which are neighbours, and that what is handed out passes planning's checks.
-use Rattle.std.specs.Prelude.{◌≡◌, ◌⊎◌, true, false, [], map, ℕ, ◌+◌, ◌≤◌, ◌<◌, length, take, get_or}
-use Rattle.plan.specs.declared.MeshAnswer.TheVariants.{Accepted}
+use Rattle.std.specs.Prelude.{◌≡◌, ◌⊎◌, true, false, [], map, ℕ, ◌+◌, ◌≤◌, ◌<◌, length, take, get_or, Ok}
 use Rattle.plan.specs.declared.MeshCounts.{MeshCounts}
 use Rattle.plan.specs.Lists.{is_in}
 use Rattle.plan.specs.Refusals.{first_fault}
@@ -75,6 +74,6 @@ JoinedPasses =
 -- So does what is handed out, lent to planning by the counts that were answered; it is the joined mesh.
 abbrev pub JoinedHanded : Type 0
 JoinedHanded =
-    (a b : Mesh) (p : Pairing) (c : MeshCounts) (found left : MeshBuffers) → MeshesJoined a b p (Accepted c) found left
+    (a b : Mesh) (p : Pairing) (c : MeshCounts) (found left : MeshBuffers) → MeshesJoined a b p (Ok c) found left
     → (lent c.nodes (take (c.nodes + 1) left.starts) (take c.entries left.neighbours) ≡ joined_mesh a b p)
     × (first_fault (mesh_checks (joined_mesh a b p)) ≡ 0)

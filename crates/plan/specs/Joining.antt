@@ -1,7 +1,8 @@
 -- Document 02, E10: two meshes joined along a list of pairs; checks 1 to 7 with 26 of the first mesh, then of the second, 32, 33, then 1, 3, 26 and
 -- 8 of the joined one.
-use Rattle.std.specs.Prelude.{Bool, not, cond, ◌||◌, List, [], ◌∷◌, ◌++◌, map, ℕ, ◌+◌, leb, eqb, length, get_or}
-use Rattle.plan.specs.declared.MeshAnswer.{MeshAnswer}
+use Rattle.std.specs.Prelude.{Bool, not, cond, ◌||◌, List, [], ◌∷◌, ◌++◌, map, ℕ, ◌+◌, leb, eqb, length, get_or, Result}
+use Rattle.plan.specs.declared.MeshCounts.{MeshCounts}
+use Rattle.plan.specs.declared.refusal.Refusal.{Refusal}
 use Rattle.plan.specs.Lists.{exists, below, is_in, without, twice, index_of}
 use Rattle.plan.specs.Refusals.{Checks, first_fault}
 use Rattle.plan.specs.Mesh.{Mesh, adjacent, mesh_checks}
@@ -69,5 +70,5 @@ unfoldable pub joining : Mesh → Mesh → Pairing → MeshCapacity → MeshOutc
 joining a b p room = hand_mesh (first_fault (join_checks a b p room)) (joined_mesh a b p)
 
 -- The promise of joining: the answer and both buffers are those of `joining`.
-abbrev pub MeshesJoined : Mesh → Mesh → Pairing → MeshAnswer → MeshBuffers → MeshBuffers → Type 0
+abbrev pub MeshesJoined : Mesh → Mesh → Pairing → Result MeshCounts Refusal → MeshBuffers → MeshBuffers → Type 0
 MeshesJoined a b p answer found left = MeshFilled (joining a b p (mesh_capacity found)) answer found left

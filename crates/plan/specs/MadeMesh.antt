@@ -1,7 +1,8 @@
 -- A mesh that is made and not lent: its starts and neighbours, its checks 1, 3, 26 and 8, and what the two lent buffers hold afterwards.
-use Rattle.std.specs.Prelude.{Bool, ◌||◌, ◌≡◌, ℕ, zero, suc, ◌+◌, ltb, length}
+use Rattle.std.specs.Prelude.{Bool, ◌||◌, ◌≡◌, ℕ, zero, suc, ◌+◌, ltb, length, Result}
 use mathlib.Core.List.{List, [], ◌∷◌, flatten}
-use Rattle.plan.specs.declared.MeshAnswer.{MeshAnswer}
+use Rattle.plan.specs.declared.MeshCounts.{MeshCounts}
+use Rattle.plan.specs.declared.refusal.Refusal.{Refusal}
 use Rattle.plan.specs.Lists.{written}
 use Rattle.plan.specs.Refusals.{Checks}
 use Rattle.plan.specs.Answers.{Reply, accepted, refused, mesh_reply}
@@ -65,7 +66,7 @@ unfoldable pub fill_mesh : MeshOutcome → MeshBuffers → MeshBuffers
 fill_mesh o found = record { starts = written o.starts found.starts; neighbours = written o.neighbours found.neighbours }
 
 -- an answer and buffers that agree with an outcome
-pub record MeshFilled (o : MeshOutcome) (answer : MeshAnswer) (found left : MeshBuffers) : Type 0 where
+pub record MeshFilled (o : MeshOutcome) (answer : Result MeshCounts Refusal) (found left : MeshBuffers) : Type 0 where
   pub reply : mesh_reply answer ≡ o.reply
   pub starts : left.starts ≡ (fill_mesh o found).starts
   pub neighbours : left.neighbours ≡ (fill_mesh o found).neighbours

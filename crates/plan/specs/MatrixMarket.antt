@@ -1,8 +1,9 @@
 -- Document 02, E1: from a Matrix Market text, "the coordinate pattern symmetric kind", to starts and neighbours; from bytes to lists.
-use Rattle.std.specs.Prelude.{Bool, true, false, not, cond, ◌&&◌, ◌||◌, List, [], ◌∷◌, map, ℕ, ◌+◌, ◌-◌, ◌*◌, leb, ltb, eqb, length, drop, get_or}
+use Rattle.std.specs.Prelude.{Bool, true, false, not, cond, ◌&&◌, ◌||◌, List, [], ◌∷◌, map, ℕ, ◌+◌, ◌-◌, ◌*◌, leb, ltb, eqb, length, drop, get_or, Result}
 use Prim.Native.Char.{code}
 use Prim.Native.String.{String}
-use Rattle.plan.specs.declared.MeshAnswer.{MeshAnswer}
+use Rattle.plan.specs.declared.MeshCounts.{MeshCounts}
+use Rattle.plan.specs.declared.refusal.Refusal.{Refusal}
 use Rattle.plan.specs.Lists.{exists, every, keep, same}
 use Rattle.plan.specs.Refusals.{Checks, first_fault, within}
 use Rattle.plan.specs.Mesh.{Mesh}
@@ -220,5 +221,5 @@ unfoldable pub reading_text : List ℕ → MeshCapacity → MeshOutcome
 reading_text text room = hand_mesh (first_fault (text_checks text room)) (text_mesh text)
 
 -- The promise of the reader: the answer and both buffers are those of `reading_text`.
-abbrev pub TextRead : List ℕ → MeshAnswer → MeshBuffers → MeshBuffers → Type 0
+abbrev pub TextRead : List ℕ → Result MeshCounts Refusal → MeshBuffers → MeshBuffers → Type 0
 TextRead text answer found left = MeshFilled (reading_text text (mesh_capacity found)) answer found left

@@ -1,8 +1,8 @@
 -- Planning: the plan of a mesh, checks 28, 1 to 9 and 26, and what the lent buffers hold afterwards (document 01, "The layout" and "Refusals").
-use Rattle.std.specs.Prelude.{Bool, true, ◌||◌, ◌≡◌, ℕ, zero, suc, ◌+◌, ◌-◌, ltb, eqb, length, get_or, take}
+use Rattle.std.specs.Prelude.{Bool, true, ◌||◌, ◌≡◌, ℕ, zero, suc, ◌+◌, ◌-◌, ltb, eqb, length, get_or, take, Result, Ok, Err}
 use mathlib.Core.List.{List, [], ◌∷◌, ◌++◌, map, flatten}
-use Rattle.plan.specs.declared.PlanAnswer.{PlanAnswer}
-use Rattle.plan.specs.declared.PlanAnswer.TheVariants.{Accepted, Refused}
+use Rattle.plan.specs.declared.Plan.{Plan}
+use Rattle.plan.specs.declared.refusal.Refusal.{Refusal}
 use Rattle.plan.specs.Lists.{below, written}
 use Rattle.plan.specs.Refusals.{Checks, first_fault}
 use Rattle.plan.specs.Answers.{Reply, accepted, refused, plan_reply}
@@ -161,7 +161,7 @@ fill o found = record {
 }
 
 -- an answer and buffers that agree with an outcome
-pub record Filled (o : Outcome) (answer : PlanAnswer) (found left : Buffers) : Type 0 where
+pub record Filled (o : Outcome) (answer : Result Plan Refusal) (found left : Buffers) : Type 0 where
   pub reply : plan_reply answer ≡ o.reply
   pub order : left.order ≡ (fill o found).order
   pub positions : left.positions ≡ (fill o found).positions
@@ -171,20 +171,20 @@ pub record Filled (o : Outcome) (answer : PlanAnswer) (found left : Buffers) : T
   pub rows : left.rows ≡ (fill o found).rows
 
 -- demand 3 of what is handed out, where a plan is
-unfoldable pub Demand3Of : Mesh → PlanAnswer → Buffers → Type 0
-Demand3Of m (Refused k) left = Unit {0}
-Demand3Of m (Accepted p) left =
+unfoldable pub Demand3Of : Mesh → Result Plan Refusal → Buffers → Type 0
+Demand3Of m (Err k) left = Unit {0}
+Demand3Of m (Ok p) left =
     Demand3 m (take p.nodes left.order) (take p.parts left.sizes) (take p.parts left.parents)
     left.column_starts left.rows
 
 -- the clique rule of what is handed out, where a plan is
-unfoldable pub CliquesOf : Mesh → PlanAnswer → Buffers → Type 0
-CliquesOf m (Refused k) left = Unit {0}
-CliquesOf m (Accepted p) left =
+unfoldable pub CliquesOf : Mesh → Result Plan Refusal → Buffers → Type 0
+CliquesOf m (Err k) left = Unit {0}
+CliquesOf m (Ok p) left =
     uncut_cliques m (take p.nodes left.order) (take p.parts left.sizes) (take p.parts left.parents) ≡ true
 
 -- The promise of planning: the answer and every buffer are those of `planning`, and demand 3 and the clique rule hold of them.
-pub record Planned (unknowns : ℕ) (m : Mesh) (answer : PlanAnswer) (found left : Buffers) : Type 0 where
+pub record Planned (unknowns : ℕ) (m : Mesh) (answer : Result Plan Refusal) (found left : Buffers) : Type 0 where
   pub filled : Filled (planning unknowns m (capacity found)) answer found left
   pub demand3 : Demand3Of m answer left
   pub cliques : CliquesOf m answer left

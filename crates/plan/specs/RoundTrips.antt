@@ -1,12 +1,9 @@
 -- The user's demand 2 (docs/GUIDE.md), the round trips, as statements: "A written plan, once read, is the same plan; a plan that was read is written
 -- back byte for byte." Document 02, E7: "byte-for-byte return is meant for version 2 files; a version 1 file comes back as the same plan." And what a
 -- workshop may rely on: of demand 1, "A plan of a version it does not know is refused as such", and the checks that every plan that is read has passed.
-use Rattle.std.specs.Prelude.{true, false, ◌≡◌, ◌≢◌, List, [], ◌∷◌, ℕ, ◌≤◌, ltb, length, get_or, take}
+use Rattle.std.specs.Prelude.{true, false, ◌≡◌, ◌≢◌, List, [], ◌∷◌, ℕ, ◌≤◌, ltb, length, get_or, take, Result, Ok}
 use Rattle.plan.specs.declared.Plan.{Plan}
-use Rattle.plan.specs.declared.PlanAnswer.{PlanAnswer}
-use Rattle.plan.specs.declared.PlanAnswer.TheVariants.{Accepted}
-use Rattle.plan.specs.declared.WriteAnswer.{WriteAnswer}
-use Rattle.plan.specs.declared.WriteAnswer.TheVariants.{Written}
+use Rattle.plan.specs.declared.refusal.Refusal.{Refusal}
 use Rattle.plan.specs.Lists.{every, written}
 use Rattle.plan.specs.Answers.{accepted}
 use Rattle.plan.specs.Mesh.{Mesh}
@@ -83,8 +80,8 @@ PlannedThenRead =
 -- What was written, read into buffers that are long enough, is what is handed out of the used entries.
 abbrev pub WroteThenFilled : Type 0
 WroteThenFilled =
-    (c : Contents) (size : ℕ) (found bytes : List ℕ) (answer : PlanAnswer) (lent left : Buffers)
-    → Wrote c (Written size) found bytes → buffers_too_short c.nodes (capacity lent) ≡ false → rows_too_short c (capacity lent) ≡ false
+    (c : Contents) (size : ℕ) (found bytes : List ℕ) (answer : Result Plan Refusal) (lent left : Buffers)
+    → Wrote c (Ok size) found bytes → buffers_too_short c.nodes (capacity lent) ≡ false → rows_too_short c (capacity lent) ≡ false
     → Filled (reading (take size bytes) (capacity lent)) answer lent left
     → Filled (hand_out 0 (used c)) answer lent left
 
@@ -95,30 +92,30 @@ lent_back p b = contents p.unknowns p.nodes p.parts p.slots b.order b.sizes b.pa
 -- What was read of version 2, written from the same buffers into an output that has room, is the bytes that were read. (Bytes are numbers below 256.)
 abbrev pub FilledThenWrote : Type 0
 FilledThenWrote =
-    (bytes found after : List ℕ) (p : Plan) (lent left : Buffers) (answer : WriteAnswer)
+    (bytes found after : List ℕ) (p : Plan) (lent left : Buffers) (answer : Result ℕ Refusal)
     → every (λ b. ltb b 256) bytes ≡ true → version_of bytes ≡ 2
-    → Filled (reading bytes (capacity lent)) (Accepted p) lent left → length bytes ≤ length found
+    → Filled (reading bytes (capacity lent)) (Ok p) lent left → length bytes ≤ length found
     → Wrote (lent_back p left) answer found after
-    → (answer ≡ Written (length bytes)) × (after ≡ written bytes found)
+    → (answer ≡ Ok (length bytes)) × (after ≡ written bytes found)
 
 -- What was read of either version, lent to the writer from the same buffers with an output that has room, is written; and what was written, read again
 -- into buffers that are long enough, is what is handed out of the plan that the first bytes say.
 abbrev pub FilledWroteFilled : Type 0
 FilledWroteFilled =
-    (bytes found after : List ℕ) (p : Plan) (lent left again end : Buffers) (answer : WriteAnswer) (last : PlanAnswer)
-    → Filled (reading bytes (capacity lent)) (Accepted p) lent left → file_length (lent_back p left) ≤ length found
+    (bytes found after : List ℕ) (p : Plan) (lent left again end : Buffers) (answer : Result ℕ Refusal) (last : Result Plan Refusal)
+    → Filled (reading bytes (capacity lent)) (Ok p) lent left → file_length (lent_back p left) ≤ length found
     → Wrote (lent_back p left) answer found after
     → buffers_too_short p.nodes (capacity again) ≡ false → rows_too_short (lent_back p left) (capacity again) ≡ false
     → Filled (reading (take (file_length (lent_back p left)) after) (capacity again)) last again end
-    → (answer ≡ Written (file_length (lent_back p left))) × Filled (hand_out 0 (parse bytes)) last again end
+    → (answer ≡ Ok (file_length (lent_back p left))) × Filled (hand_out 0 (parse bytes)) last again end
 
 -- What was planned, written from the same buffers into an output that has room, is the file of the mesh's plan.
 abbrev pub PlannedThenWrote : Type 0
 PlannedThenWrote =
-    (unknowns : ℕ) (m : Mesh) (found after : List ℕ) (p : Plan) (lent left : Buffers) (answer : WriteAnswer)
-    → Filled (planning unknowns m (capacity lent)) (Accepted p) lent left → file_length (plan_of unknowns m) ≤ length found
+    (unknowns : ℕ) (m : Mesh) (found after : List ℕ) (p : Plan) (lent left : Buffers) (answer : Result ℕ Refusal)
+    → Filled (planning unknowns m (capacity lent)) (Ok p) lent left → file_length (plan_of unknowns m) ≤ length found
     → Wrote (lent_back p left) answer found after
-    → (answer ≡ Written (file_length (plan_of unknowns m))) × (after ≡ written (encode (plan_of unknowns m)) found)
+    → (answer ≡ Ok (file_length (plan_of unknowns m))) × (after ≡ written (encode (plan_of unknowns m)) found)
 
 -- Of 17 bytes or more that begin with the mark, every version other than 1 and 2 is refused as such, with 12, whatever stands behind the version.
 abbrev pub OtherVersions : Type 0

@@ -1,10 +1,9 @@
 -- Document 02, E4, as statements: from a slot to its pair and from a pair to its slot, each leads home.
-use Rattle.std.specs.Prelude.{◌≡◌, List, [], ◌∷◌, ℕ, ◌≤◌, ◌<◌, get_or}
+use Rattle.std.specs.Prelude.{◌≡◌, List, [], ◌∷◌, ℕ, ◌≤◌, ◌<◌, get_or, Result, Ok}
 use Rattle.plan.specs.declared.Pair.{Pair}
 use Rattle.plan.specs.declared.PairAnswer.{PairAnswer}
 use Rattle.plan.specs.declared.PairAnswer.TheVariants.{Slot}
-use Rattle.plan.specs.declared.SlotAnswer.{SlotAnswer}
-use Rattle.plan.specs.declared.SlotAnswer.TheVariants.{Found}
+use Rattle.plan.specs.declared.refusal.Refusal.{Refusal}
 use Rattle.plan.specs.Refusals.{first_fault}
 use Rattle.plan.specs.Answers.{accepted, slot_case, pair_reply, slot_reply}
 use Rattle.plan.specs.Questions.{layout_checks, pair_question, column_of, slot_question}
@@ -41,14 +40,14 @@ RowIsLater =
 
 abbrev pub SlotThenPair : Type 0
 SlotThenPair =
-    (n : ℕ) (column_starts rows : List ℕ) (s : ℕ) (p : Pair) (answer : PairAnswer)
-    → slot_reply (Found p) ≡ slot_question n column_starts rows s
+    (n : ℕ) (column_starts rows : List ℕ) (s : ℕ) (p : Pair) (answer : Result PairAnswer Refusal)
+    → slot_reply (Ok p) ≡ slot_question n column_starts rows s
     → pair_reply answer ≡ pair_question n column_starts rows p.row p.column
-    → answer ≡ Slot s
+    → answer ≡ Ok (Slot s)
 
 abbrev pub PairThenSlot : Type 0
 PairThenSlot =
-    (n : ℕ) (column_starts rows : List ℕ) (a b s : ℕ) (answer : SlotAnswer)
-    → b ≤ a → pair_reply (Slot s) ≡ pair_question n column_starts rows a b
+    (n : ℕ) (column_starts rows : List ℕ) (a b s : ℕ) (answer : Result Pair Refusal)
+    → b ≤ a → pair_reply (Ok (Slot s)) ≡ pair_question n column_starts rows a b
     → slot_reply answer ≡ slot_question n column_starts rows s
-    → answer ≡ Found (record { row = a; column = b })
+    → answer ≡ Ok (record { row = a; column = b })

@@ -1,7 +1,6 @@
 -- The reader of the workshop that never updates: version 1 of the plan file as document 01 has it; and what is stated of it beside the reader of
 -- versions 1 and 2 (document 02, E7).
-use Rattle.std.specs.Prelude.{Bool, not, ◌≡◌, ◌≢◌, List, [], ◌∷◌, ◌++◌, ℕ, ◌≤◌, eqb, length, take}
-use Rattle.plan.specs.declared.WriteAnswer.TheVariants.{Written}
+use Rattle.std.specs.Prelude.{Bool, not, ◌≡◌, ◌≢◌, List, [], ◌∷◌, ◌++◌, ℕ, ◌≤◌, eqb, length, take, Ok}
 use Rattle.plan.specs.Refusals.{Checks, first_fault}
 use Rattle.plan.specs.Planning.{Contents, Capacity, buffers_too_short, rows_too_short, Outcome, hand_out}
 use Rattle.plan.specs.File.{magic, version_of, length_in, parse_at, bad_header, contents_checks}
@@ -65,7 +64,7 @@ RefusesWritten =
 abbrev pub RefusesWrote : Type 0
 RefusesWrote =
     (c : Contents) (size : ℕ) (found bytes : List ℕ) (room : Capacity)
-    → Wrote c (Written size) found bytes
+    → Wrote c (Ok size) found bytes
     → reading1 (take size bytes) room ≡ hand_out 12 (parse1 (take size bytes))
 
 -- Every other file gets the same answer of both readers, and leaves the same in every buffer; the one that knows version 2 tells the unknowns beside.

@@ -1,6 +1,6 @@
 -- Document 01 and document 02, E7, writing a plan file: checks 28, 13, 15 to 19, then 8, and what the output holds afterwards.
-use Rattle.std.specs.Prelude.{Bool, ◌||◌, ◌≡◌, List, [], ◌∷◌, ◌++◌, ℕ, zero, suc, ◌+◌, ltb, length, take}
-use Rattle.plan.specs.declared.WriteAnswer.{WriteAnswer}
+use Rattle.std.specs.Prelude.{Bool, ◌||◌, ◌≡◌, List, [], ◌∷◌, ◌++◌, ℕ, zero, suc, ◌+◌, ltb, length, take, Result}
+use Rattle.plan.specs.declared.refusal.Refusal.{Refusal}
 use Rattle.plan.specs.Lists.{written}
 use Rattle.plan.specs.Refusals.{Checks, first_fault}
 use Rattle.plan.specs.Answers.{Reply, accepted, refused, write_reply}
@@ -54,6 +54,6 @@ unfoldable pub writing : Contents → ℕ → WriteOutcome
 writing c room = write_out (first_fault (write_checks c room)) c
 
 -- The promise of writing: the answer and the output are those of `writing`; it "leaves all bytes beyond it".
-pub record Wrote (c : Contents) (answer : WriteAnswer) (found left : List ℕ) : Type 0 where
+pub record Wrote (c : Contents) (answer : Result ℕ Refusal) (found left : List ℕ) : Type 0 where
   pub reply : write_reply answer ≡ (writing c (length found)).reply
   pub output : left ≡ written (writing c (length found)).bytes found

@@ -1,5 +1,7 @@
-// The public kinds: a plan, the answers of the entry points, the report of factoring, and the family of a refusal's number.
+// The public kinds: a plan, what the entry points answer, the report of factoring, the refusals, and the family of a refusal's number.
 #![tactic(auto)]
+
+mod refusal;
 
 ghost use Rattle.std.specs.Prelude.{◌≡◌, cond, ◌+◌, ◌<◌, ◌^◌};
 ghost use Rattle.std.specs.Float.Ieee.{lt};
@@ -7,6 +9,8 @@ ghost use Rattle.plan.specs.Mesh.{max_nodes, max_entries, max_neighbours, max_un
 ghost use Rattle.plan.specs.Planning.{bad_unknowns};
 ghost use Rattle.plan.specs.Refusals.{family_of};
 ghost use Rattle.plan.specs.Factoring.{open_report, zero_report, after_column};
+
+pub use refusal::Refusal;
 
 // A plan by its counts. Its lists (order, positions, sizes, parents, column starts, rows) stand in the lent buffers.
 #[derive(Clone, Copy)]
@@ -83,27 +87,12 @@ impl Plan {
     }
 }
 
-// The answer of planning and of reading.
-#[derive(Clone, Copy)]
-pub enum PlanAnswer {
-    Accepted(Plan),
-    Refused(u32),
-}
-
-// The answer of writing: the length of the file, or a refusal.
-#[derive(Clone, Copy)]
-pub enum WriteAnswer {
-    Written(usize),
-    Refused(u32),
-}
-
-// The answer to the question about a pair of positions.
-#[derive(Clone, Copy)]
+// The answer to the question about a pair of positions, where it is not refused.
+#[derive(Clone, Copy, Debug, PartialEq, Eq)]
 pub enum PairAnswer {
     Slot(u32),
     Diagonal,
     NoSlot,
-    Refused(u32),
 }
 
 // A pair of positions that has a slot: the row is the later position, the column the earlier.
@@ -113,25 +102,11 @@ pub struct Pair {
     pub column: u32,
 }
 
-// The answer to the question about a slot: its pair, or a refusal.
-#[derive(Clone, Copy)]
-pub enum SlotAnswer {
-    Found(Pair),
-    Refused(u32),
-}
-
 // A mesh by its counts. Its starts and neighbours stand in the lent buffers.
 #[derive(Clone, Copy)]
 pub struct MeshCounts {
     pub nodes: u32,
     pub entries: u32,
-}
-
-// The answer of reading a text and of joining two meshes: the mesh that is made, or a refusal.
-#[derive(Clone, Copy)]
-pub enum MeshAnswer {
-    Accepted(MeshCounts),
-    Refused(u32),
 }
 
 // A span of the rows buffer (document 01: stretch), the answer to the question about a column: where it starts, and how many rows it has.
@@ -199,15 +174,9 @@ fn greater(a: f64, b: f64) -> f64
     if b < a { a } else { b }
 }
 
-// The answer of factoring: the refusal's number, 0 for none, beside the report.
-#[derive(Clone, Copy)]
-pub struct FactorAnswer {
-    pub refusal: u32,
-    pub report: Report,
-}
-
 // The answer to the question what the factor holds at a pair of positions: the number on the diagonal or in the slot, that there is no slot, or a
 // refusal.
+// kept: document 01 names this form, with the refusal as one of three cases, and `SolveCases` tells what a refusal by any number says.
 #[derive(Clone, Copy)]
 pub enum HeldAnswer {
     Value(f64),

@@ -6,12 +6,15 @@ use native.Mathlib.Omega.{arith}
 use lib.Dec.{ltb}
 use lib.ListN.{length, get_or}
 use borrow.Author.Tests.{ltb-false}
-use Rattle.plan.specs.declared.PlanAnswer.TheVariants.{Accepted, Refused}
+use Rattle.std.specs.Prelude.{Ok, Err}
 use Rattle.plan.specs.declared.Plan.{Plan}
+use Rattle.plan.specs.declared.refusal.Refusal.{Refusal}
 use Rattle.plan.specs.Lists.{written}
-use Rattle.plan.specs.Answers.{Reply, plan_reply}
+use Rattle.plan.specs.Refusals.{number_of}
+use Rattle.plan.specs.Answers.{Reply, refused, plan_reply}
 use Rattle.plan.specs.Planning.{Contents, Buffers, Capacity, lengths, buffers_too_short, hand_out, fill, Filled}
 use Rattle.theory.proofs.Bools.{or_false_left, or_false_right}
+use Rattle.theory.proofs.Refusals.{number-suc}
 
 -- every lent result but the rows is long enough
 pub record Room (n : ℕ) (room : Capacity) : Type 0 where
@@ -46,10 +49,11 @@ abbrev pub lengths_of : Buffers → Capacity
 lengths_of b = lengths (length b.order) (length b.positions) (length b.sizes) (length b.parents) (length b.column_starts) 0
 
 -- a refusal leaves all as found
-pub filled-refused : (k : ℕ) (c : Contents) (found : Buffers) → (k ≡ 0 → ⊥) → Filled (hand_out k c) (Refused k) found found
+pub filled-refused : (r : Refusal) (c : Contents) (found : Buffers) → Filled (hand_out (number_of r) c) (Err r) found found
 unfolding hand_out fill
-filled-refused zero c found h = absurd (h refl)
-filled-refused (suc k) c found h = record { reply = refl; order = refl; positions = refl; sizes = refl; parents = refl; column_starts = refl; rows = refl }
+filled-refused r c found =
+    let n : (k : ℕ) × (number_of r ≡ suc k) = number-suc r in
+    rw n.1 (record { reply = ap refused n.1; order = refl; positions = refl; sizes = refl; parents = refl; column_starts = refl; rows = refl })
 
 -- a plan was accepted: the counts of the answer are the plan's, and each buffer has the plan's list at its front
 pub record Holds (c : Contents) (p : Plan) (found left : Buffers) : Type 0 where
@@ -62,10 +66,10 @@ pub record Holds (c : Contents) (p : Plan) (found left : Buffers) : Type 0 where
   pub column_starts : left.column_starts ≡ written c.column_starts found.column_starts
   pub rows : left.rows ≡ written c.rows found.rows
 
-pub accepted-holds : (c : Contents) (p : Plan) (found left : Buffers) → Filled (hand_out 0 c) (Accepted p) found left → Holds c p found left
+pub accepted-holds : (c : Contents) (p : Plan) (found left : Buffers) → Filled (hand_out 0 c) (Ok p) found left → Holds c p found left
 unfolding hand_out fill
 accepted-holds c p found left h =
-    let value : (k : ℕ) → get_or (plan_reply (Accepted p)).values k 0 ≡ get_or (hand_out 0 c).reply.values k 0 = λ k. ap (λ (r : Reply). get_or r.values k 0) h.reply in
+    let value : (k : ℕ) → get_or (plan_reply (Ok p)).values k 0 ≡ get_or (hand_out 0 c).reply.values k 0 = λ k. ap (λ (r : Reply). get_or r.values k 0) h.reply in
     record {
       nodes = value 0;
       parts = value 1;

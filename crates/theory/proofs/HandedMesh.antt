@@ -7,16 +7,17 @@ use native.Mathlib.Omega.{arith}
 use lib.Dec.{ltb}
 use lib.ListN.{length, get_or, take}
 use borrow.Author.Tests.{ltb-false}
-use Rattle.plan.specs.declared.MeshAnswer.TheVariants.{Accepted, Refused}
+use Rattle.std.specs.Prelude.{Ok, Err}
 use Rattle.plan.specs.declared.MeshCounts.{MeshCounts}
-use Rattle.plan.specs.Answers.{Reply}
+use Rattle.plan.specs.declared.refusal.Refusal.{Refusal}
+use Rattle.plan.specs.Answers.{Reply, refused}
 use Rattle.plan.specs.Lists.{written}
-use Rattle.plan.specs.Refusals.{first_fault}
+use Rattle.plan.specs.Refusals.{number_of, first_fault}
 use Rattle.plan.specs.Mesh.{Mesh, lent, bad_node_count, too_many_entries, list_too_long}
 use Rattle.plan.specs.MadeMesh.{MeshBuffers, MeshCapacity, mesh_capacity, mesh_buffers_too_short, made_checks, hand_mesh, fill_mesh, MeshFilled}
 use Rattle.theory.proofs.Bools.{or_false_left, or_false_right}
 use Rattle.theory.proofs.Written.{front-written}
-use Rattle.theory.proofs.Refusals.{no_fault}
+use Rattle.theory.proofs.Refusals.{number-suc, no_fault}
 
 -- checks 1, 3, 26 and 8, each without a fault
 pub record MadePassed (m : Mesh) (room : MeshCapacity) : Type 0 where
@@ -42,15 +43,16 @@ hand_number (suc k) m = refl
 
 module _ (m : Mesh) (found : MeshBuffers) where
   -- of a fault its number, and the buffers as they were
-  pub refused-mesh : (k : ℕ) → 0 < k → MeshFilled (hand_mesh k m) (Refused k) found found
+  pub refused-mesh : (r : Refusal) → MeshFilled (hand_mesh (number_of r) m) (Err r) found found
   unfolding hand_mesh fill_mesh
-  refused-mesh zero some = absurd (omega arith)
-  refused-mesh (suc k) some = record { reply = refl; starts = refl; neighbours = refl }
+  refused-mesh r =
+      let n : (k : ℕ) × (number_of r ≡ suc k) = number-suc r in
+      rw n.1 (record { reply = ap refused n.1; starts = refl; neighbours = refl })
 
   -- where there is none, the counts of the mesh, and its lists
   pub accepted-mesh : (k : ℕ) (left : MeshBuffers) (c : MeshCounts) → k ≡ 0 → c.nodes ≡ m.nodes → c.entries ≡ length m.neighbours
       → left.starts ≡ written m.starts found.starts → left.neighbours ≡ written m.neighbours found.neighbours
-      → MeshFilled (hand_mesh k m) (Accepted c) found left
+      → MeshFilled (hand_mesh k m) (Ok c) found left
   unfolding hand_mesh fill_mesh
   accepted-mesh k left c none nodes entries starts neighbours = rw none (record { reply = rw (nodes, entries); starts = starts; neighbours = neighbours })
 
@@ -63,7 +65,7 @@ module _ (m : Mesh) (found : MeshBuffers) where
 
 -- the mesh in the buffers, by the counts that were answered
 pub filled-mesh : (k : ℕ) (m : Mesh) (c : MeshCounts) (found left : MeshBuffers) → length m.starts ≡ m.nodes + 1 → k ≡ 0
-    → MeshFilled (hand_mesh k m) (Accepted c) found left
+    → MeshFilled (hand_mesh k m) (Ok c) found left
     → lent c.nodes (take (c.nodes + 1) left.starts) (take c.entries left.neighbours) ≡ m
 unfolding hand_mesh fill_mesh
 filled-mesh zero m c found left long e h =

@@ -6,8 +6,8 @@ use mathlib.Core.List.{List, ◌++◌}
 use Prim.Native.Nat.{ℕ, zero, suc, ◌≤◌, ◌<◌}
 use native.Mathlib.Omega.{arith}
 use lib.ListN.{length, get_or, take, drop}
-use Rattle.plan.specs.declared.PlanAnswer.{PlanAnswer}
-use Rattle.plan.specs.declared.PlanAnswer.TheVariants.{Accepted, Refused}
+use Rattle.std.specs.Prelude.{Result, Ok, Err}
+use Rattle.plan.specs.declared.refusal.Refusal.{Refusal}
 use Rattle.plan.specs.declared.Plan.{Plan}
 use Rattle.plan.specs.RoundTrips.{handed}
 use Rattle.plan.specs.Refusals.{first_fault}
@@ -157,7 +157,7 @@ module _ (u : ℕ) (m : Mesh) (choose : List ℕ → List ℕ) (takes : Takes (a
   OfHanded = P (take p.nodes left.order) (take p.parts left.sizes) (take p.parts left.parents) left.column_starts left.rows
 
   -- where a plan is handed out
-  accepted_of : first_fault (mesh_checks m) ≡ 0 → Filled (hand_out 0 (plan_with u m choose)) (Accepted p) found left → OfHanded
+  accepted_of : first_fault (mesh_checks m) ≡ 0 → Filled (hand_out 0 (plan_with u m choose)) (Ok p) found left → OfHanded
   accepted_of passes h =
       let c : Contents = plan_with u m choose in
       let held = accepted-holds c p found left h in
@@ -172,7 +172,7 @@ module _ (u : ℕ) (m : Mesh) (choose : List ℕ → List ℕ) (takes : Takes (a
       (of-plan passes (drop (length c.column_starts) found.column_starts) (drop (length c.rows) found.rows))
 
   -- by the number of the first fault, 0 being no fault in checks that include those of the mesh
-  handed_of : (k : ℕ) → (k ≡ 0 → first_fault (mesh_checks m) ≡ 0) → Filled (hand_out k (plan_with u m choose)) (Accepted p) found left → OfHanded
+  handed_of : (k : ℕ) → (k ≡ 0 → first_fault (mesh_checks m) ≡ 0) → Filled (hand_out k (plan_with u m choose)) (Ok p) found left → OfHanded
   handed_of zero passes h = accepted_of (passes refl) h
   handed_of (suc k) passes h = absurd (omega (arith, hand_number (suc k) (plan_with u m choose), ap (λ (r : Reply). r.number) h.reply))
 
@@ -184,18 +184,18 @@ planning-passes u m room e =
     (c28.0, no_fault_first (mesh_checks m) _ c28.1)
 
 -- Demand 3 of what is handed out: an answer and buffers that agree with planning's outcome satisfy it.
-pub handed-demand3 : (u : ℕ) (m : Mesh) (room : Capacity) (answer : PlanAnswer) (found left : Buffers)
+pub handed-demand3 : (u : ℕ) (m : Mesh) (room : Capacity) (answer : Result Plan Refusal) (found left : Buffers)
     → Filled (planning u m room) answer found left → Demand3Of m answer left
 unfolding planning plan_of Demand3Of
-handed-demand3 u m room (Refused k) found left h = tt
-handed-demand3 u m room (Accepted p) found left h =
+handed-demand3 u m room (Err k) found left h = tt
+handed-demand3 u m room (Ok p) found left h =
     handed_of u m (george_liu m) (george_liu_takes m) (Demand3 m) (planned-demand3 u m) p found left (first_fault (plan_checks u m room)) (λ e. (planning-passes u m room e).1) h
 
 -- The clique rule of what is handed out.
-pub handed-cliques : (u : ℕ) (m : Mesh) (room : Capacity) (answer : PlanAnswer) (found left : Buffers)
+pub handed-cliques : (u : ℕ) (m : Mesh) (room : Capacity) (answer : Result Plan Refusal) (found left : Buffers)
     → Filled (planning u m room) answer found left → CliquesOf m answer left
 unfolding planning plan_of CliquesOf
-handed-cliques u m room (Refused k) found left h = tt
-handed-cliques u m room (Accepted p) found left h =
+handed-cliques u m room (Err k) found left h = tt
+handed-cliques u m room (Ok p) found left h =
     handed_of u m (george_liu m) (george_liu_takes m) (λ order sizes parents column_starts rows. uncut_cliques m order sizes parents ≡ true)
     (λ passes more rest. planned-cliques u m passes) p found left (first_fault (plan_checks u m room)) (λ e. (planning-passes u m room e).1) h

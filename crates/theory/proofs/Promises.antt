@@ -4,10 +4,9 @@ use mathlib.Core.List.{List, [], ◌∷◌}
 use Prim.Native.Nat.{ℕ, zero, suc, ◌+◌}
 use native.Mathlib.Omega.{arith}
 use lib.ListN.{length, get_or, take}
+use Rattle.std.specs.Prelude.{Result, Ok, Err}
 use Rattle.plan.specs.declared.Plan.{Plan}
-use Rattle.plan.specs.declared.PlanAnswer.TheVariants.{Accepted}
-use Rattle.plan.specs.declared.WriteAnswer.{WriteAnswer}
-use Rattle.plan.specs.declared.WriteAnswer.TheVariants.{Written, Refused}
+use Rattle.plan.specs.declared.refusal.Refusal.{Refusal}
 use Rattle.plan.specs.Lists.{written}
 use Rattle.plan.specs.Refusals.{first_fault}
 use Rattle.plan.specs.Answers.{Reply, accepted, plan_reply, write_reply}
@@ -24,13 +23,13 @@ use Rattle.theory.proofs.RoundTrips.{used-long, write_says, write_accepts, read_
 -- ---- what was written, then read
 
 -- the size that an accepted writing shows is the file's length
-shown_size : (k : ℕ) (c : Contents) (size : ℕ) → write_reply (Written size) ≡ (write_out k c).reply → size ≡ file_length c
+shown_size : (k : ℕ) (c : Contents) (size : ℕ) → write_reply (Ok size) ≡ (write_out k c).reply → size ≡ file_length c
 unfolding write_out
 shown_size zero c size e = ap (λ (r : Reply). get_or r.values 0 0) e
 shown_size (suc k) c size e = absurd (omega (arith, ap (λ (r : Reply). r.number) e))
 
 -- and it writes so many bytes
-pub written_size : (c : Contents) (output size : ℕ) → write_reply (Written size) ≡ (writing c output).reply → length (writing c output).bytes ≡ size
+pub written_size : (c : Contents) (output size : ℕ) → write_reply (Ok size) ≡ (writing c output).reply → length (writing c output).bytes ≡ size
 written_size c output size e =
     let w = write_says c output (sym (ap (λ (r : Reply). r.number) e)) in
     let shown : size ≡ file_length (used c) = unfold writing used file_length length_in in shown_size (first_fault (write_checks c output)) c size e in
@@ -49,11 +48,11 @@ wrote_then_filled c size found bytes answer lent left wrote eight nine filled =
 -- ---- what was read, then written
 
 -- the used entries of buffers that a plan was handed out to, with the counts that were answered, are the plan
-filled-used : (c : Contents) (p : Plan) (lent left : Buffers) → Sound c → Filled (hand_out 0 c) (Accepted p) lent left → used (lent_back p left) ≡ c
+filled-used : (c : Contents) (p : Plan) (lent left : Buffers) → Sound c → Filled (hand_out 0 c) (Ok p) lent left → used (lent_back p left) ≡ c
 unfolding used hand_out fill
 filled-used c p lent left sound h =
     let whole : Whole c = sound.whole in
-    let value : (k : ℕ) → get_or (plan_reply (Accepted p)).values k 0 ≡ get_or (hand_out 0 c).reply.values k 0 = λ k. ap (λ (r : Reply). get_or r.values k 0) h.reply in
+    let value : (k : ℕ) → get_or (plan_reply (Ok p)).values k 0 ≡ get_or (hand_out 0 c).reply.values k 0 = λ k. ap (λ (r : Reply). get_or r.values k 0) h.reply in
     let nodes : p.nodes ≡ c.nodes = value 0 in
     let parts : p.parts ≡ c.parts = value 1 in
     let slots : p.slots ≡ c.slots = value 2 in
@@ -71,25 +70,25 @@ filled-used c p lent left sound h =
     )
 
 -- where a plan is the answer, it was handed out
-handed_out : (k : ℕ) (c : Contents) (p : Plan) (lent left : Buffers) → Filled (hand_out k c) (Accepted p) lent left → Filled (hand_out 0 c) (Accepted p) lent left
+handed_out : (k : ℕ) (c : Contents) (p : Plan) (lent left : Buffers) → Filled (hand_out k c) (Ok p) lent left → Filled (hand_out 0 c) (Ok p) lent left
 handed_out k c p lent left h =
-    subst (λ (i : ℕ). Filled (hand_out i c) (Accepted p) lent left) (sym (hand_number k c) ∙ sym (ap (λ (r : Reply). r.number) h.reply)) h
+    subst (λ (i : ℕ). Filled (hand_out i c) (Ok p) lent left) (sym (hand_number k c) ∙ sym (ap (λ (r : Reply). r.number) h.reply)) h
 
 -- the answer of a writing that shows a size
-size_answer : (answer : WriteAnswer) (size : ℕ) → write_reply answer ≡ accepted (size ∷ []) → answer ≡ Written size
-size_answer (Written n) size e = ap (λ (r : Reply). Written (get_or r.values 0 0)) e
-size_answer (Refused k) size e = absurd (omega (arith, ap (λ (r : Reply). length r.values) e))
+size_answer : (answer : Result ℕ Refusal) (size : ℕ) → write_reply answer ≡ accepted (size ∷ []) → answer ≡ Ok size
+size_answer (Ok n) size e = ap (λ (r : Reply). Ok (get_or r.values 0 0)) e
+size_answer (Err k) size e = absurd (omega (arith, ap (λ (r : Reply). length r.values) e))
 
 -- what was written, by the writing's bytes
-wrote_bytes : (c : Contents) (bytes found after : List ℕ) (answer : WriteAnswer) → writing c (length found) ≡ accepted_writing bytes → Wrote c answer found after
-    → (answer ≡ Written (length bytes)) × (after ≡ written bytes found)
+wrote_bytes : (c : Contents) (bytes found after : List ℕ) (answer : Result ℕ Refusal) → writing c (length found) ≡ accepted_writing bytes → Wrote c answer found after
+    → (answer ≡ Ok (length bytes)) × (after ≡ written bytes found)
 wrote_bytes c bytes found after answer w wrote = (
   size_answer answer (length bytes) (wrote.reply ∙ ap (λ (o : WriteOutcome). o.reply) w),
   wrote.output ∙ ap (λ (o : WriteOutcome). written o.bytes found) w,
 )
 
 -- the used entries of buffers that were read into are the plan that the bytes say
-read_used : (bytes : List ℕ) (p : Plan) (lent left : Buffers) → Filled (reading bytes (capacity lent)) (Accepted p) lent left → used (lent_back p left) ≡ parse bytes
+read_used : (bytes : List ℕ) (p : Plan) (lent left : Buffers) → Filled (reading bytes (capacity lent)) (Ok p) lent left → used (lent_back p left) ≡ parse bytes
 unfolding reading
 read_used bytes p lent left filled =
     let room : Capacity = capacity lent in
@@ -114,10 +113,10 @@ filled_wrote_filled bytes found after p lent left again end answer last filled f
     let e : used c ≡ parse bytes = read_used bytes p lent left filled in
     let sound : Sound (used c) = subst Sound (sym e) (read_says bytes room h).1 in
     let w = wrote_bytes c (encode (used c)) found after answer (write_accepts c (length found) sound fits) wrote in
-    let shown : answer ≡ Written (file_length c) = w.0 ∙ ap Written (encode-length (used c) sound.whole ∙ used-long c) in (
+    let shown : answer ≡ Ok (file_length c) = w.0 ∙ ap Ok (encode-length (used c) sound.whole ∙ used-long c) in (
       shown,
       subst (λ (d : Contents). Filled (hand_out 0 d) last again end) e
-          (wrote_then_filled c (file_length c) found after last again end (subst (λ (a : WriteAnswer). Wrote c a found after) shown wrote) eight nine read),
+          (wrote_then_filled c (file_length c) found after last again end (subst (λ (a : Result ℕ Refusal). Wrote c a found after) shown wrote) eight nine read),
     )
 
 -- ---- what was planned, then written
@@ -134,5 +133,5 @@ planned_then_wrote u m found after p lent left answer filled fits wrote =
     let long : file_length c ≡ file_length (plan_of u m) = sym (used-long c) ∙ ap file_length e in
     let w : writing c (length found) ≡ accepted_writing (encode (plan_of u m)) =
     planned_is_writable u m room c (length found) h (e ∙ sym (handed-planned u m room h)) (omega (arith, long, fits)) ∙ ap (λ (d : Contents). accepted_writing (encode d)) e in
-    let r : (answer ≡ Written (length (encode (plan_of u m)))) × (after ≡ written (encode (plan_of u m)) found) = wrote_bytes c (encode (plan_of u m)) found after answer w wrote in
-    (r.0 ∙ ap Written (encode-length (plan_of u m) sound.whole), r.1)
+    let r : (answer ≡ Ok (length (encode (plan_of u m)))) × (after ≡ written (encode (plan_of u m)) found) = wrote_bytes c (encode (plan_of u m)) found after answer w wrote in
+    (r.0 ∙ ap Ok (encode-length (plan_of u m) sound.whole), r.1)

@@ -3,13 +3,51 @@ use mathlib.Core.Path.{◌≡◌, refl, ap}
 use mathlib.Core.Logic.{◌≢◌}
 use mathlib.Core.Bool.{Bool, true, false, not, cond}
 use mathlib.Core.List.{[], ◌∷◌, ◌++◌}
-use Prim.Native.Nat.{ℕ, ◌<◌}
+use Prim.Native.Nat.{ℕ, suc, ◌<◌}
 use native.Mathlib.Omega.{arith}
 use lib.Dec.{ltb, eqb}
 use borrow.Author.Tests.{ltb-true}
 use Rattle.plan.specs.Lists.{every}
-use Rattle.plan.specs.Refusals.{Checks, first_fault}
+use Rattle.plan.specs.declared.refusal.Refusal.{Refusal}
+use Rattle.plan.specs.declared.refusal.Refusal.TheVariants as refusal
+use Rattle.plan.specs.Refusals.{number_of, Checks, first_fault}
 use Rattle.theory.proofs.Bools.{and_left, and_right, not_eqb}
+
+-- no refusal has the number 0
+pub number-suc : (r : Refusal) → (k : ℕ) × (number_of r ≡ suc k)
+number-suc refusal.NodeCount = (0, refl)
+number-suc refusal.Starts = (1, refl)
+number-suc refusal.EntryCount = (2, refl)
+number-suc refusal.NeighbourOutside = (3, refl)
+number-suc refusal.ListsItself = (4, refl)
+number-suc refusal.NotAscending = (5, refl)
+number-suc refusal.OneSided = (6, refl)
+number-suc refusal.BuffersTooShort = (7, refl)
+number-suc refusal.RowsTooShort = (8, refl)
+number-suc refusal.TooFewBytes = (9, refl)
+number-suc refusal.Magic = (10, refl)
+number-suc refusal.Version = (11, refl)
+number-suc refusal.Header = (12, refl)
+number-suc refusal.FileLength = (13, refl)
+number-suc refusal.Order = (14, refl)
+number-suc refusal.Parts = (15, refl)
+number-suc refusal.Rows = (16, refl)
+number-suc refusal.RowOutside = (17, refl)
+number-suc refusal.NotCovered = (18, refl)
+number-suc refusal.Input = (19, refl)
+number-suc refusal.PositionOutside = (20, refl)
+number-suc refusal.Layout = (21, refl)
+number-suc refusal.Text = (22, refl)
+number-suc refusal.Matrix = (23, refl)
+number-suc refusal.RepeatedPair = (24, refl)
+number-suc refusal.TooManyNeighbours = (25, refl)
+number-suc refusal.SlotOutside = (26, refl)
+number-suc refusal.Unknowns = (27, refl)
+number-suc refusal.ManyUnknowns = (28, refl)
+number-suc refusal.ValueCount = (29, refl)
+number-suc refusal.Pivot = (30, refl)
+number-suc refusal.Pairing = (31, refl)
+number-suc refusal.PairedTwice = (32, refl)
 
 -- of no checks there is none
 pub first_nil : first_fault [] ≡ 0

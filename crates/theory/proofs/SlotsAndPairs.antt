@@ -9,10 +9,11 @@ use lib.Dec.{eqb, leb}
 use lib.ListN.{length, get_or, drop}
 use lib.Seq.{get_or-take, get_or-drop}
 use borrow.Author.Tests.{leb-true, ltb-true, le-leb, lt-ltb, lt-leb, eq-eqb, ne_eqb}
+use Rattle.std.specs.Prelude.{Result, Ok, Err}
 use Rattle.plan.specs.declared.PairAnswer.{PairAnswer}
 use Rattle.plan.specs.declared.PairAnswer.TheVariants as pair
-use Rattle.plan.specs.declared.SlotAnswer.{SlotAnswer}
-use Rattle.plan.specs.declared.SlotAnswer.TheVariants as slot
+use Rattle.plan.specs.declared.Pair.{Pair}
+use Rattle.plan.specs.declared.refusal.Refusal.{Refusal}
 use Rattle.plan.specs.Lists.{keep, below, is_in, index_of, list_at}
 use Rattle.plan.specs.Refusals.{first_fault}
 use Rattle.plan.specs.Answers.{Reply, accepted, refused, slot_case, diagonal_case, no_slot_case, pair_reply, slot_reply}
@@ -286,15 +287,15 @@ pair_leads_home n column_starts rows a b s le h =
 -- ---- the same of the answers
 
 -- the answer that is told as a slot, and the one that is told as a pair
-slot_answer : (answer : PairAnswer) (s : ℕ) → pair_reply answer ≡ accepted (slot_case ∷ s ∷ []) → answer ≡ pair.Slot s
-slot_answer (pair.Slot k) s e = ap (λ (r : Reply). pair.Slot (get_or r.values 1 0)) e
-slot_answer pair.Diagonal s e = absurd (omega (arith, ap (λ (r : Reply). length r.values) e))
-slot_answer pair.NoSlot s e = absurd (omega (arith, ap (λ (r : Reply). length r.values) e))
-slot_answer (pair.Refused k) s e = absurd (omega (arith, ap (λ (r : Reply). length r.values) e))
+slot_answer : (answer : Result PairAnswer Refusal) (s : ℕ) → pair_reply answer ≡ accepted (slot_case ∷ s ∷ []) → answer ≡ Ok (pair.Slot s)
+slot_answer (Ok (pair.Slot k)) s e = ap (λ (r : Reply). Ok (pair.Slot (get_or r.values 1 0))) e
+slot_answer (Ok pair.Diagonal) s e = absurd (omega (arith, ap (λ (r : Reply). length r.values) e))
+slot_answer (Ok pair.NoSlot) s e = absurd (omega (arith, ap (λ (r : Reply). length r.values) e))
+slot_answer (Err k) s e = absurd (omega (arith, ap (λ (r : Reply). length r.values) e))
 
-pair-answer : (answer : SlotAnswer) (row column : ℕ) → slot_reply answer ≡ accepted (row ∷ column ∷ []) → answer ≡ slot.Found (record { row = row; column = column })
-pair-answer (slot.Found p) row column e = ap (λ (r : Reply). slot.Found (record { row = get_or r.values 0 0; column = get_or r.values 1 0 })) e
-pair-answer (slot.Refused k) row column e = absurd (omega (arith, ap (λ (r : Reply). length r.values) e))
+pair-answer : (answer : Result Pair Refusal) (row column : ℕ) → slot_reply answer ≡ accepted (row ∷ column ∷ []) → answer ≡ Ok (record { row = row; column = column })
+pair-answer (Ok p) row column e = ap (λ (r : Reply). Ok (record { row = get_or r.values 0 0; column = get_or r.values 1 0 })) e
+pair-answer (Err k) row column e = absurd (omega (arith, ap (λ (r : Reply). length r.values) e))
 
 pub slot_then_pair : SlotThenPair
 slot_then_pair n column_starts rows s p answer found told =
