@@ -1,10 +1,9 @@
 -- Lists that stand one after the other, by their starts: one that lies within the entries, a rule of each, and the place of a number in an ascending
 -- one; and what working arrays begin with.
-use Rattle.std.specs.Prelude.{Bool, not, List, ℕ, ◌+◌, ◌≤◌, ◌<◌, ltb, length, get_or, replicate}
-use Rattle.plan.specs.Lists.{exists, below, is_in, ascending}
-use Rattle.plan.specs.Mesh.{max_nodes, max_neighbours, Mesh, neighbours_of}
-use Rattle.mesh.specs.declared.ListRule.{ListRule}
-use Rattle.mesh.specs.declared.ListRule.TheVariants.{NotItself, Ascending, Short}
+use Rattle.std.specs.Prelude.{◌≡◌, Bool, List, ℕ, ◌+◌, ◌≤◌, ◌<◌, length, get_or, replicate}
+use Rattle.std.specs.Fn.{Shared}
+use Rattle.std.specs.Borrow.{Bor}
+use Rattle.plan.specs.Mesh.{max_nodes}
 
 -- the number that is no node, position or part
 abbrev pub none : ℕ
@@ -20,15 +19,9 @@ pub record ListWithin (starts entries : List ℕ) (v : ℕ) : Type 0 where
   pub ordered : get_or starts v 0 ≤ get_or starts (v + 1) 0
   pub ended : get_or starts (v + 1) 0 ≤ length entries
 
--- whether list v breaks a rule
-abbrev pub breaks_rule : ListRule → ℕ → List ℕ → Bool
-breaks_rule NotItself v entries = is_in v entries
-breaks_rule Ascending v entries = not (ascending entries)
-breaks_rule Short v entries = ltb max_neighbours (length entries)
-
--- whether some node's list does
-unfoldable pub some_list_breaks : ListRule → Mesh → Bool
-some_list_breaks rule m = exists (λ v. breaks_rule rule v (neighbours_of m v)) (below m.nodes)
+-- what a test that is passed in answers of a node and its list
+abbrev pub TellsLists : {F : Type 0} → Shared F (ℕ × (Bor (List ℕ) × Unit {0})) Bool → F → (ℕ → List ℕ → Bool) → Type 0
+TellsLists g f rule = (v : ℕ) (l : Bor (List ℕ)) (r : Bool) → g.post f (v, (l, tt)) r → r ≡ rule v l.now
 
 -- the first place k of a list whose entry is not less than x; the list's length where every entry is less
 pub record LowerBound (entries : List ℕ) (x k : ℕ) : Type 0 where

@@ -5,12 +5,12 @@
 mod checked;
 mod made;
 
-ghost use Rattle.std.specs.Prelude.{◌≡◌, true, false, List, ℕ, ◌≤◌, leb, ltb, length, IfOk};
-ghost use Rattle.plan.specs.Lists.{exists, is_in, list_at, ascending, falls, written};
+ghost use Rattle.std.specs.Prelude.{◌≡◌, true, false, List, ℕ, ◌≤◌, leb, ltb, length, IfOk, Bool};
+ghost use Rattle.plan.specs.Lists.{exists, below, is_in, list_at, ascending, falls, written};
 ghost use Rattle.plan.specs.Refusals.{fault_of, first_fault};
-ghost use Rattle.plan.specs.Mesh.{max_nodes, lent, bad_node_count, bad_starts, bad_mesh_starts, too_many_entries, neighbour_outside, one_sided, mesh_checks};
+ghost use Rattle.plan.specs.Mesh.{max_nodes, lent, neighbours_of, bad_node_count, bad_starts, bad_mesh_starts, too_many_entries, neighbour_outside, lists_itself, not_ascending, list_too_long, one_sided, mesh_checks};
 ghost use Rattle.theory.specs.Counting.{count};
-ghost use Rattle.mesh.specs.Lists.{filled_with, breaks_rule, some_list_breaks, ListWithin};
+ghost use Rattle.mesh.specs.Lists.{filled_with, ListWithin, TellsLists};
 ghost use Rattle.mesh.specs.Lent.{as_lent};
 
 pub use checked::CheckedMesh;
@@ -150,37 +150,57 @@ fn ascends(entries: &[u16]) -> bool
     true
 }
 
-// The rule of a node's list that check 5, 6 or 26 is about.
-#[derive(Clone, Copy)]
-enum ListRule {
-    NotItself,
-    Ascending,
-    Short,
-}
-
-// Whether node v's list breaks the rule. O(length).
-fn breaks(rule: ListRule, v: u16, entries: &[u16]) -> bool
-    ensures { result ≡ breaks_rule rule v entries.now }
-{
-    match rule {
-        ListRule::NotItself => contains(entries, v),
-        ListRule::Ascending => !ascends(entries),
-        ListRule::Short => entries.len() > Plan::NEIGHBOURS,
-    }
-}
-
-// Checks 5, 6 and 26: some node's list breaks the rule. O(n + entries), for 26 O(n).
-fn some_list_breaks(rule: ListRule, n: usize, starts: &[u32], neighbours: &[u16]) -> bool
+// Checks 5, 6 and 26: whether some node's list breaks a rule. O(n), and what the rule costs.
+#[tactic(auto, unfolding(plan::specs::Mesh::neighbours_of))]
+fn some_list<F: Fn(u16, &[u16]) -> bool>(
+    n: usize,
+    starts: &[u32],
+    neighbours: &[u16],
+    breaks: F,
+) -> bool
     requires n_value { bad_node_count n ≡ false }
     requires neighbours_value { bad_mesh_starts (lent n starts.now neighbours.now) ≡ false }
-    ensures { result ≡ some_list_breaks rule (lent n starts.now neighbours.now) }
+    requires callable { F.IsAlwaysCallable breaks }
+    ensures { (rule : ℕ → List ℕ → Bool) → TellsLists F.Fn breaks rule → result ≡ exists (λ v. rule v (neighbours_of (lent n starts.now neighbours.now) v)) (below n) }
 {
     for v in 0..n {
-        if breaks(rule, v as u16, list(starts, neighbours, v)) {
+        if breaks(v as u16, list(starts, neighbours, v)) {
             return true;
         }
     }
     false
+}
+
+// Check 5: a node lists itself. O(n + entries).
+fn lists_itself(n: usize, starts: &[u32], neighbours: &[u16]) -> bool
+    requires n_value { bad_node_count n ≡ false }
+    requires neighbours_value { bad_mesh_starts (lent n starts.now neighbours.now) ≡ false }
+    ensures { result ≡ lists_itself (lent n starts.now neighbours.now) }
+{
+    some_list(n, starts, neighbours, |v, list| contains(list, v))
+}
+
+// Check 6: a list is not strictly ascending. O(n + entries).
+fn not_ascending(n: usize, starts: &[u32], neighbours: &[u16]) -> bool
+    requires n_value { bad_node_count n ≡ false }
+    requires neighbours_value { bad_mesh_starts (lent n starts.now neighbours.now) ≡ false }
+    ensures { result ≡ not_ascending (lent n starts.now neighbours.now) }
+{
+    some_list(n, starts, neighbours, |_, list| !ascends(list))
+}
+
+// Check 26: a list has more entries than a node may have neighbours. O(n).
+fn list_too_long(n: usize, starts: &[u32], neighbours: &[u16]) -> bool
+    requires n_value { bad_node_count n ≡ false }
+    requires neighbours_value { bad_mesh_starts (lent n starts.now neighbours.now) ≡ false }
+    ensures { result ≡ list_too_long (lent n starts.now neighbours.now) }
+{
+    some_list(
+        n,
+        starts,
+        neighbours,
+        |_, list| list.len() > Plan::NEIGHBOURS,
+    )
 }
 
 // The number of entries of an ascending list that are less than x, and so the first place whose entry is not less.
@@ -226,7 +246,7 @@ fn one_sided(n: usize, starts: &[u32], neighbours: &[u16]) -> bool
 
 // Checks 1 to 7, with 26 between 6 and 7, and the mesh that has passed them. "Each check covers the whole input before the next begins."
 // O(n + 26 · entries).
-#[tactic(auto, unfolding(plan::specs::Refusals::first_fault, plan::specs::Mesh::mesh_checks, plan::specs::Mesh::lists_itself, plan::specs::Mesh::not_ascending, plan::specs::Mesh::list_too_long, plan::specs::Mesh::adjacent, crate::specs::Lists::some_list_breaks))]
+#[tactic(auto, unfolding(plan::specs::Refusals::first_fault, plan::specs::Mesh::mesh_checks))]
 pub fn check<'a>(
     n: usize,
     starts: &'a [u32],
@@ -247,13 +267,13 @@ pub fn check<'a>(
     if neighbour_outside(n, neighbours) {
         return Err(Refusal::NeighbourOutside);
     }
-    if some_list_breaks(ListRule::NotItself, n, starts, neighbours) {
+    if lists_itself(n, starts, neighbours) {
         return Err(Refusal::ListsItself);
     }
-    if some_list_breaks(ListRule::Ascending, n, starts, neighbours) {
+    if not_ascending(n, starts, neighbours) {
         return Err(Refusal::NotAscending);
     }
-    if some_list_breaks(ListRule::Short, n, starts, neighbours) {
+    if list_too_long(n, starts, neighbours) {
         return Err(Refusal::TooManyNeighbours);
     }
     if one_sided(n, starts, neighbours) {

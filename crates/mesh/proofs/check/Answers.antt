@@ -1,15 +1,14 @@
 -- `mesh::check` meets its contract: a mesh of which no check found a fault is checked.
-use Rattle.std.proofs.Common.{◌≡◌, sym, rules}
+use Rattle.std.proofs.Common.{◌≡◌, rules}
 use Rattle.plan.specs.Refusals.{first_fault}
-use Rattle.plan.specs.Mesh.{lent, adjacent, lists_itself, not_ascending, list_too_long, mesh_checks}
+use Rattle.plan.specs.Mesh.{lent, mesh_checks}
 use Rattle.theory.proofs.Checked.{checked}
-use Rattle.mesh.specs.Lists.{some_list_breaks}
 use Rattle.mesh.proofs.check.Goals.{Else-one_sided}
 use Rattle.mesh.proofs.check.Goals as goal
 
 -- behind the last check there is no fault
 passed : (c : Else-one_sided) → first_fault (mesh_checks (lent c.args.n c.args.starts.now c.args.neighbours.now)) ≡ 0
-unfolding first_fault mesh_checks lists_itself not_ascending list_too_long adjacent some_list_breaks
+unfolding first_fault mesh_checks
 passed c = search rules
 
 pub invariant_of-result : goal.invariant_of-result
