@@ -4,7 +4,6 @@ ghost use Rattle.plan.specs.Lists.{exists};
 ghost use Rattle.plan.specs.Mesh.{max_neighbours, Mesh};
 ghost use Rattle.plan.specs.MadeMesh.{mesh_lengths, mesh_buffers_too_short};
 
-use crate::wide;
 use plan::Plan;
 
 // Check 26 of lists of these lengths: one has more entries than a node may have neighbours. O(n).
@@ -12,11 +11,9 @@ pub fn too_long(n: usize, counts: &[u16]) -> bool
     requires { n ≤ length counts.now }
     ensures { result ≡ exists (ltb max_neighbours) (take n counts.now) }
 {
-    let mut long = false;
-    for v in 0..n {
-        long = long | (wide(counts[v]) > Plan::NEIGHBOURS);
-    }
-    long
+    counts[..n]
+        .iter()
+        .any(|count| usize::from(*count) > Plan::NEIGHBOURS)
 }
 
 // Check 8 of a mesh that is made: the starts or the neighbours, lent with these lengths, are too short for n nodes and so many entries. O(1).

@@ -1,8 +1,8 @@
--- `mesh::lists_itself` meets its contract: the closure tells the rule.
+-- `mesh::Listed::lists_itself` meets its contract: the closure tells the rule.
 use Rattle.std.proofs.Common.{rules}
 use Rattle.plan.specs.Lists.{is_in}
 use Rattle.plan.specs.Mesh.{adjacent, lists_itself}
-use Rattle.mesh.proofs.lists_itself.Goals as goal
+use Rattle.mesh.proofs.listed.Listed.lists_itself.Goals as goal
 
 pub returns : goal.returns
 unfolding adjacent lists_itself

@@ -1,8 +1,8 @@
--- `mesh::not_ascending` meets its contract: the closure tells the rule.
+-- `mesh::Listed::not_ascending` meets its contract: the closure tells the rule.
 use Rattle.std.proofs.Common.{not, rules}
 use Rattle.plan.specs.Lists.{ascending}
 use Rattle.plan.specs.Mesh.{not_ascending}
-use Rattle.mesh.proofs.not_ascending.Goals as goal
+use Rattle.mesh.proofs.listed.Listed.not_ascending.Goals as goal
 
 pub returns : goal.returns
 unfolding not_ascending

@@ -7,7 +7,7 @@ use borrow.Author.Tests.{lt-ltb, le-ltb, not-true, not-false}
 use borrow.Author.Rules.{rules}
 use Rattle.plan.specs.Lists.{ascending}
 use Rattle.theory.proofs.Scans.{clear_more, found_below, none_below, pair_at, pair_at_is, not_greater, ascending-pairs}
-use Rattle.mesh.proofs.ascends.Goals as goal
+use Rattle.mesh.proofs.listed.ascends.Goals as goal
 
 pub loop-i-init : goal.loop-i-init
 loop-i-init c = (omega arith, refl)

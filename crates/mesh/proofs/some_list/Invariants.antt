@@ -1,9 +1,0 @@
--- `mesh::some_list`: no list before node v breaks the rule, whichever it is that the closure tells.
-use Rattle.std.proofs.Common.{Bool, List, ℕ}
-use Rattle.plan.specs.Mesh.{lent, neighbours_of}
-use Rattle.theory.proofs.Scans.{Clear}
-use Rattle.mesh.specs.Lists.{TellsLists}
-use Rattle.mesh.proofs.some_list.Given as goal
-
-abbrev pub invariant-loop-v : goal.invariant-loop-v
-invariant-loop-v g l = (rule : ℕ → List ℕ → Bool) → TellsLists g.F.Fn l.breaks rule → Clear (λ v. rule v (neighbours_of (lent l.n l.starts l.neighbours) v)) l.v
