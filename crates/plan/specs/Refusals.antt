@@ -1,5 +1,5 @@
 -- Document 01, "Refusals": the number of each, the order of checks, and the family of a number.
-use Rattle.std.specs.Prelude.{Bool, cond, ◌&&◌, List, [], ◌∷◌, ℕ, leb, Result, Ok, Err}
+use Rattle.std.specs.Prelude.{Bool, cond, ◌&&◌, List, [], ◌∷◌, ℕ, leb, eqb, Result, Ok, Err}
 use Rattle.plan.specs.declared.refusal.Refusal.{Refusal}
 use Rattle.plan.specs.declared.refusal.Refusal.TheVariants as refusal
 use Rattle.plan.specs.declared.RefusalFamily.{RefusalFamily}
@@ -45,6 +45,22 @@ number_of refusal.PairedTwice = 33
 abbrev pub fault_of : {A : Type 0} → Result A Refusal → ℕ
 fault_of (Ok answer) = 0
 fault_of (Err refusal) = number_of refusal
+
+-- all refusals, and the one that has a number; where none has it, the last
+abbrev pub refusals : List Refusal
+refusals =
+    refusal.NodeCount ∷ refusal.Starts ∷ refusal.EntryCount ∷ refusal.NeighbourOutside ∷ refusal.ListsItself ∷ refusal.NotAscending ∷
+    refusal.OneSided ∷ refusal.BuffersTooShort ∷ refusal.RowsTooShort ∷ refusal.TooFewBytes ∷ refusal.Magic ∷ refusal.Version ∷ refusal.Header ∷
+    refusal.FileLength ∷ refusal.Order ∷ refusal.Parts ∷ refusal.Rows ∷ refusal.RowOutside ∷ refusal.NotCovered ∷ refusal.Input ∷
+    refusal.PositionOutside ∷ refusal.Layout ∷ refusal.Text ∷ refusal.Matrix ∷ refusal.RepeatedPair ∷ refusal.TooManyNeighbours ∷
+    refusal.SlotOutside ∷ refusal.Unknowns ∷ refusal.ManyUnknowns ∷ refusal.ValueCount ∷ refusal.Pivot ∷ refusal.Pairing ∷ refusal.PairedTwice ∷ []
+
+abbrev pub numbered : ℕ → List Refusal → Refusal
+numbered k [] = refusal.PairedTwice
+numbered k (r ∷ rs) = cond (eqb (number_of r) k) r (numbered k rs)
+
+abbrev pub refusal_of : ℕ → Refusal
+refusal_of k = numbered k refusals
 
 -- Checks in the order in which they are made: to each its number in the table, and whether its fault is there.
 abbrev pub Checks : Type 0

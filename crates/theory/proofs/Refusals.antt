@@ -10,7 +10,7 @@ use borrow.Author.Tests.{ltb-true}
 use Rattle.plan.specs.Lists.{every}
 use Rattle.plan.specs.declared.refusal.Refusal.{Refusal}
 use Rattle.plan.specs.declared.refusal.Refusal.TheVariants as refusal
-use Rattle.plan.specs.Refusals.{number_of, Checks, first_fault}
+use Rattle.plan.specs.Refusals.{number_of, refusal_of, Checks, first_fault}
 use Rattle.theory.proofs.Bools.{and_left, and_right, not_eqb}
 
 -- no refusal has the number 0
@@ -48,6 +48,42 @@ number-suc refusal.ValueCount = (29, refl)
 number-suc refusal.Pivot = (30, refl)
 number-suc refusal.Pairing = (31, refl)
 number-suc refusal.PairedTwice = (32, refl)
+
+-- a refusal is the one that its number stands for
+pub refusal-of_number : (r : Refusal) → refusal_of (number_of r) ≡ r
+refusal-of_number refusal.NodeCount = refl
+refusal-of_number refusal.Starts = refl
+refusal-of_number refusal.EntryCount = refl
+refusal-of_number refusal.NeighbourOutside = refl
+refusal-of_number refusal.ListsItself = refl
+refusal-of_number refusal.NotAscending = refl
+refusal-of_number refusal.OneSided = refl
+refusal-of_number refusal.BuffersTooShort = refl
+refusal-of_number refusal.RowsTooShort = refl
+refusal-of_number refusal.TooFewBytes = refl
+refusal-of_number refusal.Magic = refl
+refusal-of_number refusal.Version = refl
+refusal-of_number refusal.Header = refl
+refusal-of_number refusal.FileLength = refl
+refusal-of_number refusal.Order = refl
+refusal-of_number refusal.Parts = refl
+refusal-of_number refusal.Rows = refl
+refusal-of_number refusal.RowOutside = refl
+refusal-of_number refusal.NotCovered = refl
+refusal-of_number refusal.Input = refl
+refusal-of_number refusal.PositionOutside = refl
+refusal-of_number refusal.Layout = refl
+refusal-of_number refusal.Text = refl
+refusal-of_number refusal.Matrix = refl
+refusal-of_number refusal.RepeatedPair = refl
+refusal-of_number refusal.TooManyNeighbours = refl
+refusal-of_number refusal.SlotOutside = refl
+refusal-of_number refusal.Unknowns = refl
+refusal-of_number refusal.ManyUnknowns = refl
+refusal-of_number refusal.ValueCount = refl
+refusal-of_number refusal.Pivot = refl
+refusal-of_number refusal.Pairing = refl
+refusal-of_number refusal.PairedTwice = refl
 
 -- of no checks there is none
 pub first_nil : first_fault [] ≡ 0
