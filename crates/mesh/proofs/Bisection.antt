@@ -15,6 +15,8 @@ use Rattle.theory.proofs.Ranges.{is_in-below}
 use Rattle.theory.proofs.Ascending.{ascending_tail, ascending_lt, ascending-get_or}
 use Rattle.theory.specs.Counting.{count}
 use Rattle.theory.proofs.Counting.{unit, count_cons, count_none}
+use Rattle.std.specs.List.Sorted.{IsNonDecreasingBy}
+use Rattle.std.proofs.lemmas.List.{get_or_default}
 use Rattle.mesh.specs.Lists.{LowerBound}
 use Rattle.theory.proofs.Scans.{element_at, found_in, none_in}
 
@@ -36,6 +38,10 @@ no_greater l h i j le lt = elim (lt_or_le i j) [
   | inr s ↦ (let e : i ≡ j = omega arith in rw e (omega arith))
 ]
 
+-- what the library asks of a list that is searched
+pub ascending-rises : (l : List ℕ) → ascending l ≡ true → IsNonDecreasingBy (λ y. y) l
+ascending-rises l h = λ i j d le lt. rw (get_or_default l i d 0 (omega arith), get_or_default l j d 0 lt) (no_greater l h i j le lt)
+
 module _ (l : List ℕ) (x low high middle : ℕ) (h : ascending l ≡ true) (b : Bracket l x low high) (above : low ≤ middle) (under : middle < high) where
   -- the element in the middle is less: the search goes on behind it
   pub bracket_up : (next : ℕ) → next ≡ middle + 1 → get_or l middle 0 < x → Bracket l x next high
@@ -56,7 +62,7 @@ module _ (l : List ℕ) (x low high middle : ℕ) (h : ascending l ≡ true) (b 
   }
 
 -- the first k elements are less, and the others are not: k are less
-less-count : (l : List ℕ) (x k : ℕ) → k ≤ length l → ((i : ℕ) → i < k → get_or l i 0 < x) → ((i : ℕ) → k ≤ i → i < length l → x ≤ get_or l i 0) → k ≡ count (λ y. ltb y x) l
+pub less-count : (l : List ℕ) (x k : ℕ) → k ≤ length l → ((i : ℕ) → i < k → get_or l i 0 < x) → ((i : ℕ) → k ≤ i → i < length l → x ≤ get_or l i 0) → k ≡ count (λ y. ltb y x) l
 less-count [] x k h f g = omega arith
 less-count (y ∷ l) x zero h f g =
     omega (

@@ -28,20 +28,6 @@ pub fn filled(x: u16) -> [u16; Plan::NODES]
     [x; Plan::NODES]
 }
 
-// A number of 32 bits, a start or a count, as an index. O(1).
-pub fn index(x: u32) -> usize
-    ensures { result ≡ x }
-{
-    x as usize
-}
-
-// A number of 16 bits, a node, a position, a part or a size, as an index. O(1).
-pub fn wide(x: u16) -> usize
-    ensures { result ≡ x }
-{
-    x as usize
-}
-
 // Check 1: no node, or too many. O(1).
 pub fn bad_node_count(n: usize) -> bool
     ensures { result ≡ bad_node_count n }
@@ -106,21 +92,10 @@ pub fn contains(entries: &[u16], x: u16) -> bool
     found
 }
 
-// The number of entries of an ascending list that are less than x, and so the first place whose entry is not less.
-// By bisection: each entry before `low` is less than x, and none from `high` on is. O(log length).
+// The number of entries of an ascending list that are less than x, and so the first place whose entry is not less. O(log length).
 pub fn lower_bound(entries: &[u16], x: usize) -> usize
     requires { ascending entries.now ≡ true }
     ensures { result ≡ count (λ y. ltb y x) entries.now }
 {
-    let mut low: usize = 0;
-    let mut high = entries.len();
-    while low < high {
-        let middle = low + (high - low) / 2;
-        if wide(entries[middle]) < x {
-            low = middle + 1;
-        } else {
-            high = middle;
-        }
-    }
-    low
+    entries.partition_point(|y| usize::from(*y) < x)
 }

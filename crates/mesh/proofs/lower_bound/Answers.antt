@@ -1,17 +1,12 @@
--- `mesh::lower_bound` meets its contract: the loop keeps the bracket of x, and its ends meet at the place.
-use Prim.Native.Nat.{◌+◌, ◌/◌, ◌-◌}
-use native.Mathlib.Omega.{arith}
-use Rattle.mesh.proofs.Bisection.{bracket_start, bracket_up, bracket_down, bracket_met}
+-- `mesh::lower_bound` meets its contract: the entries before the place are less, and none from it on is.
+use Rattle.std.proofs.Common.{ltb, rules, arith}
+use Rattle.std.proofs.lemmas.List.Sorted.{IsPartitionPoint-from_clause, IsPartitionedBy-ltb}
+use borrow.Author.Tests.{ltb-true, ltb-false}
+use Rattle.mesh.proofs.Bisection.{ascending-rises, less-count}
 use Rattle.mesh.proofs.lower_bound.Goals as goal
 
-pub loop-low-init : goal.loop-low-init
-loop-low-init c = bracket_start c.args.entries.now c.args.x
-
-pub loop-low-preserved-then-wide-x : goal.loop-low-preserved-then-wide-x
-loop-low-preserved-then-wide-x c = bracket_up c.args.entries.now c.args.x c.loop-low.low c.loop-low.high (c.loop-low.low + (c.loop-low.high - c.loop-low.low) / 2) c.requires c.loop-low.invariant (omega arith) (omega arith) _ (omega arith) (rw c.wide.ensures at c.if-wide-x.true)
-
-pub loop-low-preserved : goal.loop-low-preserved
-loop-low-preserved c = bracket_down c.args.entries.now c.args.x c.loop-low.low c.loop-low.high (c.loop-low.low + (c.loop-low.high - c.loop-low.low) / 2) c.requires c.loop-low.invariant (omega arith) (omega arith) (rw c.wide.ensures at c.if-wide-x.false)
-
 pub returns : goal.returns
-returns c = bracket_met _ _ _ _ c.loop-low.invariant (omega arith)
+returns c =
+    let parted = IsPartitionedBy-ltb (λ y. y) c.args.entries.now c.args.x (ascending-rises c.args.entries.now c.requires) in
+    let point = IsPartitionPoint-from_clause (λ y. ltb y c.args.x) _ _ c.partition_point.ensures.partitioned parted (λ a r q k. search rules) in
+    less-count c.args.entries.now c.args.x c.partition_point.result c.partition_point.ensures.bound (λ i t. ltb-true _ _ (point.0 i 0 (omega arith) t)) (λ i s t. ltb-false _ _ (point.1 i 0 s t))
