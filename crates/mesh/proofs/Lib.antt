@@ -1,2 +1,3 @@
+pub mod Adjacent
 pub mod Bisection
 pub mod Lists

@@ -39,12 +39,7 @@ pub fn bad_node_count(n: usize) -> bool
 fn falling(numbers: &[u32]) -> bool
     ensures { result ≡ falls numbers.now }
 {
-    for i in 1..numbers.len() {
-        if numbers[i] < numbers[i - 1] {
-            return true;
-        }
-    }
-    false
+    !numbers.is_sorted()
 }
 
 // The first part of check 2: there are not n + 1 starts, the first is not 0, or they fall.

@@ -21,12 +21,7 @@ pub(crate) struct Listed<'a> {
 fn ascends(entries: &[u16]) -> bool
     ensures { result ≡ ascending entries.now }
 {
-    for i in 1..entries.len() {
-        if entries[i] <= entries[i - 1] {
-            return false;
-        }
-    }
-    true
+    entries.is_sorted_by(|a, b| a < b)
 }
 
 impl<'a> Listed<'a> {
