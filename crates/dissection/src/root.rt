@@ -10,7 +10,7 @@ ghost use Rattle.dissection.specs.Rooted.{Rooted, Measured, Better};
 
 use crate::degrees::least;
 use crate::levels::{label, walk};
-use crate::numbers::{Change, FRESH, OUTSIDE, fill, renumber, transfer};
+use crate::numbers::{FRESH, OUTSIDE, fill, renumber, transfer};
 
 // A root with the number of its last level (document 01: ℓ) and the node count of its widest level.
 #[derive(Clone, Copy)]
@@ -47,7 +47,8 @@ fn candidates(
     ensures { (take result found.new ≡ candidates_of (lent n starts.now neighbours.now) nodes.now root.node) × (result ≤ n) × Only n nodes.now trial.new }
 {
     transfer(nodes, levels, trial);
-    renumber(nodes, Change::OnlyLevel(root.last), trial);
+    let last = root.last;
+    renumber(nodes, |x| if x == last { FRESH } else { OUTSIDE }, trial);
     let count = label(
         n, starts, neighbours, nodes, 0, trial, queue, found, irregular,
     );
@@ -74,12 +75,10 @@ fn levels_from(
 {
     fill(nodes, FRESH, numbers);
     let w = walk(n, starts, neighbours, r, numbers, queue, irregular);
-    let last = w.last;
-    let width = w.width;
     Root {
         node: r,
-        last,
-        width,
+        last: w.last,
+        width: w.width,
     }
 }
 
