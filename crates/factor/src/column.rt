@@ -76,6 +76,7 @@ pub(crate) fn factor_column(
     let to = starts[j + 1] as usize;
     divide(values, kept, lower, from, to, d);
     let mut s = from;
+    // kept: a turn takes one row, or as many as `factor_rows` finds
     while s < to {
         if along(starts, rows, rows[s] as usize, s + 1, to) {
             row_along(starts, rows, diagonal, values, kept, lower, from, s, to);

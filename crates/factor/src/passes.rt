@@ -56,6 +56,7 @@ pub(crate) fn forward_columns(starts: &[u32], rows: &[u16], values: &[f64], vect
     ensures { vector.new ≡ forward (length vector.old) starts.now rows.now values.now vector.old }
 {
     let mut j = 0;
+    // kept: a turn takes one column or two
     while j < vector.len() {
         if followed(starts, rows, vector.len(), j) {
             forward_two(starts, rows, values, vector, j);

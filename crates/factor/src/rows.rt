@@ -50,6 +50,7 @@ fn less_down(
 {
     let mut t = from;
     let mut u = starts[k] as usize;
+    // kept: u goes on in every turn, t only where the rows agree
     while t < to {
         if rows[u] != rows[t] {
             u += 1;
