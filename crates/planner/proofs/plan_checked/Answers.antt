@@ -4,7 +4,6 @@ use mathlib.Core.List.{map, flatten}
 use Prim.Native.Nat.{◌≤◌}
 use native.Mathlib.Omega.{arith}
 use lib.ListN.{length, take}
-use borrow.Author.Rules.{rules}
 use Rattle.plan.specs.declared.PlanAnswer.TheVariants.{Accepted}
 use Rattle.plan.specs.Mesh.{lent}
 use Rattle.plan.specs.Elimination.{columns}
