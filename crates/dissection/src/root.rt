@@ -91,18 +91,16 @@ fn first_better(
     nodes: &[u16],
     root: Root,
     former: u16,
-    count: usize,
     found: &[u16],
     numbers: &mut [u16],
     queue: &mut [u16],
     irregular: bool,
 ) -> Root
     requires regional { Regional (lent n starts.now neighbours.now) nodes.now numbers.old queue.old × Measured (lent n starts.now neighbours.now) nodes.now root.node root.last root.width × (improves (lent n starts.now neighbours.now) nodes.now root.node former ≡ false) }
-    requires count_in_bounds { (count ≤ length found.now) × ((x : ℕ) → is_in x (take count found.now) ≡ true → is_in x nodes.now ≡ true) }
-    ensures { (result.node ≡ head_d (keep (improves (lent n starts.now neighbours.now) nodes.now root.node) (take count found.now)) root.node) × Better (lent n starts.now neighbours.now) nodes.now root.node result.node result.last result.width numbers.new }
+    requires inside { (x : ℕ) → is_in x found.now ≡ true → is_in x nodes.now ≡ true }
+    ensures { (result.node ≡ head_d (keep (improves (lent n starts.now neighbours.now) nodes.now root.node) found.now) root.node) × Better (lent n starts.now neighbours.now) nodes.now root.node result.node result.last result.width numbers.new }
 {
-    for c in 0..count {
-        let candidate = found[c];
+    for &candidate in found {
         if candidate == former {
             continue;
         }
@@ -139,7 +137,16 @@ fn improve(
         n, starts, neighbours, nodes, root, levels, trial, queue, found, irregular,
     );
     first_better(
-        n, starts, neighbours, nodes, root, former, count, found, trial, queue, irregular,
+        n,
+        starts,
+        neighbours,
+        nodes,
+        root,
+        former,
+        &found[..count],
+        trial,
+        queue,
+        irregular,
     )
 }
 
