@@ -138,6 +138,7 @@ fn advance(
     ensures { Spread n x hi numbers.old queue.old (λ v. exists (λ u. adjacent (lent n starts.now neighbours.now) u v) (segment queue.old lo hi)) numbers.new queue.new result }
 {
     let mut tail = hi;
+    // kept: k is a place of the queue, which the visits write behind hi while its places before hi are read
     for k in lo..hi {
         tail = visit(
             n,

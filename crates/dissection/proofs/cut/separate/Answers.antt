@@ -7,7 +7,7 @@ use borrow.Author.Rules.{rules}
 use Rattle.plan.specs.Mesh.{lent}
 use Rattle.theory.proofs.Lists.{is_in-get_or}
 use Rattle.dissection.proofs.Renumbering.{renumbering_none, renumbering_more, renumbering_all}
-use Rattle.dissection.proofs.Cuts.{left_out, left_out_next}
+use Rattle.dissection.proofs.Cuts.{left_out_next}
 use Rattle.dissection.proofs.cut.separate.Goals.{In-loop-v}
 use Rattle.dissection.proofs.cut.separate.Goals as goal
 

@@ -1,7 +1,6 @@
 -- `dissection::degrees::compare` meets its contract: a degree that is less is stored with its node.
 use mathlib.Core.Path.{◌≡◌, refl}
 use native.Mathlib.Omega.{arith}
-use lib.ListN.{get_or}
 use Rattle.plan.specs.Mesh.{lent}
 use Rattle.dissection.specs.Degrees.{degree_by}
 use Rattle.dissection.proofs.LeastDegrees.{compared_not, compared_more, compared_less}

@@ -1,10 +1,6 @@
 -- `dissection::levels::touch_unpredicted` meets its contract: by the laws of `Spread`.
-use native.Mathlib.Omega.{arith}
 use Rattle.dissection.proofs.Spreads.{spread_touch}
 use Rattle.dissection.proofs.levels.touch_unpredicted.Goals as goal
-
-pub overflow_add-result : goal.overflow_add-result
-overflow_add-result c = omega (arith, c.places.ensures.1, c.requires.2.room, c.requires.2.queue_long)
 
 pub returns : goal.returns
 returns c = rw (c.places.ensures.0, c.taken.ensures) (spread_touch c.requires.2 c.requires.0 c.requires.1)

@@ -1,5 +1,5 @@
 -- `dissection::numbers::renumber` meets its contract: the loop renumbers one node after the other.
-use mathlib.Core.Path.{◌≡◌, refl, ◌∙◌}
+use mathlib.Core.Path.{refl, ◌∙◌}
 use native.Mathlib.Omega.{arith}
 use lib.ListN.{get_or, length-set}
 use Rattle.theory.proofs.Lists.{is_in-get_or}
