@@ -2,7 +2,6 @@
 use mathlib.Core.Path.{◌≡◌, refl, sym, ap, ◌∙◌}
 use native.Mathlib.Omega.{arith}
 use lib.ListN.{length, get_or}
-use borrow.Author.Rules.{rules}
 use Rattle.plan.specs.Mesh.{lent}
 use Rattle.plan.specs.Choice.{improves}
 use Rattle.theory.proofs.Lists.{is_in-get_or}

@@ -2,7 +2,6 @@
 use mathlib.Core.Path.{sym, ap, ◌∙◌}
 use mathlib.Core.List.{List, head_d}
 use Prim.Native.Nat.{ℕ}
-use native.Mathlib.Omega.{arith}
 use Rattle.plan.specs.Lists.{is_in, keep}
 use Rattle.plan.specs.Mesh.{lent}
 use Rattle.plan.specs.Choice.{improves, next_root}
