@@ -15,7 +15,7 @@ use Rattle.plan.specs.Choice.{degree_in, lesser, least_from, least_degree}
 use Rattle.theory.specs.Checked.{Checked}
 use Rattle.theory.proofs.Bools.{tested, eq_or_ne}
 use Rattle.theory.proofs.Lists.{keep_more}
-use Rattle.theory.proofs.Counting.{unit, count_le, count_ext}
+use Rattle.theory.proofs.Counting.{count_le, count_ext}
 use Rattle.mesh.specs.Lists.{none}
 use Rattle.dissection.specs.Numbers.{outside, Within, grouped}
 use Rattle.dissection.specs.Standing.{Standing}
@@ -24,14 +24,6 @@ use Rattle.dissection.proofs.Grouped.{has_number, group_at}
 use Rattle.dissection.proofs.Standing.{number-inside}
 
 -- ---- the degree by the numbers
-
--- what a neighbour adds to it
-pub counted_unit : (x : ℕ) → cond (eqb x outside) 0 1 ≡ unit (not (eqb x outside))
-counted_unit x = go (eqb x outside)
-  where
-    go : (b : Bool) → cond b 0 1 ≡ unit (not b)
-    go true = refl
-    go false = refl
 
 -- no degree is as great as the number that stands for none: a list has at most 26 entries
 pub degree_few : (m : Mesh) → Checked m → (numbers : List ℕ) (v : ℕ) → degree_by m numbers v < none

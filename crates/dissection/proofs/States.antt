@@ -5,7 +5,7 @@ use mathlib.Core.Bool.{Bool, true, false≢true}
 use mathlib.Core.List.{List, [], ◌∷◌, ◌++◌, map, map-map, map-id, flatten, reverse, reverse_aux, append_assoc, append-nil, map-append, reverse-cons, reverse-append, reverse-reverse}
 use Prim.Native.Nat.{ℕ, zero, suc, ◌+◌, ◌-◌, ◌≤◌, ◌<◌}
 use native.Mathlib.Numerals.{add-one}
-use native.Mathlib.Nat.{sub-zero, zero-add}
+use native.Mathlib.Nat.{zero-add}
 use native.Mathlib.Omega.{arith}
 use lib.Dec.{eqb}
 use lib.ListN.{length, take, drop, set, get_or, replicate, length-append, length-drop, length-set, length-map, length-reverse}
@@ -496,8 +496,8 @@ holds-begin m orderHeld heads o h order_rest heads_rest order_long heads_long =
     }
 
 -- the nodes of a mesh, at the front of a list that they are written to
-pub first_below : (n : ℕ) (found l : List ℕ) → l ≡ written (below n) found → take (n - 0) l ≡ below n
-first_below n found l e = rw sub-zero (front-written n (below n) found l e (length-up_from n 0))
+pub first_below : (n : ℕ) (found l : List ℕ) → l ≡ written (below n) found → take n l ≡ below n
+first_below n found l e = front-written n (below n) found l e (length-up_from n 0)
 
 -- where each of them is made fresh, all nodes are
 pub all-fresh : (n : ℕ) {nodes : List ℕ} (old new : List ℕ) → nodes ≡ below n → Renumbered (λ _. fresh) nodes old new → fresh_of n new ≡ below n

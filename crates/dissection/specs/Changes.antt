@@ -1,7 +1,5 @@
 -- What the functions that renumber the nodes of a list make of a number.
 use Rattle.std.specs.Prelude.{cond, ℕ, eqb}
-use Rattle.dissection.specs.declared.numbers.Change.{Change}
-use Rattle.dissection.specs.declared.numbers.Change.TheVariants.{OnlyLevel, RestFresh, PartNumbered}
 use Rattle.dissection.specs.Numbers.{fresh, outside}
 
 -- the number of a node once only level `last` stays: fresh in it, outside elsewhere
@@ -15,9 +13,3 @@ rest_fresh x = cond (eqb x outside) outside fresh
 -- the number of a node once those that were left out have number k
 abbrev pub part_numbered : ℕ → ℕ → ℕ
 part_numbered k x = cond (eqb x outside) k x
-
--- by the kind of the change
-abbrev pub changed_by : Change → ℕ → ℕ
-changed_by (OnlyLevel last) x = only_level last x
-changed_by RestFresh x = rest_fresh x
-changed_by (PartNumbered k) x = part_numbered k x

@@ -9,22 +9,18 @@ ghost use Rattle.dissection.specs.Standing.{Regional, Standing, separates_at, Pa
 ghost use Rattle.dissection.specs.Rooted.{Rooted};
 
 use crate::levels::label;
-use crate::numbers::{Change, OUTSIDE, fill, renumber};
+use crate::numbers::{FRESH, OUTSIDE, fill, renumber};
 use crate::root::search;
-use mesh::{list, wide};
+use mesh::list;
 
 // Whether node v has a neighbour with number x. n is for the contract alone. O(degree).
 fn next_to(n: usize, starts: &[u32], neighbours: &[u16], v: usize, x: u16, numbers: &[u16]) -> bool
     requires { Checked (lent n starts.now neighbours.now) × (v < n) × (n ≤ length numbers.now) }
     ensures { result ≡ exists (λ w. eqb (get_or numbers.now w 0) x) (neighbours_of (lent n starts.now neighbours.now) v) }
 {
-    let entries = list(starts, neighbours, v);
-    for k in 0..entries.len() {
-        if numbers[wide(entries[k])] == x {
-            return true;
-        }
-    }
-    false
+    list(starts, neighbours, v)
+        .iter()
+        .any(|&w| numbers[w as usize] == x)
 }
 
 // Whether node v has number j and a neighbour with number j + 1. O(degree).
@@ -39,10 +35,7 @@ fn separates(
     requires { Checked (lent n starts.now neighbours.now) × (v < n) × (n ≤ length numbers.now) × (j < n) }
     ensures { result ≡ separates_at (lent n starts.now neighbours.now) j numbers.now v }
 {
-    if numbers[v] != j {
-        return false;
-    }
-    next_to(n, starts, neighbours, v, j + 1, numbers)
+    numbers[v] == j && next_to(n, starts, neighbours, v, j + 1, numbers)
 }
 
 // The number of node v where the separator has been left out. O(degree).
@@ -51,9 +44,10 @@ fn separated(n: usize, starts: &[u32], neighbours: &[u16], v: usize, j: u16, num
     ensures { result ≡ cond (separates_at (lent n starts.now neighbours.now) j numbers.now v) outside (get_or numbers.now v 0) }
 {
     if separates(n, starts, neighbours, v, j, numbers) {
-        return OUTSIDE;
+        OUTSIDE
+    } else {
+        numbers[v]
     }
-    numbers[v]
 }
 
 // The nodes of the separator, those of level j that have a neighbour in level j + 1, are left out. In place: a number that changes is j, and only j
@@ -69,8 +63,8 @@ fn separate(
     requires { Checked (lent n starts.now neighbours.now) × Within n nodes.now × (n ≤ length numbers.old) × (j < n) }
     ensures { NumberedBy (λ v. cond (separates_at (lent n starts.now neighbours.now) j numbers.old v) outside (get_or numbers.old v 0)) nodes.now numbers.old numbers.new }
 {
-    for i in 0..nodes.len() {
-        let v = wide(nodes[i]);
+    for &v in nodes {
+        let v = v as usize;
         numbers[v] = separated(n, starts, neighbours, v, j, numbers);
     }
 }
@@ -94,7 +88,11 @@ fn choose(
         return;
     }
     separate(n, starts, neighbours, nodes, (last + 1) / 2, numbers);
-    renumber(nodes, Change::RestFresh, numbers);
+    renumber(
+        nodes,
+        |x| if x == OUTSIDE { OUTSIDE } else { FRESH },
+        numbers,
+    );
 }
 
 // A region divided: the nodes of the regions left get the numbers 0, 1, .. of their regions, by smallest node, and those of the part the number
@@ -122,6 +120,6 @@ pub(crate) fn divide(
         n, starts, neighbours, nodes, at, numbers, queue, begins, irregular,
     );
     let part = count as u16;
-    renumber(nodes, Change::PartNumbered(part), numbers);
+    renumber(nodes, |x| if x == OUTSIDE { part } else { x }, numbers);
     count
 }

@@ -7,29 +7,17 @@ ghost use Rattle.dissection.specs.Numbers.{outside, Within, grouped};
 ghost use Rattle.dissection.specs.Degrees.{degree_by, Compared, Leads};
 
 use crate::numbers::OUTSIDE;
-use mesh::{NONE, list, wide};
-
-// What a neighbour with this number adds to a degree: one where it is in the region, nothing where it is outside. O(1).
-fn counted(x: u16) -> u16
-    ensures { result ≡ cond (eqb x outside) 0 1 }
-{
-    if x == OUTSIDE {
-        return 0;
-    }
-    1
-}
+use mesh::{NONE, list};
 
 // The degree of node v in the region whose nodes are not outside in `region`. n is for the contract alone. O(entries of v).
 fn degree(n: usize, starts: &[u32], neighbours: &[u16], v: usize, region: &[u16]) -> u16
     requires { Checked (lent n starts.now neighbours.now) × (v < n) × (n ≤ length region.now) }
     ensures { result ≡ degree_by (lent n starts.now neighbours.now) region.now v }
 {
-    let entries = list(starts, neighbours, v);
-    let mut sum: u16 = 0;
-    for k in 0..entries.len() {
-        sum += counted(region[wide(entries[k])]);
-    }
-    sum
+    list(starts, neighbours, v)
+        .iter()
+        .filter(|&&w| region[w as usize] != OUTSIDE)
+        .count() as u16
 }
 
 // Node v takes the lead of its group, where it is in one of the first `count`, if its degree is less than the least so far. O(entries of v).
@@ -47,8 +35,8 @@ fn compare(
     requires { Checked (lent n starts.now neighbours.now) × (v < n) × (n ≤ length region.now) × (n ≤ length groups.now) × (count ≤ length best.old) × (count ≤ length degrees.old) }
     ensures { Compared (degree_by (lent n starts.now neighbours.now) region.now) v groups.now count best.old degrees.old best.new degrees.new }
 {
-    let u = wide(v);
-    let c = wide(groups[u]);
+    let u = v as usize;
+    let c = groups[u] as usize;
     if c >= count {
         return;
     }
@@ -64,9 +52,7 @@ fn clear(count: usize, degrees: &mut [u16])
     requires { count ≤ length degrees.old }
     ensures { (c : ℕ) → c < count → get_or degrees.new c 0 ≡ none }
 {
-    for c in 0..count {
-        degrees[c] = NONE;
-    }
+    degrees[..count].fill(NONE);
 }
 
 // In each of the first `count` groups of the nodes a node of least degree, the smallest on a tie, and its degree.
@@ -86,9 +72,9 @@ pub(crate) fn least(
     ensures { (c : ℕ) → c < count → Leads (degree_by (lent n starts.now neighbours.now) region.now) (get_or (grouped count groups.now nodes.now) c []) (get_or best.new c 0) (get_or degrees.new c 0) }
 {
     clear(count, degrees);
-    for i in 0..nodes.len() {
+    for &v in nodes {
         compare(
-            n, starts, neighbours, nodes[i], region, groups, count, best, degrees,
+            n, starts, neighbours, v, region, groups, count, best, degrees,
         );
     }
 }

@@ -7,22 +7,12 @@ ghost use Rattle.dissection.specs.Numbers.{fresh, fresh_of, Within, Walked, Skip
 ghost use Rattle.dissection.specs.Spread.{Spread, Room};
 
 use crate::numbers::{FRESH, fill};
-use mesh::{list, wide};
+use mesh::list;
 
 // A mesh with no longer list is a path, a tree, a grid or a regular triangulation, as a rule: the processor learns which entries are fresh.
 const REGULAR: usize = 6;
 // Of longer lists nearly all entries are reached already, and the processor learns that.
 const SHORT: usize = 15;
-
-// The greater of two numbers. O(1).
-fn greater(a: usize, b: usize) -> usize
-    ensures { result ≡ max a b }
-{
-    if a < b {
-        return b;
-    }
-    a
-}
 
 // Whether nothing predicts which entries of a list are fresh: a guess by the longest list, for speed alone, on which no promise rests. O(n).
 pub(crate) fn is_irregular(n: usize, starts: &[u32], neighbours: &[u16]) -> bool
@@ -30,8 +20,7 @@ pub(crate) fn is_irregular(n: usize, starts: &[u32], neighbours: &[u16]) -> bool
 {
     let mut longest: usize = 0;
     for v in 0..n {
-        let entries = list(starts, neighbours, v);
-        longest = greater(longest, entries.len());
+        longest = longest.max(list(starts, neighbours, v).len());
     }
     REGULAR < longest && longest <= SHORT
 }
@@ -40,20 +29,14 @@ pub(crate) fn is_irregular(n: usize, starts: &[u32], neighbours: &[u16]) -> bool
 fn taken(old: u16, x: u16) -> u16
     ensures { result ≡ cond (eqb old fresh) x old }
 {
-    if old == FRESH {
-        return x;
-    }
-    old
+    if old == FRESH { x } else { old }
 }
 
 // How many places a node with this number takes in the queue: one where it is fresh, none elsewhere. O(1).
 fn places(old: u16) -> usize
     ensures { (result ≡ cond (eqb old fresh) 1 0) × (result ≤ 1) }
 {
-    if old == FRESH {
-        return 1;
-    }
-    0
+    usize::from(old == FRESH)
 }
 
 // One entry, where nothing predicts whether a node is fresh: node w gets number x and a place in the queue if it is. Nothing is jumped over: the place
@@ -69,7 +52,7 @@ fn touch_unpredicted(
     requires { (w < n) × (x < fresh) × Room n numbers.old queue.old tail }
     ensures { Spread n x tail numbers.old queue.old (λ v. eqb v w) numbers.new queue.new result }
 {
-    let v = wide(w);
+    let v = w as usize;
     let old = numbers[v];
     queue[tail] = w;
     numbers[v] = taken(old, x);
@@ -88,7 +71,7 @@ fn touch_predicted(
     requires { (w < n) × (x < fresh) × Room n numbers.old queue.old tail }
     ensures { Spread n x tail numbers.old queue.old (λ v. eqb v w) numbers.new queue.new result }
 {
-    let v = wide(w);
+    let v = w as usize;
     if numbers[v] != FRESH {
         return tail;
     }
@@ -131,10 +114,9 @@ fn visit(
     requires { Checked (lent n starts.now neighbours.now) × (u < n) × (x < fresh) × Room n numbers.old queue.old tail }
     ensures { Spread n x tail numbers.old queue.old (adjacent (lent n starts.now neighbours.now) u) numbers.new queue.new result }
 {
-    let entries = list(starts, neighbours, u);
     let mut end = tail;
-    for k in 0..entries.len() {
-        end = touch(n, entries[k], x, numbers, queue, end, irregular);
+    for &w in list(starts, neighbours, u) {
+        end = touch(n, w, x, numbers, queue, end, irregular);
     }
     end
 }
@@ -156,12 +138,13 @@ fn advance(
     ensures { Spread n x hi numbers.old queue.old (λ v. exists (λ u. adjacent (lent n starts.now neighbours.now) u v) (segment queue.old lo hi)) numbers.new queue.new result }
 {
     let mut tail = hi;
+    // kept: k is a place of the queue, which the visits write behind hi while its places before hi are read
     for k in lo..hi {
         tail = visit(
             n,
             starts,
             neighbours,
-            wide(queue[k]),
+            queue[k] as usize,
             x,
             numbers,
             queue,
@@ -193,8 +176,7 @@ pub(crate) fn walk(
     requires { Checked (lent n starts.now neighbours.now) × (root < n) × (get_or numbers.old root 0 ≡ fresh) × (n ≤ length numbers.old) × (n < length queue.old) }
     ensures { Walked n (adjacent (lent n starts.now neighbours.now)) (fresh_of n numbers.old) root numbers.old numbers.new queue.new result.last result.width result.reached }
 {
-    let first = wide(root);
-    numbers[first] = 0;
+    numbers[root as usize] = 0;
     queue[0] = root;
     let mut last: u16 = 0;
     let mut width: usize = 1;
@@ -215,7 +197,7 @@ pub(crate) fn walk(
         if tail <= hi {
             break;
         }
-        width = greater(width, tail - hi);
+        width = width.max(tail - hi);
         lo = hi;
         hi = tail;
         last += 1;
@@ -244,12 +226,11 @@ fn component(
     requires count_lt_n { (get_or numbers.old v 0 ≡ fresh → count < n) × (get_or begins.old count 0 ≤ n + n) }
     ensures { Skipped v numbers.old numbers.new begins.old begins.new count result ⊎ Taken n (adjacent (lent n starts.now neighbours.now)) v numbers.old numbers.new begins.old begins.new count result }
 {
-    if numbers[wide(v)] != FRESH {
+    if numbers[v as usize] != FRESH {
         return count;
     }
-    let r = walk(n, starts, neighbours, v, numbers, queue, irregular);
-    let reached = r.reached;
-    fill(&queue[0..reached], count as u16, numbers);
+    let reached = walk(n, starts, neighbours, v, numbers, queue, irregular).reached;
+    fill(&queue[..reached], count as u16, numbers);
     begins[count + 1] = begins[count] + reached as u16;
     count + 1
 }
@@ -274,9 +255,9 @@ pub(crate) fn label(
 {
     begins[0] = at;
     let mut count: usize = 0;
-    for i in 0..nodes.len() {
+    for &v in nodes {
         count = component(
-            n, starts, neighbours, nodes[i], numbers, queue, begins, count, irregular,
+            n, starts, neighbours, v, numbers, queue, begins, count, irregular,
         );
     }
     count

@@ -5,7 +5,7 @@ ghost use Rattle.plan.specs.Mesh.{max_nodes, no_parent};
 ghost use Rattle.plan.specs.Steps.{by_number};
 ghost use Rattle.dissection.specs.Blocks.{leading, block_sizes, block_parents, Heads};
 
-use crate::state::{INNER, copy};
+use crate::state::INNER;
 use plan::Plan;
 
 // The place behind the block that begins at place `at`. O(its length).
@@ -13,12 +13,7 @@ fn block_end(n: usize, heads: &[u16], at: usize) -> usize
     requires { (at < n) × (n ≤ length heads.now) }
     ensures { result ≡ at + 1 + leading (drop (at + 1) (take n heads.now)) }
 {
-    for e in at + 1..n {
-        if heads[e] != INNER {
-            return e;
-        }
-    }
-    n
+    at + 1 + heads[at + 1..n].iter().take_while(|&&h| h == INNER).count()
 }
 
 // A parent by its number as a part: the part chosen as number k (from 0) is part count − 1 − k. O(1).
@@ -57,5 +52,5 @@ pub fn write_order(n: usize, held: &[u16], order: &mut [u16])
     requires { (n ≤ length held.now) × (n ≤ length order.old) }
     ensures { order.new ≡ written (take n held.now) order.old }
 {
-    copy(&held[0..n], order);
+    order[..n].copy_from_slice(&held[..n]);
 }

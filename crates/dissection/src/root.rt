@@ -10,7 +10,7 @@ ghost use Rattle.dissection.specs.Rooted.{Rooted, Measured, Better};
 
 use crate::degrees::least;
 use crate::levels::{label, walk};
-use crate::numbers::{Change, FRESH, OUTSIDE, fill, renumber, transfer};
+use crate::numbers::{FRESH, OUTSIDE, fill, renumber, transfer};
 
 // A root with the number of its last level (document 01: ℓ) and the node count of its widest level.
 #[derive(Clone, Copy)]
@@ -47,7 +47,8 @@ fn candidates(
     ensures { (take result found.new ≡ candidates_of (lent n starts.now neighbours.now) nodes.now root.node) × (result ≤ n) × Only n nodes.now trial.new }
 {
     transfer(nodes, levels, trial);
-    renumber(nodes, Change::OnlyLevel(root.last), trial);
+    let last = root.last;
+    renumber(nodes, |x| if x == last { FRESH } else { OUTSIDE }, trial);
     let count = label(
         n, starts, neighbours, nodes, 0, trial, queue, found, irregular,
     );
@@ -74,12 +75,10 @@ fn levels_from(
 {
     fill(nodes, FRESH, numbers);
     let w = walk(n, starts, neighbours, r, numbers, queue, irregular);
-    let last = w.last;
-    let width = w.width;
     Root {
         node: r,
-        last,
-        width,
+        last: w.last,
+        width: w.width,
     }
 }
 
@@ -92,18 +91,16 @@ fn first_better(
     nodes: &[u16],
     root: Root,
     former: u16,
-    count: usize,
     found: &[u16],
     numbers: &mut [u16],
     queue: &mut [u16],
     irregular: bool,
 ) -> Root
     requires regional { Regional (lent n starts.now neighbours.now) nodes.now numbers.old queue.old × Measured (lent n starts.now neighbours.now) nodes.now root.node root.last root.width × (improves (lent n starts.now neighbours.now) nodes.now root.node former ≡ false) }
-    requires count_in_bounds { (count ≤ length found.now) × ((x : ℕ) → is_in x (take count found.now) ≡ true → is_in x nodes.now ≡ true) }
-    ensures { (result.node ≡ head_d (keep (improves (lent n starts.now neighbours.now) nodes.now root.node) (take count found.now)) root.node) × Better (lent n starts.now neighbours.now) nodes.now root.node result.node result.last result.width numbers.new }
+    requires inside { (x : ℕ) → is_in x found.now ≡ true → is_in x nodes.now ≡ true }
+    ensures { (result.node ≡ head_d (keep (improves (lent n starts.now neighbours.now) nodes.now root.node) found.now) root.node) × Better (lent n starts.now neighbours.now) nodes.now root.node result.node result.last result.width numbers.new }
 {
-    for c in 0..count {
-        let candidate = found[c];
+    for &candidate in found {
         if candidate == former {
             continue;
         }
@@ -140,7 +137,16 @@ fn improve(
         n, starts, neighbours, nodes, root, levels, trial, queue, found, irregular,
     );
     first_better(
-        n, starts, neighbours, nodes, root, former, count, found, trial, queue, irregular,
+        n,
+        starts,
+        neighbours,
+        nodes,
+        root,
+        former,
+        &found[..count],
+        trial,
+        queue,
+        irregular,
     )
 }
 

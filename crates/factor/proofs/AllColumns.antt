@@ -9,7 +9,7 @@ use native.Mathlib.Omega.{arith}
 use lib.Dec.{ltb}
 use lib.IntN.{ℤ}
 use lib.ListN.{length, get_or}
-use lib.Ieee.{Float, nan, inf, fin, lt, div, of_bits, binary64, up, down}
+use lib.Ieee.{Float, nan, inf, fin, lt, of_bits, binary64, up, down}
 use lib.Ieee.Positive.{positive}
 use lib.Ieee.Fits.{up_pos}
 use borrow.Author.Tests.{lt-ltb}
@@ -31,20 +31,20 @@ zero_below (suc m) x =
     lt-ltb (0 * down x) (suc m * up x * 1) (rw zero-mul (omega arith)) ∙ sym (lt-ltb 0 (suc m) (omega arith))
 
 -- above zero and below the infinity is finite and above zero
-pub positive-inside : (d : Float) → lt (of_bits binary64 0) d ≡ true → lt d (div binary64 (of_bits binary64 0x3ff0_0000_0000_0000) (of_bits binary64 0)) ≡ positive d
-unfolding lt div of_bits
+pub positive-inside : (d : Float) → lt (of_bits binary64 0) d ≡ true → lt d (of_bits binary64 0x7ff0_0000_0000_0000) ≡ positive d
+unfolding of_bits lt
 positive-inside nan e = refl
 positive-inside (inf true) e = sym e
 positive-inside (inf false) e = refl
 positive-inside (fin true m x) e = sym e
 positive-inside (fin false m x) e = sym e ∙ zero_below m x
 
-pub positive-outside : (d : Float) → lt (of_bits binary64 0) d ≡ false → false ≡ positive d
+pub positive-outside : (d : Float) → lt (of_bits binary64 0) d ≡ false → lt (of_bits binary64 0) d ≡ positive d
 unfolding lt of_bits
-positive-outside nan e = refl
-positive-outside (inf s) e = refl
-positive-outside (fin true m x) e = refl
-positive-outside (fin false m x) e = sym e ∙ zero_below m x
+positive-outside nan e = e
+positive-outside (inf s) e = e
+positive-outside (fin true m x) e = e
+positive-outside (fin false m x) e = zero_below m x
 
 -- a product that fits
 pub product_few : (c : ℕ) → c ≤ max_nodes → c * (c + 3) ≤ 4096 * 4099

@@ -208,6 +208,10 @@ module _ (n : ℕ) (starts rows : List ℕ) (plan : Covering n starts rows) (l :
         omega (arith, row, same_row s t h.low lt h.beside, h.long, long),
       )
 
+  -- column j has a row
+  pub has-row : from < to
+  has-row = omega (arith, counts)
+
   -- the first slot is one
   pub first-inside : from < length rows
   first-inside = omega (arith, counts, slot_inside n starts rows plan j first)

@@ -6,7 +6,6 @@ ghost use Rattle.factor.specs.Down.{Keeps};
 ghost use Rattle.factor.specs.Working.{AtRow, Advanced, Ready, Worked};
 
 use crate::rows::{along, continues, row_along, row_down, row_known};
-use mesh::{index, wide};
 
 // The values in slots from .. to are kept, each is divided by the pivot, and what comes of it is kept in `lower` beside. O(to − from).
 fn divide(values: &mut [f64], kept: &mut [f64], lower: &mut [f64], from: usize, to: usize, d: f64)
@@ -14,13 +13,11 @@ fn divide(values: &mut [f64], kept: &mut [f64], lower: &mut [f64], from: usize, 
     ensures values_after { values.new ≡ divided (up_from from (to - from)) d values.old }
     ensures keeps { Keeps kept.new values.old from to × Keeps lower.new values.new from to }
 {
-    let mut s = from;
-    while s < to {
+    for s in from..to {
         let l = values[s] / d;
         kept[s - from] = values[s];
         lower[s - from] = l;
         values[s] = l;
-        s += 1;
     }
 }
 
@@ -44,22 +41,20 @@ fn factor_rows(
     row_down(
         starts, rows, diagonal, values, kept, lower, places, first, s, to,
     );
-    let mut k = wide(rows[s]);
+    let mut k = rows[s] as usize;
     let mut shift = 0;
-    let mut at = s + 1;
-    while at < to {
-        let next = wide(rows[at]);
+    for at in s + 1..to {
+        let next = rows[at] as usize;
         if !continues(starts, rows, k, next) {
             return at;
         }
-        shift += index(starts[next]) - index(starts[k]) - 1;
+        shift += starts[next] as usize - starts[k] as usize - 1;
         row_known(
             starts, rows, diagonal, values, kept, lower, places, first, at, to, shift,
         );
         k = next;
-        at += 1;
     }
-    at
+    to
 }
 
 // The work of column j with pivot d; `kept`, `lower` and `places` are working memory. O(products + rows of the columns that are run down).
@@ -77,12 +72,13 @@ pub(crate) fn factor_column(
     requires { Ready starts.now rows.now (length diagonal.old) (length values.old) (length kept.old) (length lower.old) (length places.old) j }
     ensures { Worked starts.now rows.now j d diagonal.old values.old diagonal.new values.new }
 {
-    let from = index(starts[j]);
-    let to = index(starts[j + 1]);
+    let from = starts[j] as usize;
+    let to = starts[j + 1] as usize;
     divide(values, kept, lower, from, to, d);
     let mut s = from;
+    // kept: a turn takes one row, or as many as `factor_rows` finds
     while s < to {
-        if along(starts, rows, wide(rows[s]), s + 1, to) {
+        if along(starts, rows, rows[s] as usize, s + 1, to) {
             row_along(starts, rows, diagonal, values, kept, lower, from, s, to);
             s += 1;
             continue;

@@ -6,7 +6,6 @@ ghost use Rattle.plan.specs.Factoring.{column_operations, zero_report, open_repo
 ghost use Rattle.factor.specs.Working.{Lent, Reached};
 
 use crate::column::factor_column;
-use mesh::index;
 use plan::{FactorAnswer, Plan, Report};
 
 // A refusal, with a report of zeros. O(1).
@@ -23,10 +22,7 @@ pub(crate) fn refused(number: u32) -> FactorAnswer
 pub(crate) fn is_pivot(d: f64) -> bool
     ensures { result ≡ positive d }
 {
-    if 0.0 < d {
-        return d < 1.0 / 0.0;
-    }
-    false
+    0.0 < d && d < f64::INFINITY
 }
 
 // The multiplications and divisions of a column of c rows. O(1).
@@ -42,9 +38,7 @@ fn operations(starts: &[u32], j: usize) -> u64
     requires { (j + 1 < length starts.now) × (get_or starts.now j 0 ≤ get_or starts.now (j + 1) 0) × (get_or starts.now (j + 1) 0 - get_or starts.now j 0 ≤ max_nodes) }
     ensures { result ≡ column_operations starts.now j }
 {
-    let a = index(starts[j]);
-    let b = index(starts[j + 1]);
-    work(b - a)
+    work(starts[j + 1] as usize - starts[j] as usize)
 }
 
 // The columns, with the report after each. O(4,096 + multiplications + rows of the columns that are run down).
@@ -62,8 +56,7 @@ pub(crate) fn factor_columns(
     let mut lower = [0.0; Plan::NODES];
     let mut places = [0; Plan::NODES];
     let mut report = Report::open();
-    let mut j = 0;
-    while j < diagonal.len() {
+    for j in 0..diagonal.len() {
         let d = diagonal[j];
         if !is_pivot(d) {
             return refused(31);
@@ -80,7 +73,6 @@ pub(crate) fn factor_columns(
             d,
         );
         report = report.after(d, operations(starts, j));
-        j += 1;
     }
     FactorAnswer { refusal: 0, report }
 }

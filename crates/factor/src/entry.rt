@@ -9,13 +9,11 @@ use plan::FactorAnswer;
 use planfile::supplied_refusal;
 
 // Check 30: a value buffer has another length than needed. O(1).
+#[tactic(auto, unfolding(plan::specs::Factoring::bad_filling))]
 pub(crate) fn bad_filling(n: usize, s: usize, diagonal: &[f64], values: &[f64]) -> bool
     ensures { result ≡ bad_filling n s (record { diagonal = diagonal.now; values = values.now }) }
 {
-    if diagonal.len() != n {
-        return true;
-    }
-    values.len() != s
+    diagonal.len() != n || values.len() != s
 }
 
 // The first refusal of the checks before the first column, 0 for none. O(4,096 + slots + the first rows' columns).

@@ -5,7 +5,6 @@ ghost use Rattle.plan.specs.Held.{held_question};
 
 use crate::entry::bad_filling;
 use layout::slot_of_pair;
-use mesh::index;
 use plan::{HeldAnswer, PairAnswer};
 
 // The number of a refusal by a check before 21, which are 1 and 22, and 0 for any other answer. O(1).
@@ -38,11 +37,11 @@ pub fn held_at(
     if fault != 0 {
         return HeldAnswer::Refused(fault);
     }
-    if bad_filling(n, index(column_starts[n]), diagonal, values) {
+    if bad_filling(n, column_starts[n] as usize, diagonal, values) {
         return HeldAnswer::Refused(30);
     }
     match answer {
-        PairAnswer::Slot(s) => HeldAnswer::Value(values[index(s)]),
+        PairAnswer::Slot(s) => HeldAnswer::Value(values[s as usize]),
         PairAnswer::Diagonal => HeldAnswer::Value(diagonal[a]),
         PairAnswer::NoSlot => HeldAnswer::NoSlot,
         PairAnswer::Refused(number) => HeldAnswer::Refused(number),

@@ -6,7 +6,6 @@ ghost use Rattle.factor.specs.Down.{continued};
 ghost use Rattle.factor.specs.Passing.{Filled};
 
 use crate::rows::continues;
-use mesh::{index, wide};
 
 // Column j: l times its entry is subtracted from each row's. O(rows of the column).
 fn forward_column(starts: &[u32], rows: &[u16], values: &[f64], vector: &mut [f64], j: usize)
@@ -14,12 +13,9 @@ fn forward_column(starts: &[u32], rows: &[u16], values: &[f64], vector: &mut [f6
     ensures { vector.new ≡ forward_column starts.now rows.now values.now j vector.old }
 {
     let x = vector[j];
-    let to = index(starts[j + 1]);
-    let mut s = index(starts[j]);
-    while s < to {
-        let i = wide(rows[s]);
+    for s in starts[j] as usize..starts[j + 1] as usize {
+        let i = rows[s] as usize;
         vector[i] = vector[i] - values[s] * x;
-        s += 1;
     }
 }
 
@@ -40,18 +36,17 @@ fn forward_two(starts: &[u32], rows: &[u16], values: &[f64], vector: &mut [f64],
     requires j_value { continued starts.now rows.now j (j + 1) ≡ true }
     ensures { vector.new ≡ forward_column starts.now rows.now values.now (j + 1) (forward_column starts.now rows.now values.now j vector.old) }
 {
-    let to = index(starts[j + 1]);
-    let from = index(starts[j]);
+    let to = starts[j + 1] as usize;
+    let from = starts[j] as usize;
     let x = vector[j];
     let z = vector[j + 1] - values[from] * x;
     vector[j + 1] = z;
-    let mut s = from + 1;
-    let mut t = to;
-    while s < to {
-        let i = wide(rows[t]);
+    // in the next column a row's slot is so far ahead
+    let ahead = to - from - 1;
+    for s in from + 1..to {
+        let t = s + ahead;
+        let i = rows[t] as usize;
         vector[i] = vector[i] - values[s] * x - values[t] * z;
-        s += 1;
-        t += 1;
     }
 }
 
@@ -61,6 +56,7 @@ pub(crate) fn forward_columns(starts: &[u32], rows: &[u16], values: &[f64], vect
     ensures { vector.new ≡ forward (length vector.old) starts.now rows.now values.now vector.old }
 {
     let mut j = 0;
+    // kept: a turn takes one column or two
     while j < vector.len() {
         if followed(starts, rows, vector.len(), j) {
             forward_two(starts, rows, values, vector, j);
@@ -77,10 +73,8 @@ pub(crate) fn scale(pivots: &[f64], vector: &mut [f64])
     requires { length vector.old ≤ length pivots.now }
     ensures { vector.new ≡ scaled (length vector.old) pivots.now vector.old }
 {
-    let mut j = 0;
-    while j < vector.len() {
-        vector[j] = vector[j] / pivots[j];
-        j += 1;
+    for (j, x) in vector.iter_mut().enumerate() {
+        *x = *x / pivots[j];
     }
 }
 
@@ -89,12 +83,9 @@ fn backward_column(starts: &[u32], rows: &[u16], values: &[f64], vector: &mut [f
     requires { Filled starts.now rows.now (length values.now) (length vector.old) × (j < length vector.old) }
     ensures { vector.new ≡ backward_column starts.now rows.now values.now j vector.old }
 {
-    let to = index(starts[j + 1]);
-    let mut s = index(starts[j]);
     let mut x = vector[j];
-    while s < to {
-        x = x - values[s] * vector[wide(rows[s])];
-        s += 1;
+    for s in starts[j] as usize..starts[j + 1] as usize {
+        x = x - values[s] * vector[rows[s] as usize];
     }
     vector[j] = x;
 }
@@ -104,9 +95,7 @@ pub(crate) fn backward_columns(starts: &[u32], rows: &[u16], values: &[f64], vec
     requires { Filled starts.now rows.now (length values.now) (length vector.old) }
     ensures { vector.new ≡ backward (length vector.old) starts.now rows.now values.now vector.old }
 {
-    let mut j = vector.len();
-    while j > 0 {
-        j -= 1;
+    for j in (0..vector.len()).rev() {
         backward_column(starts, rows, values, vector, j);
     }
 }

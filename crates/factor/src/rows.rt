@@ -7,8 +7,6 @@ ghost use Rattle.plan.specs.Lists.{up_from};
 ghost use Rattle.factor.specs.Down.{less_down, Keeps, Beside, along_front, Placed, continued};
 ghost use Rattle.factor.specs.Working.{AtRow, Advanced, Twins};
 
-use mesh::{index, wide};
-
 // The slots from .. to of a column's rows behind row k, which are the first rows of column k: l of each times v is subtracted in the slot that its row
 // has there. `rows` is for the contract alone. O(to − from), several at once where the machine can.
 fn less_along(
@@ -26,12 +24,10 @@ fn less_along(
     requires to_value { along_front starts.now rows.now k from to ≡ true }
     ensures { (l : List Float) → Keeps lower.now l first to → values.new ≡ less_down starts.now rows.now l k v (up_from from (to - from)) values.old }
 {
-    let mut t = from;
-    let mut u = index(starts[k]);
-    while t < to {
+    let start = starts[k] as usize;
+    for t in from..to {
+        let u = start + (t - from);
         values[u] = values[u] - lower[t - first] * v;
-        t += 1;
-        u += 1;
     }
 }
 
@@ -53,7 +49,8 @@ fn less_down(
     ensures placed { Placed places.new starts.now rows.now k first (get_or starts.now k 0) from to }
 {
     let mut t = from;
-    let mut u = index(starts[k]);
+    let mut u = starts[k] as usize;
+    // kept: u goes on in every turn, t only where the rows agree
     while t < to {
         if rows[u] != rows[t] {
             u += 1;
@@ -84,38 +81,31 @@ fn less_known(
     requires shift_bound { (shift ≤ get_or starts.now k 0) × Placed places.now starts.now rows.now k first (get_or starts.now k 0 - shift) from to }
     ensures { (l : List Float) → Keeps lower.now l first to → values.new ≡ less_down starts.now rows.now l k v (up_from from (to - from)) values.old }
 {
-    let mut t = from;
-    while t < to {
-        let u = index(places[t - first]) + shift;
+    for t in from..to {
+        let u = places[t - first] as usize + shift;
         values[u] = values[u] - lower[t - first] * v;
-        t += 1;
     }
 }
 
 // Whether the rows in the slots from .. to, all of them rows of column k, are its first: their last one tells. O(1).
+#[tactic(auto, unfolding(crate::specs::Down::along_front))]
 pub(crate) fn along(starts: &[u32], rows: &[u16], k: usize, from: usize, to: usize) -> bool
     requires { (k < length starts.now) × (from ≤ to) × (to ≤ length rows.now) × (get_or starts.now k 0 + (to - from) ≤ length rows.now) }
     ensures { result ≡ along_front starts.now rows.now k from to }
 {
-    if to == from {
-        return true;
-    }
-    let last = index(starts[k]) + (to - from) - 1;
-    rows[last] == rows[to - 1]
+    to == from || rows[starts[k] as usize + (to - from) - 1] == rows[to - 1]
 }
 
 // Whether column k has `next` for its first row, and besides as many rows as column `next`. O(1).
+#[tactic(auto, unfolding(crate::specs::Down::continued))]
 pub(crate) fn continues(starts: &[u32], rows: &[u16], k: usize, next: usize) -> bool
     requires { Twins starts.now rows.now k next }
     ensures { result ≡ continued starts.now rows.now k next }
 {
-    let start = index(starts[k]);
-    if wide(rows[start]) != next {
-        return false;
-    }
-    let rows_of_k = index(starts[k + 1]) - start;
-    let rows_of_next = index(starts[next + 1]) - index(starts[next]);
-    rows_of_k == rows_of_next + 1
+    let start = starts[k] as usize;
+    let rows_of_k = starts[k + 1] as usize - start;
+    let rows_of_next = starts[next + 1] as usize - starts[next] as usize;
+    rows[start] as usize == next && rows_of_k == rows_of_next + 1
 }
 
 // The row in slot s, with itself and with the rows behind it, which are the first of its column: l of each times v of the row is subtracted at the pair.
@@ -135,7 +125,7 @@ pub(crate) fn row_along(
     requires to_value { along_front starts.now rows.now (get_or rows.now s 0) (s + 1) to ≡ true }
     ensures { Advanced starts.now rows.now kept.now lower.now first to s (s + 1) diagonal.old values.old diagonal.new values.new }
 {
-    let k = wide(rows[s]);
+    let k = rows[s] as usize;
     let v = kept[s - first];
     diagonal[k] = diagonal[k] - lower[s - first] * v;
     less_along(starts, rows, values, lower, k, first, s + 1, to, v);
@@ -158,7 +148,7 @@ pub(crate) fn row_down(
     ensures advanced { Advanced starts.now rows.now kept.now lower.now first to s (s + 1) diagonal.old values.old diagonal.new values.new }
     ensures placed { Placed places.new starts.now rows.now (get_or rows.now s 0) first (get_or starts.now (get_or rows.now s 0) 0) (s + 1) to }
 {
-    let k = wide(rows[s]);
+    let k = rows[s] as usize;
     let v = kept[s - first];
     diagonal[k] = diagonal[k] - lower[s - first] * v;
     less_down(starts, rows, values, lower, places, k, first, s + 1, to, v);
@@ -182,7 +172,7 @@ pub(crate) fn row_known(
     requires shift_bound { (shift ≤ get_or starts.now (get_or rows.now s 0) 0) × Placed places.now starts.now rows.now (get_or rows.now s 0) first (get_or starts.now (get_or rows.now s 0) 0 - shift) (s + 1) to }
     ensures { Advanced starts.now rows.now kept.now lower.now first to s (s + 1) diagonal.old values.old diagonal.new values.new }
 {
-    let k = wide(rows[s]);
+    let k = rows[s] as usize;
     let v = kept[s - first];
     diagonal[k] = diagonal[k] - lower[s - first] * v;
     less_known(

@@ -9,17 +9,11 @@ use crate::entry::refusal;
 use crate::passes::{backward_columns, forward_columns, scale};
 
 // Check 31: a pivot is not both finite and above zero. O(n).
+#[tactic(auto, unfolding(plan::specs::Solving::bad_pivot))]
 fn bad_pivot(pivots: &[f64]) -> bool
     ensures { result ≡ bad_pivot pivots.now }
 {
-    let mut j = 0;
-    while j < pivots.len() {
-        if !is_pivot(pivots[j]) {
-            return true;
-        }
-        j += 1;
-    }
-    false
+    pivots.iter().any(|d| !is_pivot(*d))
 }
 
 // The first refusal, 0 for none. O(4,096 + slots + the first rows' columns).

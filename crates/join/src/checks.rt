@@ -7,7 +7,7 @@ ghost use Rattle.plan.specs.MadeMesh.{mesh_lengths};
 ghost use Rattle.plan.specs.Joining.{pairing, bad_pairing, paired_twice, lent_checks};
 ghost use Rattle.join.specs.Checks.{list_checks};
 
-use mesh::{check, filled, outside, too_long, too_short, wide};
+use mesh::{check, filled, outside, too_long, too_short};
 use plan::Plan;
 
 // Whether a node stands twice among some nodes. O(4,096 + length).
@@ -16,12 +16,11 @@ fn repeats(nodes: &[u16]) -> bool
     ensures { result ≡ twice nodes.now }
 {
     let mut seen = filled(0);
-    for k in 0..nodes.len() {
-        let v = wide(nodes[k]);
-        if seen[v] != 0 {
+    for &v in nodes {
+        if seen[v as usize] != 0 {
             return true;
         }
-        seen[v] = 1;
+        seen[v as usize] = 1;
     }
     false
 }
@@ -33,10 +32,7 @@ fn bad_pairing(n1: usize, n2: usize, first: &[u16], second: &[u16]) -> bool
     if first.len() != second.len() {
         return true;
     }
-    if outside(n1, first) {
-        return true;
-    }
-    outside(n2, second)
+    outside(n1, first) || outside(n2, second)
 }
 
 // Check 33: a node of either mesh is paired twice. O(4,096 + pairs).
@@ -44,10 +40,7 @@ fn paired_twice(first: &[u16], second: &[u16]) -> bool
     requires { ((v : ℕ) → is_in v first.now ≡ true → v < max_nodes) × ((w : ℕ) → is_in w second.now ≡ true → w < max_nodes) }
     ensures { result ≡ paired_twice (pairing first.now second.now) }
 {
-    if repeats(first) {
-        return true;
-    }
-    repeats(second)
+    repeats(first) || repeats(second)
 }
 
 // The first refusal of the checks of both meshes and of the pairs, 0 for none. O(4,096 + n + 26 · entries + pairs).

@@ -17,7 +17,7 @@ use crate::checks::{lent_refusal, list_refusal};
 use crate::lists::{count_entries, write_entries};
 use crate::numbers::{destinations, origins};
 use layout::{sum, write_starts};
-use mesh::{bad_node_count, index};
+use mesh::bad_node_count;
 use plan::{MeshAnswer, MeshCounts};
 
 // What is left of joining n nodes: checks 3, 26 and 8, by the lengths of the lists, then the joined mesh in the lent buffers. `goes` says where the nodes
@@ -52,7 +52,7 @@ fn hand_out(
     );
     let totals = sum(n, &counts);
     let entries = totals.slots;
-    let fault = list_refusal(n, index(entries), &counts, starts.len(), neighbours.len());
+    let fault = list_refusal(n, entries as usize, &counts, starts.len(), neighbours.len());
     if fault != 0 {
         return MeshAnswer::Refused(fault);
     }

@@ -7,7 +7,7 @@ ghost use Rattle.theory.specs.Checked.{Checked};
 ghost use Rattle.join.specs.Lists.{merged_lists, Mergeable};
 
 use crate::merge::{count_merged, write_merged};
-use mesh::{filled, list, wide};
+use mesh::{filled, list};
 use plan::Plan;
 
 // Node v's list; no entries where v is no node. O(1).
@@ -16,9 +16,10 @@ fn neighbours_of<'a>(n: usize, starts: &[u32], neighbours: &'a [u16], v: usize) 
     ensures { result.now ≡ neighbours_of (lent n starts.now neighbours.now) v }
 {
     if v < n {
-        return list(starts, neighbours, v);
+        list(starts, neighbours, v)
+    } else {
+        &[]
     }
-    &neighbours[0..0]
 }
 
 // The length of each list of the joined mesh. O(4,096 + n + 26 · entries).
@@ -39,7 +40,7 @@ pub(crate) fn count_entries(
     let mut counts = filled(0);
     for v in 0..n {
         let ones = neighbours_of(n1, starts1, neighbours1, v);
-        let others = neighbours_of(n2, starts2, neighbours2, wide(from[v]));
+        let others = neighbours_of(n2, starts2, neighbours2, from[v] as usize);
         counts[v] = count_merged(ones, others, goes) as u16;
     }
     counts
@@ -65,7 +66,7 @@ pub(crate) fn write_entries(
     let mut at: usize = 0;
     for v in 0..n {
         let ones = neighbours_of(n1, starts1, neighbours1, v);
-        let others = neighbours_of(n2, starts2, neighbours2, wide(from[v]));
+        let others = neighbours_of(n2, starts2, neighbours2, from[v] as usize);
         at += write_merged(ones, others, goes, &mut neighbours[at..]);
     }
 }

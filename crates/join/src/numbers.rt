@@ -6,7 +6,7 @@ ghost use Rattle.plan.specs.Joining.{pairing};
 ghost use Rattle.theory.specs.Pairings.{Paired};
 ghost use Rattle.join.specs.Numbers.{following, Destinations};
 
-use mesh::{NONE, filled, wide};
+use mesh::{NONE, filled};
 use plan::Plan;
 
 // Each paired node of the second mesh goes to its node of the first. O(pairs).
@@ -14,8 +14,8 @@ fn put_paired(first: &[u16], second: &[u16], goes: &mut [u16])
     requires { (length first.now ≡ length second.now) × (twice second.now ≡ false) × ((w : ℕ) → is_in w second.now ≡ true → w < length goes.old) }
     ensures { (length goes.new ≡ length goes.old) × ((w : ℕ) → get_or goes.new w 0 ≡ cond (is_in w second.now) (get_or first.now (index_of w second.now) 0) (get_or goes.old w 0)) }
 {
-    for k in 0..second.len() {
-        goes[wide(second[k])] = first[k];
+    for (k, &w) in second.iter().enumerate() {
+        goes[w as usize] = first[k];
     }
 }
 
@@ -55,8 +55,8 @@ pub(crate) fn origins(n2: usize, goes: &[u16]) -> [u16; Plan::NODES]
     ensures { (length result ≡ max_nodes) × ((v : ℕ) → v < max_nodes → get_or result v 0 ≡ index_of v (take n2 goes.now)) }
 {
     let mut from = filled(n2 as u16);
-    for w in 0..n2 {
-        from[wide(goes[w])] = w as u16;
+    for (w, &v) in goes[..n2].iter().enumerate() {
+        from[v as usize] = w as u16;
     }
     from
 }

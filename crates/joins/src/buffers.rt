@@ -1,57 +1,40 @@
 // Buffers that hold another number in each entry before they are lent, and whether they hold what they should afterwards.
 
-// What entry i holds before: no node's number.
-fn stale16(i: usize) -> u16 {
-    (60000 + i % 4999) as u16
+// What entry i of a buffer holds before: no node's number, and no start.
+pub(crate) trait Stale {
+    fn stale(i: usize) -> Self;
 }
 
-fn stale32(i: usize) -> u32 {
-    (70000 + i % 4999) as u32
-}
-
-pub(crate) fn put_stale16(list: &mut [u16]) {
-    for i in 0..list.len() {
-        list[i] = stale16(i);
+impl Stale for u16 {
+    fn stale(i: usize) -> u16 {
+        (60000 + i % 4999) as u16
     }
 }
 
-pub(crate) fn put_stale32(list: &mut [u32]) {
-    for i in 0..list.len() {
-        list[i] = stale32(i);
+impl Stale for u32 {
+    fn stale(i: usize) -> u32 {
+        (70000 + i % 4999) as u32
+    }
+}
+
+pub(crate) fn put_stale<T: Stale + Copy>(list: &mut [T]) {
+    for (i, entry) in list.iter_mut().enumerate() {
+        *entry = T::stale(i);
     }
 }
 
 // What entry i should be: that of `want` where it is used, and as found elsewhere.
-fn wanted16(want: &[u16], used: usize, i: usize) -> u16 {
-    if i < used {
-        if i < want.len() {
-            return want[i];
-        }
+fn wanted<T: Stale + Copy>(want: &[T], used: usize, i: usize) -> T {
+    match want.get(i) {
+        Some(entry) if i < used => *entry,
+        _ => T::stale(i),
     }
-    stale16(i)
 }
 
-fn wanted32(want: &[u32], used: usize, i: usize) -> u32 {
-    if i < used {
-        if i < want.len() {
-            return want[i];
-        }
-    }
-    stale32(i)
-}
-
-pub(crate) fn holds16(list: &[u16], want: &[u16], used: usize) -> bool {
+pub(crate) fn holds<T: Stale + Copy + PartialEq>(list: &[T], want: &[T], used: usize) -> bool {
     let mut same = true;
-    for i in 0..list.len() {
-        same = same & (list[i] == wanted16(want, used, i));
-    }
-    same
-}
-
-pub(crate) fn holds32(list: &[u32], want: &[u32], used: usize) -> bool {
-    let mut same = true;
-    for i in 0..list.len() {
-        same = same & (list[i] == wanted32(want, used, i));
+    for (i, entry) in list.iter().enumerate() {
+        same = same & (*entry == wanted(want, used, i));
     }
     same
 }

@@ -1,174 +1,231 @@
 // Every order of two faults and more: each fault of the first mesh with each of the second, each of the pairs and each of the joined mesh. The meshes
 // are rings of 30 nodes at least.
-use crate::counts::{Counts, begun};
-use crate::lent::{Lent, Mesh, NEIGHBOURS2, Nodes, STARTS2, Starts, joining};
-use crate::made::{Ring, at32, put_ring, put16, put32, ring_of};
-use crate::pairs::{FAULTS, own, pairs_refusal, put_fault, put_pairs, with_fault};
+use crate::counts::Counts;
+use crate::lent::{Known, Lent, Lists, Mesh, Side};
+use crate::made::Ring;
+use crate::pairs::{Fault, Order, put_pairs};
 use crate::trial::{try_joined, try_without_room};
 use meshes::{less, more};
 
-// How many faults of a mesh there are, and the refusals that they call for: none, n is 0, n is too large, the first start is not 0, a start is missing,
-// too many entries, an entry that is no node, the node itself, two entries that do not ascend, a long list, and an entry that is one-sided.
-const MESH_FAULTS: usize = 11;
-
-const REFUSALS: [usize; MESH_FAULTS] = [0, 1, 1, 2, 2, 3, 4, 5, 6, 26, 7];
-
-// The mesh's numbers with a fault.
-fn with_mesh_fault(m: Mesh, fault: usize) -> Mesh {
-    let mut d = m;
-    match fault {
-        1 => d.n = 0,
-        2 => d.n = m.n % 65536 + 65536,
-        4 => d.starts = less(m.starts),
-        5 => d.entries = 65537,
-        _ => {}
-    }
-    d
+// Faults of a mesh: none, n is 0, n is too large, the first start is not 0, a start is missing, too many entries, an entry that is no node, the node
+// itself, two entries that do not ascend, a long list, and an entry that is one-sided.
+#[derive(Clone, Copy)]
+enum MeshFault {
+    None,
+    NoNodes,
+    ManyNodes,
+    FirstStart,
+    MissingStart,
+    ManyEntries,
+    NoNode,
+    NodeItself,
+    NotAscending,
+    LongList,
+    OneSided,
 }
 
-// Puts the start that a fault changes, or the first one as it is.
-fn put_start_fault(starts: &mut Starts, at: usize, r: Ring, fault: usize) {
-    let from = at % 65536;
-    match fault {
-        3 => put32(starts, from, 1),
-        5 => put32(starts, from + r.n % 65536, 65537),
-        _ => put32(starts, from, 0),
+impl MeshFault {
+    const ALL: [MeshFault; 11] = [
+        MeshFault::None,
+        MeshFault::NoNodes,
+        MeshFault::ManyNodes,
+        MeshFault::FirstStart,
+        MeshFault::MissingStart,
+        MeshFault::ManyEntries,
+        MeshFault::NoNode,
+        MeshFault::NodeItself,
+        MeshFault::NotAscending,
+        MeshFault::LongList,
+        MeshFault::OneSided,
+    ];
+
+    // The refusal that the fault calls for.
+    fn refusal(self) -> Option<u32> {
+        match self {
+            MeshFault::None => None,
+            MeshFault::NoNodes | MeshFault::ManyNodes => Some(1),
+            MeshFault::FirstStart | MeshFault::MissingStart => Some(2),
+            MeshFault::ManyEntries => Some(3),
+            MeshFault::NoNode => Some(4),
+            MeshFault::NodeItself => Some(5),
+            MeshFault::NotAscending => Some(6),
+            MeshFault::LongList => Some(26),
+            MeshFault::OneSided => Some(7),
+        }
+    }
+
+    // The mesh's numbers with the fault.
+    fn numbers(self, mut m: Mesh) -> Mesh {
+        match self {
+            MeshFault::NoNodes => m.n = 0,
+            MeshFault::ManyNodes => m.n = m.n % 65536 + 65536,
+            MeshFault::MissingStart => m.starts = less(m.starts),
+            MeshFault::ManyEntries => m.entries = 65537,
+            _ => {}
+        }
+        m
+    }
+
+    // Puts the start that the fault changes, or the first one as it is.
+    fn put_start(self, lists: &mut Lists, side: Side, r: Ring) {
+        let from = side.starts_at() % 65536;
+        match self {
+            MeshFault::FirstStart => lists.put_start(from, 1),
+            MeshFault::ManyEntries => lists.put_start(from + r.n % 65536, 65537),
+            _ => lists.put_start(from, 0),
+        }
+    }
+
+    // Puts the entry of the first node's list that the fault changes, or the first one as it is.
+    fn put_entry(self, lists: &mut Lists, side: Side, r: Ring) {
+        let from = side.neighbours_at() % 4294967296;
+        match self {
+            MeshFault::NoNode => lists.put_node(from, r.n),
+            MeshFault::NodeItself => lists.put_node(from, 0),
+            MeshFault::NotAscending => lists.put_node(from, less(r.n)),
+            MeshFault::OneSided => lists.put_node(from + less(r.reach) % 64, more(r.reach)),
+            _ => lists.put_node(from, 1),
+        }
+    }
+
+    // Puts a ring with the fault.
+    fn put(self, lists: &mut Lists, side: Side, r: Ring) -> Mesh {
+        let m = r.put(lists, side);
+        self.put_start(lists, side, r);
+        self.put_entry(lists, side, r);
+        if let MeshFault::LongList = self {
+            put_long_list(lists, side);
+        }
+        self.numbers(m)
     }
 }
 
-// Puts the entry of the first node's list that a fault changes, or the first one as it is.
-fn put_entry_fault(nodes: &mut Nodes, at: usize, r: Ring, fault: usize) {
-    let from = at % 4294967296;
-    match fault {
-        6 => put16(nodes, from, r.n),
-        7 => put16(nodes, from, 0),
-        8 => put16(nodes, from, less(r.n)),
-        10 => put16(nodes, from + less(r.reach) % 64, more(r.reach)),
-        _ => put16(nodes, from, 1),
-    }
-}
-
-// For the fault of a long list, puts 27 entries into the first node's, which are taken from the lists behind it.
-fn put_list_fault(
-    starts: &mut Starts,
-    nodes: &mut Nodes,
-    starts_at: usize,
-    at: usize,
-    fault: usize,
-) {
-    if fault != 9 {
-        return;
-    }
+// Puts 27 entries into the first node's list, which are taken from the lists behind it.
+fn put_long_list(lists: &mut Lists, side: Side) {
     for i in 0..27usize {
-        let k = starts_at % 65536 + i + 1;
-        let start = greater(27, at32(starts, k));
-        put16(nodes, at % 4294967296 + i, i + 1);
-        put32(starts, k, start);
+        let k = side.starts_at() % 65536 + i + 1;
+        let start = lists.start(k).max(27);
+        lists.put_node(side.neighbours_at() % 4294967296 + i, i + 1);
+        lists.put_start(k, start);
     }
 }
 
-fn greater(a: usize, b: usize) -> usize {
-    if a < b {
-        return b;
-    }
-    a
+// Two rings: their nodes, how far both reach, and what the joined mesh is refused by, which has two pairs.
+#[derive(Clone, Copy)]
+struct Base {
+    n1: usize,
+    n2: usize,
+    reach: usize,
+    refusal: Option<u32>,
 }
 
-// Puts a ring with a fault, its starts and its entries from these places on.
-fn put_mesh(
-    starts: &mut Starts,
-    nodes: &mut Nodes,
-    starts_at: usize,
-    at: usize,
-    r: Ring,
-    fault: usize,
-) -> Mesh {
-    let m = put_ring(starts, nodes, starts_at, at, r);
-    put_start_fault(starts, starts_at, r, fault);
-    put_entry_fault(nodes, at, r, fault);
-    put_list_fault(starts, nodes, starts_at, at, fault);
-    with_mesh_fault(m, fault)
-}
+const SOUND: Base = Base {
+    n1: 40,
+    n2: 30,
+    reach: 4,
+    refusal: None,
+};
 
-// The rings' nodes, how far both reach, and what the joined mesh is refused by, which has two pairs: nothing, 26, 3 (26 too) and 1.
-const BASES: [[usize; 4]; 4] = [
-    [40, 30, 4, 0],
-    [40, 30, 13, 26],
-    [2048, 2048, 9, 3],
-    [4096, 30, 1, 1],
+// The joined mesh is refused by 26, by 3 (26 too) and by 1.
+const REFUSED: [Base; 3] = [
+    Base {
+        n1: 40,
+        n2: 30,
+        reach: 13,
+        refusal: Some(26),
+    },
+    Base {
+        n1: 2048,
+        n2: 2048,
+        reach: 9,
+        refusal: Some(3),
+    },
+    Base {
+        n1: 4096,
+        n2: 30,
+        reach: 1,
+        refusal: Some(1),
+    },
 ];
 
-fn numbers(base: usize) -> [usize; 4] {
-    BASES[base % 4]
+// Faults of the first mesh, of the second and of the pairs.
+#[derive(Clone, Copy)]
+struct Faults {
+    first: MeshFault,
+    second: MeshFault,
+    pairs: Fault,
 }
 
-fn mesh_refusal(fault: usize) -> usize {
-    REFUSALS[fault % MESH_FAULTS]
+impl Faults {
+    // What is known of an answer: the first refusal of the first mesh's, the second's, the pairs' and the joined mesh's.
+    fn known(self, base: Base) -> Known {
+        let refusal = self
+            .first
+            .refusal()
+            .or(self.second.refusal())
+            .or(self.pairs.refusal())
+            .or(base.refusal);
+        match refusal {
+            Some(number) => Known::Refused(number),
+            None => Known::Mesh,
+        }
+    }
+
+    // Puts two rings with these faults.
+    fn put(self, lists: &mut Lists, base: Base) -> Lent {
+        let Base { n1, n2, reach, .. } = base;
+        let mesh1 = self.first.put(lists, Side::First, Ring { n: n1, reach });
+        let mesh2 = self.second.put(lists, Side::Second, Ring { n: n2, reach });
+        put_pairs(lists, Order::own(n1), Order::own(n2), 2);
+        self.pairs.put(lists, 2, n1, n2);
+        self.pairs
+            .lengths(Lent::new(mesh1, mesh2, 2, self.known(base)))
+    }
 }
 
-// The refusal that these faults call for: the first of the first mesh's, the second's, the pairs' and the joined mesh's that is not 0.
-fn known_refusal(fault1: usize, fault2: usize, fault: usize, joined: usize) -> usize {
-    let refusal1 = mesh_refusal(fault1);
-    if refusal1 != 0 {
-        return refusal1;
+// Nothing is lent for rings whose joined mesh is refused.
+fn try_faults(c: &mut Counts, lists: &mut Lists, base: Base, faults: Faults) {
+    let l = faults.put(lists, base);
+    if base.refusal.is_none() {
+        try_joined(c, &l, lists);
+    } else {
+        try_without_room(c, &l, lists);
     }
-    let refusal2 = mesh_refusal(fault2);
-    if refusal2 != 0 {
-        return refusal2;
-    }
-    let refusal = pairs_refusal(fault);
-    if refusal != 0 {
-        return refusal;
-    }
-    joined
 }
 
-// Puts two rings of a row with these faults.
-fn put_faults(
-    starts: &mut Starts,
-    nodes: &mut Nodes,
-    row: [usize; 4],
-    fault1: usize,
-    fault2: usize,
-    fault: usize,
-) -> Lent {
-    let n1 = row[0];
-    let n2 = row[1];
-    let mesh1 = put_mesh(starts, nodes, 0, 0, ring_of(n1, row[2]), fault1);
-    let mesh2 = put_mesh(
-        starts,
-        nodes,
-        STARTS2,
-        NEIGHBOURS2,
-        ring_of(n2, row[2]),
-        fault2,
-    );
-    put_pairs(nodes, own(n1), own(n2), 2);
-    put_fault(nodes, 2, fault, n1, n2);
-    let known = known_refusal(fault1, fault2, fault, row[3]);
-    with_fault(joining(mesh1, mesh2, 2, known), fault)
+fn every_fault_of_pairs(
+    c: &mut Counts,
+    lists: &mut Lists,
+    base: Base,
+    first: MeshFault,
+    second: MeshFault,
+) {
+    for pairs in Fault::ALL {
+        let faults = Faults {
+            first,
+            second,
+            pairs,
+        };
+        try_faults(c, lists, base, faults);
+    }
 }
 
-// The faults that a number tells. Nothing is lent for rings of the rows behind the first, whose joined mesh is refused.
-fn try_faults(c: Counts, starts: &mut Starts, nodes: &mut Nodes, i: usize) -> Counts {
-    let l = put_faults(
-        starts,
-        nodes,
-        numbers(i / 1210),
-        i / 110 % MESH_FAULTS,
-        i / 10 % MESH_FAULTS,
-        i % FAULTS,
-    );
-    if i < 1210 {
-        return try_joined(c, l, starts, nodes);
+fn every_second_fault(c: &mut Counts, lists: &mut Lists, base: Base, first: MeshFault) {
+    for second in MeshFault::ALL {
+        every_fault_of_pairs(c, lists, base, first, second);
     }
-    try_without_room(c, l, starts, nodes)
 }
 
-pub(crate) fn all(c: Counts, starts: &mut Starts, nodes: &mut Nodes) -> Counts {
-    let mut d = begun(c, 3);
-    for i in 0..4840usize {
-        d = try_faults(d, starts, nodes, i);
+fn every_fault(c: &mut Counts, lists: &mut Lists, base: Base) {
+    for first in MeshFault::ALL {
+        every_second_fault(c, lists, base, first);
     }
-    d
+}
+
+pub(crate) fn all(c: &mut Counts, lists: &mut Lists) {
+    c.begin(3);
+    every_fault(c, lists, SOUND);
+    for base in REFUSED {
+        every_fault(c, lists, base);
+    }
 }

@@ -1,33 +1,117 @@
-// What joining is lent, by its numbers. The lists stand in two buffers: both meshes' starts in one, both meshes' neighbours and the pairs' two lists
-// in the other.
-use meshes::{first16, first32};
+// What joining is lent. The lists stand in two buffers: both meshes' starts in one, both meshes' neighbours and the pairs' two lists in the other.
 
-// Where the second mesh's lists and the pairs' lists begin, and how long the buffers are.
-pub(crate) const STARTS2: usize = 4200;
+// How long the buffers are.
+const STARTS_LENT: usize = 8400;
 
-pub(crate) const STARTS_LENT: usize = 8400;
-
-pub(crate) const NEIGHBOURS2: usize = 66000;
-
-pub(crate) const FIRST: usize = 132000;
-
-pub(crate) const SECOND: usize = 198000;
-
-pub(crate) const NODES_LENT: usize = 264000;
-
-pub(crate) type Starts = [u32; STARTS_LENT];
-
-pub(crate) type Nodes = [u16; NODES_LENT];
+const NODES_LENT: usize = 264000;
 
 // How long the buffers are whose fronts are lent as results.
 pub(crate) const STARTS_LEFT: usize = 4100;
 
 pub(crate) const ENTRIES_LEFT: usize = 65540;
 
-// What is known of an answer, if it is no refusal's number: nothing, and that it is the first mesh itself.
-pub(crate) const ANY: usize = 99;
+// Which of the two meshes, whose lists and whose list of pairs each begin at a place of their own.
+#[derive(Clone, Copy)]
+pub(crate) enum Side {
+    First,
+    Second,
+}
 
-pub(crate) const ITSELF: usize = 98;
+impl Side {
+    pub(crate) fn starts_at(self) -> usize {
+        match self {
+            Side::First => 0,
+            Side::Second => 4200,
+        }
+    }
+
+    pub(crate) fn neighbours_at(self) -> usize {
+        match self {
+            Side::First => 0,
+            Side::Second => 66000,
+        }
+    }
+
+    pub(crate) fn pairs_at(self) -> usize {
+        match self {
+            Side::First => 132000,
+            Side::Second => 198000,
+        }
+    }
+}
+
+#[derive(Drop)]
+pub(crate) struct Lists {
+    starts: [u32; STARTS_LENT],
+    nodes: [u16; NODES_LENT],
+}
+
+impl Lists {
+    pub(crate) fn new() -> Lists {
+        Lists {
+            starts: [0; STARTS_LENT],
+            nodes: [0; NODES_LENT],
+        }
+    }
+
+    // Puts a start or a node, cut to its width, where there is such a place.
+    pub(crate) fn put_start(&mut self, at: usize, x: usize) {
+        if let Some(start) = self.starts.get_mut(at) {
+            *start = (x % 4294967296) as u32;
+        }
+    }
+
+    pub(crate) fn put_node(&mut self, at: usize, x: usize) {
+        if let Some(node) = self.nodes.get_mut(at) {
+            *node = (x % 65536) as u16;
+        }
+    }
+
+    pub(crate) fn put_starts(&mut self, at: usize, piece: &[u32]) {
+        put_all(&mut self.starts, at, piece);
+    }
+
+    pub(crate) fn put_nodes(&mut self, at: usize, piece: &[u16]) {
+        put_all(&mut self.nodes, at, piece);
+    }
+
+    // The start or the node at a place, or 0.
+    pub(crate) fn start(&self, at: usize) -> usize {
+        self.starts.get(at).map_or(0, |x| *x as usize)
+    }
+
+    pub(crate) fn node(&self, at: usize) -> usize {
+        self.nodes.get(at).map_or(0, |x| usize::from(*x))
+    }
+
+    // The lists that are lent of a mesh, and of its nodes that are paired.
+    pub(crate) fn starts_of(&self, side: Side, mesh: Mesh) -> &[u32] {
+        part(&self.starts, side.starts_at(), mesh.starts)
+    }
+
+    pub(crate) fn neighbours_of(&self, side: Side, mesh: Mesh) -> &[u16] {
+        part(&self.nodes, side.neighbours_at(), mesh.entries)
+    }
+
+    pub(crate) fn paired(&self, side: Side, count: usize) -> &[u16] {
+        part(&self.nodes, side.pairs_at(), count)
+    }
+}
+
+// Puts a list at a place of a buffer, as far as it fits.
+fn put_all<T: Copy>(buffer: &mut [T], at: usize, list: &[T]) {
+    if let Some(entries) = buffer.get_mut(at..) {
+        for (entry, x) in entries.iter_mut().zip(list.iter()) {
+            *entry = *x;
+        }
+    }
+}
+
+// The list that begins at a place of a buffer.
+pub(crate) fn part<T>(list: &[T], from: usize, count: usize) -> &[T] {
+    let rest = list.get(from..).unwrap_or(list);
+    rest.get(..count).unwrap_or(rest)
+}
 
 // A mesh as it is lent: its nodes, and how many starts and neighbours there are.
 #[derive(Clone, Copy)]
@@ -35,6 +119,25 @@ pub(crate) struct Mesh {
     pub(crate) n: usize,
     pub(crate) starts: usize,
     pub(crate) entries: usize,
+}
+
+// What is known of an answer: nothing, that it is a mesh, that it is the first mesh itself, or its refusal.
+#[derive(Clone, Copy)]
+pub(crate) enum Known {
+    Any,
+    Mesh,
+    Itself,
+    Refused(u32),
+}
+
+impl Known {
+    // What is known where nothing is lent: a refusal that comes before 8, or else 8.
+    pub(crate) fn without_room(self) -> Known {
+        match self {
+            Known::Mesh | Known::Itself => Known::Refused(8),
+            _ => self,
+        }
+    }
 }
 
 // The two meshes, the lengths of the pairs' two lists and of the lent results, and what is known of the answer. So much
@@ -47,54 +150,43 @@ pub(crate) struct Lent {
     pub(crate) second: usize,
     pub(crate) start_room: usize,
     pub(crate) entry_room: usize,
-    pub(crate) known: usize,
+    pub(crate) known: Known,
     pub(crate) start_span: usize,
     pub(crate) entry_span: usize,
 }
 
-// Two meshes and so many pairs, of which the answer is known, and results that are long enough where a mesh has at most 64 nodes.
-pub(crate) fn joining(mesh1: Mesh, mesh2: Mesh, pairs: usize, known: usize) -> Lent {
-    Lent {
-        mesh1: mesh1,
-        mesh2: mesh2,
-        first: pairs,
-        second: pairs,
-        start_room: 140,
-        entry_room: 3500,
-        known: known,
-        start_span: 140,
-        entry_span: 3500,
+impl Lent {
+    // Two meshes and so many pairs, of which the answer is known, and results that are long enough where a mesh has at most 64 nodes.
+    pub(crate) fn new(mesh1: Mesh, mesh2: Mesh, pairs: usize, known: Known) -> Lent {
+        Lent {
+            mesh1,
+            mesh2,
+            first: pairs,
+            second: pairs,
+            start_room: 140,
+            entry_room: 3500,
+            known,
+            start_span: 140,
+            entry_span: 3500,
+        }
     }
-}
 
-// The same with results that are long enough for every joined mesh.
-pub(crate) fn enlarged(l: Lent) -> Lent {
-    let mut m = with_room(l, STARTS_LEFT, ENTRIES_LEFT, l.known);
-    m.start_span = STARTS_LEFT;
-    m.entry_span = ENTRIES_LEFT;
-    m
-}
-
-// The same with results of other lengths, for which the answer is known.
-pub(crate) fn with_room(l: Lent, starts: usize, entries: usize, known: usize) -> Lent {
-    let mut m = l;
-    m.start_room = starts;
-    m.entry_room = entries;
-    m.known = known;
-    m
-}
-
-// The lent list that begins at a place of a buffer.
-pub(crate) fn part16<'a>(list: &'a [u16], from: usize, count: usize) -> &'a [u16] {
-    if from <= list.len() {
-        return first16(&list[from..], count);
+    // The same with results that are long enough for every joined mesh.
+    pub(crate) fn enlarged(self) -> Lent {
+        Lent {
+            start_span: STARTS_LEFT,
+            entry_span: ENTRIES_LEFT,
+            ..self.with_room(STARTS_LEFT, ENTRIES_LEFT, self.known)
+        }
     }
-    list
-}
 
-pub(crate) fn part32<'a>(list: &'a [u32], from: usize, count: usize) -> &'a [u32] {
-    if from <= list.len() {
-        return first32(&list[from..], count);
+    // The same with results of other lengths, for which the answer is known.
+    pub(crate) fn with_room(self, starts: usize, entries: usize, known: Known) -> Lent {
+        Lent {
+            start_room: starts,
+            entry_room: entries,
+            known,
+            ..self
+        }
     }
-    list
 }

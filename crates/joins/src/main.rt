@@ -17,15 +17,16 @@ mod made;
 mod pairs;
 mod trial;
 
-use crate::counts::{none, print};
-use crate::lent::{NODES_LENT, STARTS_LENT};
+use crate::counts::Counts;
+use crate::lent::Lists;
 use std::io;
 
 fn main(rt: HostRuntime) -> io::Result<()> {
-    let mut starts = [0u32; STARTS_LENT];
-    let mut nodes = [0u16; NODES_LENT];
-    let c = given::all(none(), &mut starts, &mut nodes);
-    let d = drawn::all(c, &mut starts, &mut nodes);
-    let e = faults::all(d, &mut starts, &mut nodes);
-    print(&rt, &large::all(e, &mut starts, &mut nodes))
+    let mut lists = Lists::new();
+    let mut c = Counts::new();
+    given::all(&mut c, &mut lists);
+    drawn::all(&mut c, &mut lists);
+    faults::all(&mut c, &mut lists);
+    large::all(&mut c, &mut lists);
+    c.print(&rt)
 }

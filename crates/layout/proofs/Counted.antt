@@ -1,11 +1,11 @@
 -- The elimination tree and the counts, from no row to all rows; and what `count_rows` leaves in its buffers.
 use mathlib.Core.Path.{◌≡◌, sym, ap, ◌∙◌}
-use mathlib.Core.List.{List, [], map}
+use mathlib.Core.List.{List, [], ◌++◌, map}
 use Prim.Native.Nat.{ℕ, ◌≤◌, ◌<◌}
 use native.Mathlib.Omega.{arith}
 use lib.Dec.{ltb}
-use lib.ListN.{length, take, drop, get_or, replicate, length-map, length-replicate, get_or-replicate, get_or-map, get_or-append}
-use lib.Seq.{drop-append_seam}
+use lib.ListN.{length, take, drop, get_or, replicate, length-map, length-replicate, get_or-replicate, get_or-map, get_or-append, length-append, length-drop}
+use lib.Seq.{drop-append_seam, length-take-le}
 use borrow.Author.Tests.{le-ltb}
 use Rattle.plan.specs.Lists.{written}
 use Rattle.plan.specs.Mesh.{Mesh}
@@ -20,6 +20,15 @@ use Rattle.layout.specs.Arrays.{parent_below, CountedBelow, Tree, tree_of}
 use Rattle.layout.proofs.Stores.{written-front}
 
 -- ---- a buffer whose first n numbers were set to x
+
+module _ (n x : ℕ) (found part : List ℕ) (room : n ≤ length found) where
+  -- its front is a part of its own, which was filled
+  pub reset_part : part ≡ replicate (length (take n found)) x → part ++ drop n found ≡ written (replicate n x) found
+  reset_part e = rw (e, length-take-le n found room, length-replicate n x)
+
+  -- it is as long as it was
+  pub reset_long : length part ≡ length (take n found) → length (part ++ drop n found) ≡ length found
+  reset_long e = omega (arith, length-append part (drop n found), length-drop n found, length-take-le n found room)
 
 module _ (n x : ℕ) (found left : List ℕ) (e : left ≡ written (replicate n x) found) where
   -- each of them is x

@@ -6,9 +6,10 @@ ghost use Rattle.plan.specs.Planning.{buffers_too_short, lengths};
 ghost use Rattle.plan.specs.File.{bad_column, bad_columns};
 ghost use Rattle.plan.specs.Questions.{bad_layout, layout_checks};
 
-use mesh::{bad_node_count, bad_starts, index, list, wide};
+use mesh::{bad_node_count, bad_starts, list};
 
 // Check 8: a lent result other than the rows is too short. O(1).
+#[tactic(auto, unfolding(plan::specs::Planning::buffers_too_short))]
 pub fn buffers_too_short(
     n: usize,
     order: usize,
@@ -19,19 +20,7 @@ pub fn buffers_too_short(
 ) -> bool
     ensures { result ≡ buffers_too_short n (lengths order positions sizes parents column_starts 0) }
 {
-    if order < n {
-        return true;
-    }
-    if positions < n {
-        return true;
-    }
-    if sizes < n {
-        return true;
-    }
-    if parents < n {
-        return true;
-    }
-    column_starts <= n
+    order < n || positions < n || sizes < n || parents < n || column_starts <= n
 }
 
 // 17's rule: a column's rows are strictly ascending, above the column and below n. Whether rows of column j break it. O(length).
@@ -39,12 +28,9 @@ pub fn bad_column(n: usize, j: usize, column: &[u16]) -> bool
     ensures { result ≡ bad_column n j column.now }
 {
     let mut before = j;
-    for k in 0..column.len() {
-        let i = wide(column[k]);
-        if i <= before {
-            return true;
-        }
-        if i >= n {
+    for &row in column {
+        let i = row as usize;
+        if i <= before || i >= n {
             return true;
         }
         before = i;
@@ -72,10 +58,7 @@ fn bad_layout(n: usize, column_starts: &[u32], rows: &[u16]) -> bool
     if bad_starts(n, column_starts) {
         return true;
     }
-    if rows.len() < index(column_starts[n]) {
-        return true;
-    }
-    bad_columns(n, column_starts, rows)
+    rows.len() < column_starts[n] as usize || bad_columns(n, column_starts, rows)
 }
 
 // The first refusal of checks 1 and 22, 0 for none. O(n + slots).

@@ -7,7 +7,7 @@ ghost use Rattle.plan.specs.Elimination.{columns, starts_of};
 ghost use Rattle.mesh.specs.Lists.{none, ListWithin};
 ghost use Rattle.layout.specs.Arrays.{Ordered, Tree, Rising, Children, Marked, Unmarked, neighbour_position, child_row, marked_below, Meets, rows_before};
 
-use mesh::{NONE, filled, index, list, wide};
+use mesh::{NONE, filled, list};
 
 // Column c is put before the children of its parent, where it has one. `n` is for the contract alone. O(1).
 fn link(n: usize, c: usize, tree: &[u16], first: &mut [u16], next: &mut [u16])
@@ -18,8 +18,8 @@ fn link(n: usize, c: usize, tree: &[u16], first: &mut [u16], next: &mut [u16])
     if p == NONE {
         return;
     }
-    next[c] = first[wide(p)];
-    first[wide(p)] = c as u16;
+    next[c] = first[p as usize];
+    first[p as usize] = c as u16;
 }
 
 // The children of each column in the elimination tree, the greatest first. `first` is lent with none at every place. O(n).
@@ -46,9 +46,8 @@ fn mark_neighbours(
     requires { Ordered (lent n starts.now neighbours.now) order.now positions.now × (j < n) × (n ≤ length marks.old) }
     ensures { Marked j (neighbour_position (lent n starts.now neighbours.now) order.now positions.now j) marks.old marks.new }
 {
-    let entries = list(starts, neighbours, wide(order[j]));
-    for e in 0..entries.len() {
-        marks[wide(positions[wide(entries[e])])] = j as u16;
+    for &w in list(starts, neighbours, order[j] as usize) {
+        marks[positions[w as usize] as usize] = j as u16;
     }
 }
 
@@ -57,8 +56,8 @@ pub fn mark_rows(rows: &[u16], j: u16, marks: &mut [u16])
     requires { (i : ℕ) → is_in i rows.now ≡ true → i < length marks.old }
     ensures { Marked j (λ i. is_in i rows.now) marks.old marks.new }
 {
-    for e in 0..rows.len() {
-        marks[wide(rows[e])] = j;
+    for &i in rows {
+        marks[i as usize] = j;
     }
 }
 
@@ -79,19 +78,9 @@ fn mark_children(
 {
     let mut c = first[j];
     while c != NONE {
-        mark_rows(list(column_starts, rows, wide(c)), j as u16, marks);
-        c = next[wide(c)];
+        mark_rows(list(column_starts, rows, c as usize), j as u16, marks);
+        c = next[c as usize];
     }
-}
-
-// 1 for a position that has the mark j, 0 for one that has another. O(1).
-fn marked(mark: u16, j: u16) -> usize
-    ensures { result ≡ cond (eqb mark j) 1 0 }
-{
-    if mark == j {
-        return 1;
-    }
-    0
 }
 
 // Position k is written at place `at`, and the place moves on if k has the mark j; if not, the next position is written over k.
@@ -101,7 +90,7 @@ fn put(k: u16, j: u16, marks: &[u16], at: usize, rows: &mut [u16]) -> usize
     ensures { (result ≡ at + cond (eqb (get_or marks.now k 0) j) 1 0) × (rows.new ≡ set rows.old at k) }
 {
     rows[at] = k;
-    at + marked(marks[wide(k)], j)
+    at + usize::from(marks[k as usize] == j)
 }
 
 // One column's rows, ascending, at the front of a part of the rows: up the elimination tree from column j, each position with the mark j is one.
@@ -114,7 +103,7 @@ fn write_column(n: usize, j: u16, count: usize, tree: &[u16], marks: &[u16], row
     let mut k = j;
     let mut at: usize = 0;
     while at < count {
-        k = tree[wide(k)];
+        k = tree[k as usize];
         at = put(k, j, marks, at, rows);
     }
 }
@@ -142,8 +131,8 @@ fn add_column(
 {
     mark_neighbours(n, starts, neighbours, order, positions, j, marks);
     mark_children(n, tree, column_starts, rows, first, next, j, marks);
-    let a = index(column_starts[j]);
-    let e = index(column_starts[j + 1]);
+    let a = column_starts[j] as usize;
+    let e = column_starts[j + 1] as usize;
     write_column(n, j as u16, e - a, tree, marks, &mut rows[a..]);
 }
 

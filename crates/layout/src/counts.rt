@@ -1,6 +1,6 @@
 // The elimination tree and the column counts, without storing a row.
 // The columns that have a row are those met by climbing from its earlier neighbours.
-ghost use Rattle.std.specs.Prelude.{◌≡◌, cond, map, ◌+◌, ◌≤◌, ◌<◌, eqb, length, take, drop, replicate};
+ghost use Rattle.std.specs.Prelude.{◌≡◌, cond, map, ◌+◌, ◌≤◌, ◌<◌, eqb, length, take, drop};
 ghost use Rattle.plan.specs.Lists.{total, running_sums, written};
 ghost use Rattle.plan.specs.Mesh.{max_nodes, lent};
 ghost use Rattle.plan.specs.Elimination.{columns, multiplications};
@@ -8,16 +8,13 @@ ghost use Rattle.mesh.specs.Lists.{none};
 ghost use Rattle.layout.specs.Arrays.{Ordered, CountedBelow, tree_of, Unmarked};
 ghost use Rattle.layout.specs.Climbing.{Climbable, Climbed};
 
-use mesh::{NONE, filled, list, wide};
+use mesh::{NONE, filled, list};
 
 // A column's parent once row i has touched it: i, unless an earlier row did. O(1).
 fn parent_of(parent: u16, i: u16) -> u16
     ensures { result ≡ cond (eqb parent none) i parent }
 {
-    if parent == NONE {
-        return i;
-    }
-    parent
+    if parent == NONE { i } else { parent }
 }
 
 // From a neighbour's position up the elimination tree: each column that row i has not marked yet gets the mark and one row more.
@@ -29,13 +26,13 @@ fn climb(i: u16, start: u16, tree: &mut [u16], marks: &mut [u16], counts: &mut [
     if start > i {
         return;
     }
-    let mut k = wide(start);
+    let mut k = start as usize;
     while marks[k] != i {
         let p = parent_of(tree[k], i);
         tree[k] = p;
         marks[k] = i;
         counts[k] += 1;
-        k = wide(p);
+        k = p as usize;
     }
 }
 
@@ -57,19 +54,8 @@ fn count_row(
     ensures tree_unchanged { (drop n tree.new ≡ drop n tree.old) × (drop n counts.new ≡ drop n counts.old) }
 {
     marks[i] = i as u16;
-    let entries = list(starts, neighbours, wide(order[i]));
-    for e in 0..entries.len() {
-        climb(i as u16, positions[wide(entries[e])], tree, marks, counts);
-    }
-}
-
-// The first n numbers are set to x. O(n).
-fn reset(n: usize, x: u16, numbers: &mut [u16])
-    requires { n ≤ length numbers.old }
-    ensures { numbers.new ≡ written (replicate n x) numbers.old }
-{
-    for k in 0..n {
-        numbers[k] = x;
+    for &w in list(starts, neighbours, order[i] as usize) {
+        climb(i as u16, positions[w as usize], tree, marks, counts);
     }
 }
 
@@ -88,8 +74,8 @@ pub fn count_rows(
     ensures counts_after { counts.new ≡ written (map length (columns (lent n starts.now neighbours.now) order.now)) counts.old }
 {
     let mut marks = filled(NONE);
-    reset(n, NONE, tree);
-    reset(n, 0, counts);
+    tree[..n].fill(NONE);
+    counts[..n].fill(0);
     for i in 0..n {
         count_row(
             n, starts, neighbours, order, positions, i, tree, &mut marks, counts,
@@ -111,9 +97,9 @@ pub fn sum(n: usize, counts: &[u16]) -> Totals
 {
     let mut slots: u32 = 0;
     let mut multiplications: u64 = 0;
-    for j in 0..n {
-        let c = counts[j] as u64;
-        slots += counts[j] as u32;
+    for &count in &counts[..n] {
+        let c = count as u64;
+        slots += count as u32;
         multiplications += c * (c + 3) / 2;
     }
     Totals {
@@ -129,8 +115,8 @@ pub fn write_starts(n: usize, counts: &[u16], column_starts: &mut [u32])
 {
     let mut start: u32 = 0;
     column_starts[0] = 0;
-    for j in 0..n {
-        start += counts[j] as u32;
+    for (j, &count) in counts[..n].iter().enumerate() {
+        start += count as u32;
         column_starts[j + 1] = start;
     }
 }

@@ -7,23 +7,18 @@ ghost use Rattle.plan.specs.Questions.{slot_of, pair_question, column_refusal, c
 ghost use Rattle.mesh.specs.Lists.{ListWithin};
 
 use crate::checks::layout_refusal;
-use mesh::{index, list, lower_bound, wide};
+use mesh::list;
 use plan::{PairAnswer, Span};
 
 // The slot of row i of column j, if it has one. O(log rows of the column).
-fn slot(column_starts: &[u32], rows: &[u16], i: usize, j: usize) -> PairAnswer
+fn slot(column_starts: &[u32], rows: &[u16], i: u16, j: usize) -> PairAnswer
     requires { ListWithin column_starts.now rows.now j × (ascending (list_at column_starts.now rows.now j) ≡ true) }
     ensures { pair_reply result ≡ accepted (slot_of column_starts.now rows.now i j) }
 {
-    let column = list(column_starts, rows, j);
-    let k = lower_bound(column, i);
-    if k == column.len() {
-        return PairAnswer::NoSlot;
+    match list(column_starts, rows, j).binary_search(&i) {
+        Ok(k) => PairAnswer::Slot(column_starts[j] + k as u32),
+        Err(_) => PairAnswer::NoSlot,
     }
-    if wide(column[k]) != i {
-        return PairAnswer::NoSlot;
-    }
-    PairAnswer::Slot(column_starts[j] + k as u32)
 }
 
 // The first question: the slot of a pair of positions, in either order. Checks 1, 22, 21. O(n + slots).
@@ -34,19 +29,16 @@ pub fn slot_of_pair(n: usize, column_starts: &[u32], rows: &[u16], a: usize, b: 
     if fault != 0 {
         return PairAnswer::Refused(fault);
     }
-    if a >= n {
-        return PairAnswer::Refused(21);
-    }
-    if b >= n {
+    if a >= n || b >= n {
         return PairAnswer::Refused(21);
     }
     if a == b {
         return PairAnswer::Diagonal;
     }
     if a < b {
-        return slot(column_starts, rows, b, a);
+        return slot(column_starts, rows, b as u16, a);
     }
-    slot(column_starts, rows, a, b)
+    slot(column_starts, rows, a as u16, b)
 }
 
 // The companion of the second question: its refusal, 0 for none. Checks 1, 22, 21. O(n + slots).
@@ -70,8 +62,8 @@ pub fn column_span(n: usize, column_starts: &[u32], rows: &[u16], j: usize) -> S
     if column_refusal(n, column_starts, rows, j) != 0 {
         return Span { start: 0, count: 0 };
     }
-    let start = index(column_starts[j]);
-    let end = index(column_starts[j + 1]);
+    let start = column_starts[j] as usize;
+    let end = column_starts[j + 1] as usize;
     Span {
         start,
         count: end - start,
@@ -83,7 +75,5 @@ pub fn column_rows<'a>(n: usize, column_starts: &[u32], rows: &'a [u16], j: usiz
     ensures { result.now ≡ column_rows n column_starts.now rows.now j }
 {
     let span = column_span(n, column_starts, rows, j);
-    let a = span.start;
-    let e = a + span.count;
-    &rows[a..e]
+    &rows[span.start..span.start + span.count]
 }

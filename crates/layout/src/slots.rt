@@ -5,27 +5,15 @@ ghost use Rattle.plan.specs.Mesh.{bad_starts};
 ghost use Rattle.plan.specs.Questions.{column_of, slot_question};
 
 use crate::checks::layout_refusal;
-use mesh::index;
 use plan::{Pair, SlotAnswer};
 
 // The column that holds slot s: the last that starts at s or before, since a column without rows starts where the next one does.
-// By bisection: start `low` is not above s, and start `high` is; start n is the number of slots. O(log n).
+// O(log n).
 fn column_of(n: usize, column_starts: &[u32], s: usize) -> usize
     requires { (bad_starts n column_starts.now ≡ false) × (s < get_or column_starts.now n 0) }
     ensures { result ≡ column_of n column_starts.now s }
 {
-    let mut low: usize = 0;
-    let mut high = n;
-    while low + 1 < high {
-        let middle = low + (high - low) / 2;
-        if index(column_starts[middle]) <= s {
-            low = middle;
-        } else {
-            high = middle;
-        }
-    }
-    // start low + 1 is above s: column low holds it
-    low
+    column_starts[..n].partition_point(|&start| start as usize <= s) - 1
 }
 
 // The question about slot s: its row, which is the later position, and its column. Checks 1, 22, 27.
@@ -37,7 +25,7 @@ pub fn pair_of_slot(n: usize, column_starts: &[u32], rows: &[u16], s: usize) -> 
     if fault != 0 {
         return SlotAnswer::Refused(fault);
     }
-    let slots = index(column_starts[n]);
+    let slots = column_starts[n] as usize;
     if s >= slots {
         return SlotAnswer::Refused(27);
     }

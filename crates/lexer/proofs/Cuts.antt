@@ -1,13 +1,18 @@
 -- A list of bytes cut before the first place whose suffix passes a test: the two halves, and a loop that looks for the place.
 use mathlib.Core.Path.{◌≡◌, refl, sym, ap, ◌∙◌}
 use mathlib.Core.Logic.{inl, inr}
-use mathlib.Core.Bool.{Bool, true, false, not, cond}
+use mathlib.Core.Bool.{Bool, true, false, not, cond, false≢true}
 use mathlib.Core.List.{List, [], ◌∷◌, ◌++◌}
 use Prim.Native.Nat.{ℕ, suc, ◌+◌, ◌-◌, ◌≤◌, ◌<◌}
-use native.Mathlib.Numerals.{add-one}
+use native.Mathlib.Numerals.{add-one, one-add}
 use native.Mathlib.Omega.{arith}
-use lib.ListN.{length, length-append, length-drop, get_or, take, drop, drop_of_length-le}
-use lib.Seq.{drop-cons, take_at}
+use lib.ListN.{length, length-append, length-drop, length-take, get_or, take, drop, drop_of_length-le}
+use lib.Seq.{drop-cons, drop-drop, take_at, take_all, get_or-drop}
+use Rattle.std.specs.Prelude.{Option, Some, None, is_some}
+use Rattle.std.specs.Option.{unwrap_or}
+use Rattle.std.specs.List.{position_or_len, position}
+use borrow.Author.Tests.{ltb-true, ltb-false}
+use lib.Dec.{ltb}
 use Rattle.plan.specs.Lists.{segment}
 use Rattle.theory.proofs.Bools.{clash, lt_or_le}
 use Rattle.lexer.specs.Suffixes.{starts, up_to, from, At}
@@ -86,6 +91,49 @@ module _ (stop : List ℕ → Bool) where
 
   pub passed-all : (text : List ℕ) (at i : ℕ) → Passed text at i → stop (drop i text) ≡ true → At text i (from stop (drop at text))
   passed-all text at i p h = (p.most, sym (p.same ∙ from_here (drop i text) h))
+
+-- what is left of a text, as the code takes it
+pub left_all : (text : List ℕ) (at : ℕ) → take (length text - at) (drop at text) ≡ drop at text
+left_all text at = take_all (length text - at) (drop at text) (omega (arith, length-drop at text))
+
+-- where the place that is looked for is the first byte that passes p
+module _ (stop : List ℕ → Bool) (p : ℕ → Bool) (first : (b : ℕ) (t : List ℕ) → stop (b ∷ t) ≡ p b) where
+  from_first : (t : List ℕ) → from stop t ≡ drop (position_or_len p t) t
+  from_first [] = refl
+  from_first (b ∷ t) = rw (first b t) (go (p b) (from_first t))
+    where
+      go : (s : Bool) → from stop t ≡ drop (position_or_len p t) t → cond s (b ∷ t) (from stop t) ≡ drop (cond (not s) (1 + position_or_len p t) 0) (b ∷ t)
+      go true e = refl
+      go false e = e ∙ rw (one-add (position_or_len p t))
+
+  pub place_found : (text : List ℕ) (at k : ℕ) → position p (take (length text - at) (drop at text)) ≡ Some k → (at + k < length text) × (drop (at + k) text ≡ from stop (drop at text))
+  place_found text at k = rw (left_all text at) (go (ltb n (length (drop at text))) refl)
+    where
+      n : ℕ
+      n = position_or_len p (drop at text)
+
+      go : (b : Bool) → ltb n (length (drop at text)) ≡ b → cond b (Some n) None ≡ Some k → (at + k < length text) × (drop (at + k) text ≡ from stop (drop at text))
+      go true h e =
+          let same : n ≡ k = ap (λ (o : Option ℕ). unwrap_or o 0) e in
+          (omega (arith, same, ltb-true n (length (drop at text)) h, length-drop at text), sym (drop-drop k at text) ∙ ap (λ (i : ℕ). drop i (drop at text)) (sym same) ∙ sym (from_first (drop at text)))
+      go false h e = absurd (false≢true (ap (λ (o : Option ℕ). is_some o) e))
+
+  pub place_none : (text : List ℕ) (at : ℕ) → position p (take (length text - at) (drop at text)) ≡ None → from stop (drop at text) ≡ []
+  place_none text at = rw (left_all text at) (go (ltb n (length (drop at text))) refl)
+    where
+      n : ℕ
+      n = position_or_len p (drop at text)
+
+      go : (b : Bool) → ltb n (length (drop at text)) ≡ b → cond b (Some n) None ≡ None → from stop (drop at text) ≡ []
+      go true h e = absurd (false≢true (sym (ap (λ (o : Option ℕ). is_some o) e)))
+      go false h e = from_first (drop at text) ∙ drop_of_length-le (drop at text) (ltb-false n (length (drop at text)) h)
+
+-- the byte at place k of what is left, as a loop reads it
+pub left_long : (text : List ℕ) (at k : ℕ) → k < length (take (length text - at) (drop at text)) → at + k < length text
+left_long text at k lt = omega (arith, lt, length-take (length text - at) (drop at text), length-drop at text)
+
+pub left_byte : (text : List ℕ) (at k : ℕ) → k < length (take (length text - at) (drop at text)) → get_or (take (length text - at) (drop at text)) k 0 ≡ get_or text (at + k) 0
+left_byte text at k lt = ap (λ (l : List ℕ). get_or l k 0) (left_all text at) ∙ get_or-drop at text k 0
 
 -- the same for a loop that passes bytes of one kind
 module _ (p : ℕ → Bool) (text : List ℕ) (at i : ℕ) where

@@ -11,7 +11,7 @@ use borrow.Author.Tests.{eqb-true, not-true, not-false}
 use Rattle.plan.specs.Lists.{keep}
 use Rattle.plan.specs.MatrixMarket.{to_first, not_empty, is_line_feed, is_blank, lines_of, words_of, Line, word_lines}
 use Rattle.theory.proofs.Bools.{or_left, or_false_left, or_false_right, and_right, cond_true, cond_false}
-use Rattle.lexer.specs.Suffixes.{starts, line_ends, word_ends, up_to, from, rest_of_line, not_blank, behind_line, behind_blanks, behind_word, words_at, lines_at, At, Scanned}
+use Rattle.lexer.specs.Suffixes.{starts, line_ends, word_ends, up_to, from, rest_of_line, not_blank, behind_line, behind_blanks, behind_word, words_at, lines_at, At}
 use Rattle.lexer.proofs.Cuts.{cut, up_to_here, from-from, from_stops}
 use Rattle.lexer.proofs.Words.{blank-inside, first_words, words_first, words_some}
 
@@ -123,11 +123,3 @@ word_passed text at next behind some =
     let words = words_first (drop at text) in
     let more : line_ends t ≡ false = not-true _ (sym (words_some t) ∙ sym (ap not_empty words) ∙ some) in
     (ap (λ (u : List ℕ). words_of (rest_of_line u)) behind.1 ∙ sym (ap (drop 1) (words ∙ cond_false (line_ends t) [] _ more)), ap behind_line behind.1 ∙ feed_word (drop at text))
-
--- ---- what a scan hands back
-
-pub scan_found : (found : Bool) (text : List ℕ) (at next : ℕ) (behind : List ℕ) → found ≡ true → At text next behind → Scanned found text at behind (record { found = true; next = next })
-scan_found found text at next behind h place = rw h (refl, place)
-
-pub scan_missed : (found : Bool) (text : List ℕ) (at : ℕ) (behind : List ℕ) → found ≡ false → at ≤ length text → Scanned found text at behind (record { found = false; next = at })
-scan_missed found text at behind h le = rw h (refl, (le, refl))

@@ -1,10 +1,9 @@
 -- What is left of a text from a place on: the rest of the line, its words, and what stands behind a word or the line. A place stands for the bytes
 -- from it on, so that a scan's result is a suffix of the text.
-use Rattle.std.specs.Prelude.{◌≡◌, Bool, true, false, not, cond, ◌&&◌, ◌||◌, List, [], ◌∷◌, map, ℕ, ◌≤◌, eqb, length, drop, get_or}
+use Rattle.std.specs.Prelude.{◌≡◌, Bool, true, false, not, cond, ◌&&◌, ◌||◌, List, [], ◌∷◌, map, ℕ, ◌≤◌, eqb, length, drop, get_or, Option, Some, None}
 use Rattle.plan.specs.Lists.{keep, same}
 use Rattle.plan.specs.MatrixMarket.{not_empty, is_line_feed, is_blank, words_of, Line, word_lines, lower, is_digit, is_number, number_at}
-use Rattle.lexer.specs.declared.NumberScan.{NumberScan}
-use Rattle.lexer.specs.declared.Scan.{Scan}
+use Rattle.lexer.specs.declared.Numeral.{Numeral}
 
 -- whether the line ends here: at the text's end, at a line feed, or at a carriage return with a line feed behind it
 abbrev pub line_ends : List ℕ → Bool
@@ -86,12 +85,18 @@ abbrev pub first_is_word : List ℕ → Line → Bool
 first_is_word word [] = false
 first_is_word word (w ∷ ws) = same (map lower w) word
 
--- a scan that found what it looked for goes on behind it; one that did not stays
-abbrev pub Scanned : Bool → List ℕ → ℕ → List ℕ → Scan → Type 0
-Scanned found text at behind r = (r.found ≡ found) × At text r.next (cond found behind (drop at text))
+-- a scan that found what it looked for gives the place behind it; one that did not gives none
+abbrev pub Scanned : Bool → List ℕ → List ℕ → Option ℕ → Type 0
+Scanned found text behind None = found ≡ false
+Scanned found text behind (Some next) = (found ≡ true) × At text next behind
 
--- the number that is the next word, 0 for none
-pub record NumberAt (text : List ℕ) (at : ℕ) (r : NumberScan) : Type 0 where
-  pub found : r.found ≡ first_is_number (words_at text at)
-  pub value : r.value ≡ cond (first_is_number (words_at text at)) (number_at (words_at text at) 0) 0
-  pub next : At text r.next (cond (first_is_number (words_at text at)) (behind_word (drop at text)) (drop at text))
+-- the number that is the next word, and the place behind it
+pub record NumberRead (text : List ℕ) (at : ℕ) (r : Numeral) : Type 0 where
+  pub found : first_is_number (words_at text at) ≡ true
+  pub value : r.value ≡ number_at (words_at text at) 0
+  pub next : At text r.next (behind_word (drop at text))
+
+-- the same, and none where the next word is no number
+abbrev pub NumberAt : List ℕ → ℕ → Option Numeral → Type 0
+NumberAt text at None = first_is_number (words_at text at) ≡ false
+NumberAt text at (Some r) = NumberRead text at r

@@ -10,6 +10,5 @@ use std::io;
 fn main(rt: HostRuntime) -> io::Result<()> {
     let mut input = [0u8; 5127];
     let read = read_full(&mut rt.stdin(), &mut input)?;
-    let text = text::list(&input[..read]);
-    rt.write_all(&text.bytes[..text.length])
+    rt.write_all(text::list(&input[..read]).as_bytes())
 }

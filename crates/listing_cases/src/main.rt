@@ -3,49 +3,25 @@
 // Cost: that of `text::list` on each case.
 #![tactic(auto)]
 
-ghost use Rattle.std.specs.Prelude.{◌≤◌, length};
+ghost use Rattle.std.specs.Prelude.{◌<◌, length, IfSome};
 
 use input::read_full;
 use std::io;
 
-// Where the case that begins at `at` ends; 0 where no whole case stands there.
-fn end_of(input: &[u8], at: usize) -> usize
-    ensures { result ≤ length input.now }
+// The case at the input's front, and what stands behind it; none where no whole case stands there. O(1).
+fn first_case(input: &[u8]) -> Option<(&[u8], &[u8])>
+    ensures { IfSome result (λ cases. length cases.1.now < length input.now) }
 {
-    if input.len() < at {
-        return 0;
-    }
-    if input.len() - at < 2 {
-        return 0;
-    }
-    let size = coding::read16(input, at) as usize;
-    let from = at + 2;
-    if input.len() - from < size {
-        return 0;
-    }
-    from + size
-}
-
-// Prints the listing of one case.
-fn list_one(rt: &impl Print, input: &[u8]) -> io::Result<()> {
-    let text = text::list(input);
-    rt.write_all(&text.bytes[..text.length])
+    let (size, behind) = input.split_first_chunk::<2>()?;
+    behind.split_at_checked(usize::from(u16::from_le_bytes(*size)))
 }
 
 // Prints the listings of all cases, up to the first that is not whole.
 fn list_all(rt: &impl Print, input: &[u8]) -> io::Result<()> {
-    let mut at: usize = 0;
-    while at < input.len() {
-        let end = end_of(input, at);
-        if end <= at {
-            return Ok(());
-        }
-        if end - at < 2 {
-            return Ok(());
-        }
-        let from = at + 2;
-        list_one(rt, &input[from..end])?;
-        at = end;
+    let mut left = input;
+    while let Some((case, behind)) = first_case(left) {
+        rt.write_all(text::list(case).as_bytes())?;
+        left = behind;
     }
     Ok(())
 }

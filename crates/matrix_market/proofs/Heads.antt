@@ -6,22 +6,17 @@ use Prim.Native.Nat.{ℕ, ◌≤◌}
 use native.Mathlib.Omega.{arith}
 use lib.ListN.{length, drop, get_or, drop_of_length-le}
 use borrow.Author.Tests.{not-true}
-use Rattle.plan.specs.MatrixMarket.{not_empty, Line, words_of, is_banner, holds_numbers, number_at, is_comment, skip_comments, content, size_line, pair_lines}
-use Rattle.lexer.specs.declared.Scan.{Scan}
+use Rattle.plan.specs.MatrixMarket.{not_empty, Line, word_lines, words_of, is_banner, holds_numbers, number_at, is_comment, skip_comments, content, size_line, pair_lines}
+use Rattle.std.specs.Prelude.{Option, Some, None}
 use Rattle.lexer.specs.Suffixes.{rest_of_line, behind_line, words_at, lines_at, At, Scanned}
 use Rattle.matrix_market.specs.declared.size.Size.{Size}
 use Rattle.matrix_market.specs.Lines.{SizeAt, HeadOf}
 use Rattle.matrix_market.proofs.Words.{numbers-some}
 use Rattle.lexer.proofs.Suffixes.{first_line, later-lines, lines-blank, lines_words, lines_over, lines-begin}
 
-module _ (text : List ℕ) (at : ℕ) (r : Scan) (s : Scanned (not (not_empty (words_at text at))) text at (behind_line (drop at text)) r) (f : r.found ≡ true) where
-  -- the line was over: the place is that of the next line
-  pub blank-behind : At text r.next (behind_line (drop at text))
-  blank-behind = (s.1.0, s.1.1 ∙ ap (λ (b : Bool). cond b (behind_line (drop at text)) (drop at text)) (sym s.0 ∙ f))
-
-  -- a blank line is passed
-  pub skip_blank : skip_comments (lines_at text at) ≡ skip_comments (lines_at text r.next)
-  skip_blank = ap skip_comments (lines-blank text at r.next blank-behind (not-true _ (sym s.0 ∙ f)))
+-- a blank line is passed
+pub skip_blank : (text : List ℕ) (at next : ℕ) → Scanned (not (not_empty (words_at text at))) text (behind_line (drop at text)) (Some next) → skip_comments (lines_at text at) ≡ skip_comments (lines_at text next)
+skip_blank text at next s = ap skip_comments (lines-blank text at next s.1 (not-true _ s.0))
 
 -- a comment is passed
 pub skip_comment : (text : List ℕ) (at next : ℕ) → not_empty (words_at text at) ≡ true → is_comment (words_at text at) ≡ true → At text next (behind_line (drop at text))
@@ -54,39 +49,34 @@ skip_over text at le ge = ap skip_comments (no_line text at le ge) ∙ sym (no_l
 -- ---- the head as a whole
 
 -- the size line at place `at` of a text with the banner
-pub head_of : (text : List ℕ) (start at : ℕ) (r : Size) → is_banner (words_at text 0) ≡ true → At text start (behind_line text)
+pub head_of : (text : List ℕ) (start at : ℕ) (r : Option Size) → is_banner (words_at text 0) ≡ true → At text start (behind_line text)
     → skip_comments (lines_at text start) ≡ lines_at text at → get_or (lines_at text at) 0 [] ≡ words_at text at → SizeAt text at r → HeadOf text r
 unfolding content size_line pair_lines
-head_of text start at r said begin skipped first s =
-    let whole : content text ≡ lines_at text at = ap skip_comments (later-lines text start begin) ∙ skipped in
-    let line : size_line text ≡ words_at text at = ap (λ (l : List Line). get_or l 0 []) whole ∙ first in
-    let number : (k : ℕ) → number_at (words_at text at) k ≡ number_at (size_line text) k = λ k. ap (λ (l : Line). number_at l k) (sym line) in
-    record {
-      good = s.good ∙ sym (ap₂ (λ (a : Bool) (l : Line). a && holds_numbers 3 l) (ap is_banner (first_line text) ∙ said) line);
-      rows = λ g. ((s.rows g).0 ∙ number 0, (s.rows g).1);
-      columns = λ g. s.columns g ∙ number 1;
-      pairs = λ g. ((s.pairs g).0 ∙ number 2, (s.pairs g).1);
-      within = λ g. (s.next g).0;
-      lines = λ g. sym (ap (drop 1) (whole ∙ lines_words text at r.next (s.next g) (numbers-some 2 (words_at text at) (sym s.good ∙ g))));
+head_of text start at r said begin skipped first = go r
+  where
+    whole : content text ≡ lines_at text at
+    whole = ap skip_comments (later-lines text start begin) ∙ skipped
+
+    line : size_line text ≡ words_at text at
+    line = ap (λ (l : List Line). get_or l 0 []) whole ∙ first
+
+    number : (k : ℕ) → number_at (words_at text at) k ≡ number_at (size_line text) k
+    number k = ap (λ (l : Line). number_at l k) (sym line)
+
+    kind : (is_banner (get_or (word_lines text) 0 []) && holds_numbers 3 (size_line text)) ≡ holds_numbers 3 (words_at text at)
+    kind = ap₂ (λ (a : Bool) (l : Line). a && holds_numbers 3 l) (ap is_banner (first_line text) ∙ said) line
+
+    go : (r : Option Size) → SizeAt text at r → HeadOf text r
+    go None s = kind ∙ s
+    go (Some r) s = record {
+      good = kind ∙ s.good;
+      rows = (s.rows.0 ∙ number 0, s.rows.1);
+      columns = s.columns ∙ number 1;
+      pairs = (s.pairs.0 ∙ number 2, s.pairs.1);
+      within = s.next.0;
+      lines = sym (ap (drop 1) (whole ∙ lines_words text at r.next s.next (numbers-some 2 (words_at text at) s.good)));
     }
 
 -- a text without the banner
-pub no_head : (text : List ℕ) (at : ℕ) → is_banner (words_at text 0) ≡ false → HeadOf text (record { good = false; rows = 0; columns = 0; pairs = 0; next = at })
-no_head text at other = record {
-  good = sym (ap (λ (b : Bool). b && holds_numbers 3 (size_line text)) (ap is_banner (first_line text) ∙ other));
-  rows = λ g. absurd (false≢true g);
-  columns = λ g. absurd (false≢true g);
-  pairs = λ g. absurd (false≢true g);
-  within = λ g. absurd (false≢true g);
-  lines = λ g. absurd (false≢true g);
-}
-
--- a line that is no size line
-pub no_size_at : (text : List ℕ) (at : ℕ) → holds_numbers 3 (words_at text at) ≡ false → SizeAt text at (record { good = false; rows = 0; columns = 0; pairs = 0; next = at })
-no_size_at text at none = record {
-  good = sym none;
-  rows = λ g. absurd (false≢true g);
-  columns = λ g. absurd (false≢true g);
-  pairs = λ g. absurd (false≢true g);
-  next = λ g. absurd (false≢true g);
-}
+pub no_head : (text : List ℕ) → is_banner (words_at text 0) ≡ false → HeadOf text None
+no_head text other = ap (λ (b : Bool). b && holds_numbers 3 (size_line text)) (ap is_banner (first_line text) ∙ other)

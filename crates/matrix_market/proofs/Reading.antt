@@ -3,10 +3,11 @@ use mathlib.Core.Path.{◌≡◌, refl, sym, ap, ap₂, ◌∙◌}
 use mathlib.Core.Logic.{inl, inr, ◌≢◌}
 use mathlib.Core.Bool.{Bool, true, false, not, ◌&&◌, ◌||◌}
 use mathlib.Core.List.{List, [], map}
-use Prim.Native.Nat.{ℕ, ◌≤◌, ◌<◌}
+use Prim.Native.Nat.{ℕ, ◌*◌, ◌≤◌, ◌<◌}
 use native.Mathlib.Omega.{arith}
 use lib.Dec.{ltb, eqb}
-use lib.ListN.{length, get_or, length-map}
+use lib.ListN.{length, take, get_or, length-map}
+use lib.Seq.{take_all}
 use borrow.Author.Tests.{eqb-true, ltb-false, not-false}
 use Rattle.plan.specs.declared.MeshAnswer.{MeshAnswer}
 use Rattle.plan.specs.declared.MeshAnswer.TheVariants.{Accepted, Refused}
@@ -16,9 +17,12 @@ use Rattle.plan.specs.Refusals.{first_fault}
 use Rattle.plan.specs.Mesh.{max_nodes, max_entries, max_neighbours, Mesh, bad_node_count, too_many_entries, list_too_long}
 use Rattle.plan.specs.Elimination.{tabulate}
 use Rattle.plan.specs.MadeMesh.{mesh_of, MeshBuffers, MeshCapacity, mesh_capacity, mesh_buffers_too_short, made_checks}
-use Rattle.plan.specs.MatrixMarket.{Line, word_lines, is_banner, holds_numbers, size_line, row_count, stated_pairs, pair_lines, pair_of, pairs_of, bad_text, bad_pair, bad_matrix, repeated_pair, are_neighbours, lists_of, text_mesh, text_checks, reading_text, TextRead}
+use Rattle.plan.specs.MatrixMarket.{Line, word_lines, is_banner, max_number, holds_numbers, given_again, size_line, row_count, stated_pairs, pair_lines, pair_of, pairs_of, bad_text, bad_pair, bad_matrix, repeated_pair, are_neighbours, lists_of, text_mesh, text_checks, reading_text, TextRead}
 use Rattle.theory.specs.Keys.{pair_of_key}
-use Rattle.theory.proofs.Bools.{or_left, or_false_left, or_false_right, tested}
+use Rattle.theory.proofs.Bools.{or_left, or_right, or_false_right, tested}
+use Rattle.theory.proofs.Written.{front-written}
+use Rattle.matrix_market.proofs.Runs.{links_few, keys-long}
+use Rattle.plan.specs.AcceptedTexts.{off_diagonal}
 use Rattle.theory.proofs.Refusals.{no_fault, fault_here, fault_later, first_nil, first_some, first-none}
 use Rattle.theory.proofs.Checked.{node_count}
 use Rattle.theory.proofs.Ranges.{length-map-up_from}
@@ -32,7 +36,8 @@ use Rattle.sorting.proofs.Sorted.{sorted-alike}
 use Rattle.lexer.specs.Suffixes.{lines_at}
 use Rattle.matrix_market.specs.declared.size.Size.{Size}
 use Rattle.matrix_market.specs.declared.pairs.Tally.{Tally}
-use Rattle.matrix_market.specs.Lines.{HeadOf, pairs_in, keys_in, wrong_lines, wrong_matrix, pairs_checks, Surveyed}
+use Rattle.std.specs.Prelude.{Option, Some, None}
+use Rattle.matrix_market.specs.Lines.{HeadRead, HeadOf, pairs_in, keys_in, wrong_lines, wrong_matrix, pairs_checks, Told, Surveyed}
 use Rattle.matrix_market.specs.Made.{size_checks, list_checks, ListsHanded}
 use Rattle.matrix_market.specs.SortedPairs.{key_lists, SortedPairs}
 use Rattle.matrix_market.proofs.KeyOrder.{keys_bad, keys_lists}
@@ -62,35 +67,33 @@ module _ (text : List ℕ) where
   neither false b h = sym h
 
   -- 23: the head is none
-  pub kind-head : (r : Size) → HeadOf text r → r.good ≡ false → bad_text text ≡ true
+  pub kind-head : HeadOf text None → bad_text text ≡ true
   unfolding bad_text
-  kind-head r h g = or_left (no_banner || no_size || no_pairs) _ (or_left (no_banner || no_size) _ (both (is_banner (get_or (word_lines text) 0 [])) _ (sym h.good ∙ g)))
+  kind-head h = or_left (no_banner || no_size || no_pairs) _ (or_left (no_banner || no_size) _ (both (is_banner (get_or (word_lines text) 0 [])) _ h))
+
+  -- or a line of the pairs holds none
+  pub kind-lines : (r : Size) → HeadRead text r → every (holds_numbers 2) (lines_at text r.next) ≡ false → bad_text text ≡ true
+  unfolding bad_text
+  kind-lines r h f = or_left (no_banner || no_size || no_pairs) _ (or_right (no_banner || no_size) no_pairs (ap not (ap (every (holds_numbers 2)) (sym h.lines) ∙ f)))
 
   -- with a head, 23 and 24 are what the lines of the pairs tell
-  module _ (r : Size) (h : HeadOf text r) (g : r.good ≡ true) (n : ℕ) (t : Tally) (found left : List ℕ) (same : n ≡ r.rows) (v : Surveyed (lines_at text r.next) n t found left) where
-    read_lines : every (holds_numbers 2) (pair_lines text) ≡ t.good
-    read_lines = ap (every (holds_numbers 2)) (sym (h.lines g)) ∙ sym v.good
-
+  module _ (r : Size) (h : HeadRead text r) (n : ℕ) (t : Tally) (found left : List ℕ) (same : n ≡ r.rows) (v : Told (lines_at text r.next) n t found left) where
     pub text_lines : bad_text text ≡ wrong_lines r t
     unfolding bad_text
     text_lines =
-        ap₂ (λ (a b : Bool). (a || not b) || miscounted) (neither (is_banner (get_or (word_lines text) 0 [])) _ (sym h.good ∙ g)) read_lines
-        ∙ elim (tested t.good) [
-          | inl y ↦ ap₂ (λ (p q : ℕ). not t.good || not (eqb p q))
-              (sym (ap (λ (s : Tally). s.pairs) (v.told y) ∙ ap length (h.lines g))) (sym (h.pairs g).0)
-          | inr f ↦ ap (λ (b : Bool). not b || miscounted) f ∙ sym (ap (λ (b : Bool). not b || not (eqb t.pairs r.pairs)) f)
-        ]
+        ap₂ (λ (a b : Bool). (a || not b) || miscounted) (neither (is_banner (get_or (word_lines text) 0 [])) _ h.good) (ap (every (holds_numbers 2)) (sym h.lines) ∙ v.good)
+        ∙ ap₂ (λ (p q : ℕ). not (eqb p q)) (sym (ap (λ (s : Tally). s.pairs) v.told ∙ ap length h.lines)) (sym h.pairs.0)
 
-    pub text_matrix : t.good ≡ true → bad_matrix text ≡ wrong_matrix r t
+    pub text_matrix : bad_matrix text ≡ wrong_matrix r t
     unfolding bad_matrix pairs_of
-    text_matrix y =
+    text_matrix =
         ap₂ (λ (a b : Bool). not a || b)
-        (ap₂ eqb (sym (h.rows g).0) (sym (h.columns g)))
-        (sym (ap (λ (s : Tally). s.bad) (v.told y) ∙ ap₂ (λ (k : ℕ) (l : List Line). exists (bad_pair k) (pairs_in l)) (same ∙ (h.rows g).0) (h.lines g)))
+        (ap₂ eqb (sym h.rows.0) (sym h.columns))
+        (sym (ap (λ (s : Tally). s.bad) v.told ∙ ap₂ (λ (k : ℕ) (l : List Line). exists (bad_pair k) (pairs_in l)) (same ∙ h.rows.0) h.lines))
 
-    -- the lines are good, and as many as stated
-    pub lines-good : wrong_lines r t ≡ false → (t.good ≡ true) × (t.pairs ≡ r.pairs)
-    lines-good e = (not-false _ (or_false_left (not t.good) _ e), eqb-true t.pairs r.pairs (not-false _ (or_false_right (not t.good) _ e)))
+    -- the lines are as many as stated
+    pub lines-good : wrong_lines r t ≡ false → t.pairs ≡ r.pairs
+    lines-good e = eqb-true t.pairs r.pairs (not-false _ e)
 
   -- ---- the first fault
 
@@ -124,13 +127,13 @@ module _ (text : List ℕ) where
     fault_lists k m h none = fault_made k m h ∙ first-none (size_checks (text_mesh text) room) (list_checks (text_mesh text) room) refl none
 
   -- where the lines of the pairs are at fault, theirs is the first
-  module _ (room : MeshCapacity) (r : Size) (h : HeadOf text r) (g : r.good ≡ true) (n : ℕ) (t : Tally) (found left : List ℕ) (same : n ≡ r.rows) (v : Surveyed (lines_at text r.next) n t found left) where
+  module _ (room : MeshCapacity) (r : Size) (h : HeadRead text r) (n : ℕ) (t : Tally) (found left : List ℕ) (same : n ≡ r.rows) (v : Told (lines_at text r.next) n t found left) where
     pub fault_pairs : first_fault (pairs_checks r t) ≢ 0 → first_fault (text_checks text room) ≡ first_fault (pairs_checks r t)
     unfolding pairs_checks
     fault_pairs some = elim (tested (wrong_lines r t)) [
-      | inl y ↦ fault_23 room (text_lines r h g n t found left same v ∙ y) ∙ sym (fault_here 23 (wrong_lines r t) _ y)
-      | inr f ↦ (let kind = text_lines r h g n t found left same v ∙ f in
-          let matrix = text_matrix r h g n t found left same v (lines-good r h g n t found left same v f).0 in
+      | inl y ↦ fault_23 room (text_lines r h n t found left same v ∙ y) ∙ sym (fault_here 23 (wrong_lines r t) _ y)
+      | inr f ↦ (let kind = text_lines r h n t found left same v ∙ f in
+          let matrix = text_matrix r h n t found left same v in
           elim (tested (wrong_matrix r t)) [
             | inl y ↦ fault_24 room kind (matrix ∙ y) ∙ sym (fault_later 23 (wrong_lines r t) _ f ∙ fault_here 24 (wrong_matrix r t) _ y)
             | inr e ↦ absurd (some (fault_later 23 (wrong_lines r t) _ f ∙ fault_later 24 (wrong_matrix r t) _ e ∙ first_nil))
@@ -230,3 +233,71 @@ module _ (text : List ℕ) (found : MeshBuffers) (p : TextSized text (mesh_capac
   pub handed_read : (left : MeshBuffers) (answer : MeshAnswer) → ListsHanded (text_mesh text) answer found left → TextRead text answer found left
   unfolding reading_text
   handed_read left answer h = rw (fault_lists text (mesh_capacity found) p.kind p.matrix p.once p.size) h
+
+-- ---- what reading has met, once 23 and 24 find nothing
+
+pub head_none : (text : List ℕ) (r : Option Size) → HeadOf text r → r ≡ None → HeadOf text None
+head_none text r h e = rw e at h
+
+pub head_read : (text : List ℕ) (r : Option Size) (s : Size) → HeadOf text r → r ≡ Some s → HeadRead text s
+head_read text r s h e = rw e at h
+
+pub lines_none : (lines : List Line) (n : ℕ) (r : Option Tally) (found left : List ℕ) → Surveyed lines n r found left → r ≡ None → every (holds_numbers 2) lines ≡ false
+lines_none lines n r found left v e = rw e at v.all
+
+pub lines_told : (lines : List Line) (n : ℕ) (r : Option Tally) (t : Tally) (found left : List ℕ) → Surveyed lines n r found left → r ≡ Some t → Told lines n t found left
+lines_told lines n r t found left v e = rw e at v.all
+
+pub record HasRead (text : List ℕ) (r : Size) (t : Tally) (found left : List ℕ) : Type 0 where
+  pub head : HeadRead text r
+  pub told : Told (lines_at text r.next) r.rows t found left
+  pub long : length left ≡ length found
+  pub right : first_fault (pairs_checks r t) ≡ 0
+
+module _ (text : List ℕ) (r : Size) (t : Tally) (found left : List ℕ) (p : HasRead text r t found left) where
+  right-both : (wrong_lines r t ≡ false) × (wrong_matrix r t ≡ false)
+  unfolding pairs_checks
+  right-both =
+      let none = no_fault 23 _ _ (omega arith) p.right in
+      (none.0, (no_fault 24 _ _ (omega arith) none.1).0)
+
+  pub read_kind : bad_text text ≡ false
+  read_kind = text_lines text r p.head r.rows t found left refl p.told ∙ right-both.0
+
+  pub read_matrix : bad_matrix text ≡ false
+  read_matrix = text_matrix text r p.head r.rows t found left refl p.told ∙ right-both.1
+
+  pub read_none-bad : exists (bad_pair r.rows) (pairs_in (lines_at text r.next)) ≡ false
+  read_none-bad = sym (ap (λ (s : Tally). s.bad) p.told.told) ∙ or_false_right (not (eqb r.rows r.columns)) _ right-both.1
+
+  pub read_pairs : t.pairs ≡ length (lines_at text r.next)
+  read_pairs = ap (λ (s : Tally). s.pairs) p.told.told
+
+  -- the number of pairs is one of 32 bits, and so is that of links
+  pub read_pairs-small : t.pairs ≤ max_number
+  read_pairs-small = omega (arith, lines-good text r p.head r.rows t found left refl p.told right-both.0, p.head.pairs.1)
+
+  pub read_links-small : t.links ≤ max_number
+  read_links-small = omega (arith, read_pairs-small, read_pairs, ap (λ (s : Tally). s.links) p.told.told, links_few (lines_at text r.next))
+
+  -- the keys that the search for a repeat begins with
+  pub first_block : t.pairs ≤ length left → take t.pairs left ≡ keys_in (lines_at text r.next)
+  first_block le =
+      let many : length (keys_in (lines_at text r.next)) ≡ t.pairs = keys-long (lines_at text r.next) ∙ sym read_pairs in
+      let all = take_all (length found) (keys_in (lines_at text r.next)) (omega (arith, le, many, p.long)) in
+      front-written t.pairs (keys_in (lines_at text r.next)) found left (p.told.keys ∙ ap (λ (l : List ℕ). written l found) all) many
+
+  pub read_again : (b : Bool) → b ≡ given_again (pairs_in (lines_at text r.next)) → b ≡ repeated_pair text
+  unfolding repeated_pair pairs_of
+  read_again b e = e ∙ ap (λ (l : List Line). given_again (pairs_in l)) p.head.lines
+
+  -- the mesh's numbers of nodes and entries, where no pair is given again
+  pub read_nodes : (text_mesh text).nodes ≡ r.rows
+  unfolding text_mesh mesh_of
+  read_nodes = sym p.head.rows.0
+
+  pub read_entries : repeated_pair text ≡ false → length (text_mesh text).neighbours ≡ 2 * t.links
+  unfolding pairs_of
+  read_entries once =
+      entries_by_pairs text read_matrix once
+      ∙ ap (λ (k : ℕ). 2 * k) (sym (ap (λ (s : Tally). s.links) p.told.told ∙ ap (λ (l : List Line). length (keep off_diagonal (pairs_in l))) p.head.lines))

@@ -5,7 +5,7 @@ use mathlib.Core.Bool.{Bool, true, false, cond, ◌&&◌, ◌||◌, or-false}
 use mathlib.Core.List.{List, [], ◌∷◌, ◌++◌, map, append-nil, map-append}
 use Prim.Native.Nat.{ℕ, ◌+◌, ◌≤◌, ◌<◌}
 use native.Mathlib.Omega.{arith}
-use lib.ListN.{length, take, set, length-append, length-take, length-map}
+use lib.ListN.{length, take, drop, set, length-append, length-take, length-map}
 use lib.Seq.{take_all, take-append-le, set_out, append_snoc}
 use borrow.Author.Tests.{not-true, not-false}
 use Rattle.plan.specs.Lists.{exists, every, keep, written}
@@ -15,10 +15,12 @@ use Rattle.theory.specs.Keys.{key_of}
 use Rattle.theory.proofs.Bools.{and_left, and_right, and_both, lt_or_le}
 use Rattle.theory.proofs.Written.{written_push, written-length}
 use Rattle.theory.proofs.AnyLists.{some-append, all_append, kept_append}
+use Rattle.std.specs.Prelude.{Option, Some, None}
 use Rattle.matrix_market.specs.declared.pairs.PairLine.{PairLine}
+use Rattle.matrix_market.specs.declared.pairs.Pair.{Pair as ReadPair}
 use Rattle.matrix_market.specs.declared.pairs.Tally.{Tally}
-use Rattle.lexer.specs.Suffixes.{words_at, lines_at}
-use Rattle.matrix_market.specs.Lines.{PairAt, pairs_in, keys_in, tally_of}
+use Rattle.lexer.specs.Suffixes.{behind_line, words_at, lines_at, At}
+use Rattle.matrix_market.specs.Lines.{PairOf, HeldPair, PairAt, pairs_in, keys_in, tally_of}
 use Rattle.matrix_market.proofs.Words.{numbers-some}
 use Rattle.lexer.proofs.Suffixes.{lines-blank, lines_words, lines_over, lines-begin, line_passed}
 
@@ -39,45 +41,35 @@ module _ (text : List ℕ) (at here : ℕ) (front : List Line) (p : Passed text 
       let e : here ≡ length text = omega (arith, p.within) in
       p.lines ∙ ap (λ (i : ℕ). front ++ lines_at text i) e ∙ ap (λ (l : List Line). front ++ l) (lines_over text) ∙ append-nil front
 
-  module _ (r : PairLine) (s : PairAt text here r) (lt : here < length text) where
-    -- a line without words
-    pub passed-blank : r.blank ≡ true → Passed text at r.next front
-    passed-blank b = record {
-      within = (s.blank_next b).0;
-      lines = p.lines ∙ ap (λ (l : List Line). front ++ l) (lines-blank text here r.next (s.blank_next b) (not-true _ (sym s.blank ∙ b)));
-      good = p.good;
-      few = omega (arith, p.few, line_passed text here r.next lt (s.blank_next b));
-    }
+  -- a line without words
+  pub passed-blank : (next : ℕ) → here < length text → not_empty (words_at text here) ≡ false → At text next (behind_line (drop here text)) → Passed text at next front
+  passed-blank next lt b s = record {
+    within = s.0;
+    lines = p.lines ∙ ap (λ (l : List Line). front ++ l) (lines-blank text here next s b);
+    good = p.good;
+    few = omega (arith, p.few, line_passed text here next lt s);
+  }
 
-    -- one with a pair
-    pub passed-pair : r.good ≡ true → Passed text at r.next (front ++ (words_at text here ∷ []))
-    passed-pair g =
-        let pair : holds_numbers 2 (words_at text here) ≡ true = sym s.good ∙ g in
-        record {
-          within = (s.good_next g).0;
-          lines = p.lines
-              ∙ ap (λ (l : List Line). front ++ l) (lines_words text here r.next (s.good_next g) (numbers-some 1 (words_at text here) pair))
-              ∙ sym (append_snoc front (words_at text here) (lines_at text r.next));
-          good = all_append (holds_numbers 2) front (words_at text here ∷ [])
-              ∙ and_both (every (holds_numbers 2) front) _ p.good (ap (λ (b : Bool). b && true) pair);
-          few = omega (arith, p.few, length-append front (words_at text here ∷ []), line_passed text here r.next lt (s.good_next g));
-        }
+  -- one with a pair
+  pub passed-pair : (next : ℕ) → here < length text → holds_numbers 2 (words_at text here) ≡ true → At text next (behind_line (drop here text)) → Passed text at next (front ++ (words_at text here ∷ []))
+  passed-pair next lt pair s =
+      record {
+        within = s.0;
+        lines = p.lines
+            ∙ ap (λ (l : List Line). front ++ l) (lines_words text here next s (numbers-some 1 (words_at text here) pair))
+            ∙ sym (append_snoc front (words_at text here) (lines_at text next));
+        good = all_append (holds_numbers 2) front (words_at text here ∷ [])
+            ∙ and_both (every (holds_numbers 2) front) _ p.good (ap (λ (b : Bool). b && true) pair);
+        few = omega (arith, p.few, length-append front (words_at text here ∷ []), line_passed text here next lt s);
+      }
 
   -- a line that has words and no pair
-  pub passed_bad : not_empty (words_at text here) ≡ true → holds_numbers 2 (words_at text here) ≡ false → every (holds_numbers 2) (lines_at text at) ≡ false
-  passed_bad some none =
-      let begin = lines-begin text here some in
+  pub passed_bad : PairAt text here None → every (holds_numbers 2) (lines_at text at) ≡ false
+  passed_bad s =
+      let begin = lines-begin text here s.0 in
       ap (every (holds_numbers 2)) (p.lines ∙ ap (λ (l : List Line). front ++ l) begin.1)
       ∙ all_append (holds_numbers 2) front (words_at text here ∷ begin.0)
-      ∙ ap₂ (λ (a b : Bool). a && (b && every (holds_numbers 2) begin.0)) p.good none
-
-  -- where all lines are good, one that has words has a pair
-  pub passed-good : every (holds_numbers 2) (lines_at text at) ≡ true → (r : PairLine) → PairAt text here r → r.blank ≡ false → r.good ≡ true
-  passed-good all r s b =
-      let begin = lines-begin text here (not-false _ (sym s.blank ∙ b)) in
-      let left : every (holds_numbers 2) (lines_at text here) ≡ true =
-      and_right (every (holds_numbers 2) front) _ (sym (all_append (holds_numbers 2) front (lines_at text here)) ∙ ap (every (holds_numbers 2)) (sym p.lines) ∙ all) in
-      s.good ∙ and_left (holds_numbers 2 (words_at text here)) _ (ap (every (holds_numbers 2)) (sym begin.1) ∙ left)
+      ∙ ap₂ (λ (a b : Bool). a && (b && every (holds_numbers 2) begin.0)) p.good s.1
 
 -- ---- what a run tells
 
@@ -96,7 +88,6 @@ links_few lines = omega (arith, kept-few off_diagonal (pairs_in lines), length-m
 -- one line more
 tally_more : (n : ℕ) (front : List Line) (line : Line)
     → tally_of n (front ++ (line ∷ [])) ≡ record {
-      good = true;
       pairs = (tally_of n front).pairs + 1;
       bad = ((tally_of n front).bad || bad_pair n (pair_of line));
       links = (tally_of n front).links + cond (off_diagonal (pair_of line)) 1 0;
@@ -136,7 +127,7 @@ keys-long front = length-map (pairs_in front) key_of ∙ length-map front pair_o
 
 module _ (front : List Line) (line : Line) (row column : ℕ) (r : row ≡ number_at line 0) (c : column ≡ number_at line 1) where
   pub told-next : (n : ℕ) (s t : Tally) → s ≡ tally_of n front
-      → t ≡ record { good = s.good; pairs = s.pairs + 1; bad = (s.bad || bad_pair n (row, column)); links = s.links + cond (off_diagonal (row, column)) 1 0 }
+      → t ≡ record { pairs = s.pairs + 1; bad = (s.bad || bad_pair n (row, column)); links = s.links + cond (off_diagonal (row, column)) 1 0 }
       → t ≡ tally_of n (front ++ (line ∷ []))
   told-next n s t e f = f ∙ rw (e, r, c) (sym (tally_more n front line))
 
@@ -151,3 +142,19 @@ pub gathered_next : (front : List Line) (line : Line) (row column : ℕ) → row
     → left ≡ set keys k x → left ≡ written (keys_in (front ++ (line ∷ []))) found
 gathered_next front line row column r c found keys left k x e l lt h s =
     s ∙ rw (e, h, r, c, keys_more front line) (written_push (keys_in front) found k (key_of (pair_of line)) (keys-long front ∙ sym l) lt)
+
+-- ---- a line as it was read
+
+module _ (text : List ℕ) (here : ℕ) (r : Option PairLine) (s : PairAt text here r) where
+  pub read_none : r ≡ None → PairAt text here None
+  read_none e = rw e at s
+
+  module _ (line : PairLine) (e : r ≡ Some line) where
+    held : HeldPair (words_at text here) line.pair × At text line.next (behind_line (drop here text))
+    held = rw e at s
+
+    pub read_blank : line.pair ≡ None → (not_empty (words_at text here) ≡ false) × At text line.next (behind_line (drop here text))
+    read_blank f = (rw f at held.0, held.1)
+
+    pub read_some : (p : ReadPair) → line.pair ≡ Some p → PairOf (words_at text here) p × At text line.next (behind_line (drop here text))
+    read_some p f = (rw f at held.0, held.1)

@@ -11,9 +11,9 @@ use borrow.Author.Tests.{eq-eqb, ne_eqb, eqb-true, leb-true}
 use Rattle.plan.specs.Lists.{every}
 use Rattle.plan.specs.MatrixMarket.{bytes, not_empty, Line, lower, same_words, banner, is_banner, words_of, max_number, is_digit, value_of, is_number, holds_numbers, number_at}
 use Rattle.theory.proofs.Bools.{and_right, iff_eq}
-use Rattle.lexer.specs.declared.NumberScan.{NumberScan}
-use Rattle.lexer.specs.declared.Scan.{Scan}
-use Rattle.lexer.specs.Suffixes.{behind_line, behind_word, words_at, At, first_is_number, first_is_word, Scanned, NumberAt}
+use Rattle.std.specs.Prelude.{Option, Some, None}
+use Rattle.lexer.specs.declared.Numeral.{Numeral}
+use Rattle.lexer.specs.Suffixes.{behind_line, behind_word, words_at, At, first_is_number, first_is_word, Scanned, NumberRead, NumberAt}
 use Rattle.lexer.proofs.Suffixes.{word_passed}
 
 -- ---- numbers
@@ -72,12 +72,9 @@ numbers-start text at le = record { within = le; words = refl; behind = refl; ho
 
 module _ (text : List ℕ) (at here k : ℕ) (n : Numbers text at here k) where
   -- the next word is a number
-  pub numbers-next : (r : NumberScan) → NumberAt text here r → r.found ≡ true → Numbers text at r.next (k + 1)
-  numbers-next r s f =
-      let number : first_is_number (words_at text here) ≡ true = sym s.found ∙ f in
-      let moved : At text r.next (behind_word (drop here text)) =
-      (s.next.0, s.next.1 ∙ ap (λ (b : Bool). cond b (behind_word (drop here text)) (drop here text)) number) in
-      let passed = word_passed text here r.next moved (number-some (words_at text here) number) in
+  pub numbers-next : (r : Numeral) → NumberRead text here r → Numbers text at r.next (k + 1)
+  numbers-next r s =
+      let passed = word_passed text here r.next s.next (number-some (words_at text here) s.found) in
       record {
         within = s.next.0;
         words = passed.0 ∙ ap (drop 1) n.words ∙ drop-drop 1 k (words_at text at);
@@ -85,39 +82,34 @@ module _ (text : List ℕ) (at here k : ℕ) (n : Numbers text at here k) where
         holds = λ j. ap (λ (i : ℕ). holds_numbers i (words_at text at)) (omega arith)
             ∙ n.holds (suc j)
             ∙ holds-next j (words_at text here)
-            ∙ ap (λ (b : Bool). b && holds_numbers j (drop 1 (words_at text here))) number
+            ∙ ap (λ (b : Bool). b && holds_numbers j (drop 1 (words_at text here))) s.found
             ∙ ap (holds_numbers j) (sym passed.0);
       }
 
   -- its value
-  pub numbers-value : (r : NumberScan) → NumberAt text here r → r.found ≡ true → (r.value ≡ number_at (words_at text at) k) × (r.value ≤ max_number)
-  numbers-value r s f =
-      let number : first_is_number (words_at text here) ≡ true = sym s.found ∙ f in
-      let own : r.value ≡ number_at (words_at text here) 0 = s.value ∙ ap (λ (b : Bool). cond b (number_at (words_at text here) 0) 0) number in
+  pub numbers-value : (r : Numeral) → NumberRead text here r → (r.value ≡ number_at (words_at text at) k) × (r.value ≤ max_number)
+  numbers-value r s =
       let word : get_or (words_at text here) 0 [] ≡ get_or (words_at text at) k [] =
       ap (λ (l : Line). get_or l 0 []) n.words ∙ later_word k 0 (words_at text at) ∙ ap (λ (i : ℕ). get_or (words_at text at) i []) (omega arith) in
-      (own ∙ ap value_of word, omega (arith, own, number_small (words_at text here) number))
+      (s.value ∙ ap value_of word, omega (arith, s.value, number_small (words_at text here) s.found))
 
   -- it is none: the line does not hold as many, nor more
-  pub numbers-none : (r : NumberScan) (j : ℕ) → NumberAt text here r → r.found ≡ false → holds_numbers (k + suc j) (words_at text at) ≡ false
-  numbers-none r j s f =
-      n.holds (suc j) ∙ holds-next j (words_at text here) ∙ ap (λ (b : Bool). b && holds_numbers j (drop 1 (words_at text here))) (sym s.found ∙ f)
+  pub numbers-none : (j : ℕ) → first_is_number (words_at text here) ≡ false → holds_numbers (k + suc j) (words_at text at) ≡ false
+  numbers-none j s = n.holds (suc j) ∙ holds-next j (words_at text here) ∙ ap (λ (b : Bool). b && holds_numbers j (drop 1 (words_at text here))) s
 
   -- the line is over, or not
-  pub numbers_over : (r : Scan) → Scanned (not (not_empty (words_at text here))) text here (behind_line (drop here text)) r → r.found ≡ holds_numbers k (words_at text at)
-  numbers_over r s =
-      s.0 ∙ sym (holds-none (words_at text here)) ∙ sym (n.holds 0) ∙ ap (λ (i : ℕ). holds_numbers i (words_at text at)) (omega arith)
+  pub numbers_over : holds_numbers k (words_at text at) ≡ not (not_empty (words_at text here))
+  numbers_over = ap (λ (i : ℕ). holds_numbers i (words_at text at)) (omega arith) ∙ n.holds 0 ∙ holds-none (words_at text here)
 
-  pub numbers-behind : (r : Scan) → Scanned (not (not_empty (words_at text here))) text here (behind_line (drop here text)) r → r.found ≡ true
-      → At text r.next (behind_line (drop at text))
-  numbers-behind r s f =
-      (s.1.0, s.1.1 ∙ ap (λ (b : Bool). cond b (behind_line (drop here text)) (drop here text)) (sym s.0 ∙ f) ∙ n.behind)
+  pub numbers-behind : (next : ℕ) → At text next (behind_line (drop here text)) → At text next (behind_line (drop at text))
+  numbers-behind next s = (s.0, s.1 ∙ n.behind)
 
 -- ---- given words
 
 -- what is left to be said of the banner at a place
 pub record Banner (text : List ℕ) (here : ℕ) (rest : Line) : Type 0 where
   pub within : here ≤ length text
+  pub behind : behind_line (drop here text) ≡ behind_line text
   pub left : is_banner (words_at text 0) ≡ same_words (map (map lower) (words_at text here)) rest
 
 words_next : (w : List ℕ) (rest ws : Line) → same_words (map (map lower) ws) (w ∷ rest) ≡ (first_is_word w ws && same_words (map (map lower) (drop 1 ws)) rest)
@@ -142,27 +134,46 @@ banner_words_lem = refl
 
 pub banner-start : (text : List ℕ) → Banner text 0 banner_words
 unfolding is_banner
-banner-start text = record { within = omega arith; left = ap (same_words (map (map lower) (words_at text 0))) banner_words_lem }
+banner-start text = record { within = omega arith; behind = refl; left = ap (same_words (map (map lower) (words_at text 0))) banner_words_lem }
 
-module _ (text : List ℕ) (here : ℕ) (w : List ℕ) (rest : Line) (b : Banner text here (w ∷ rest)) (r : Scan) (s : Scanned (first_is_word w (words_at text here)) text here (behind_word (drop here text)) r) where
-  pub banner-next : r.found ≡ true → Banner text r.next rest
-  banner-next f =
-      let said : first_is_word w (words_at text here) ≡ true = sym s.0 ∙ f in
-      let moved : At text r.next (behind_word (drop here text)) =
-      (s.1.0, s.1.1 ∙ ap (λ (t : Bool). cond t (behind_word (drop here text)) (drop here text)) said) in
-      let passed = word_passed text here r.next moved (word_some w (words_at text here) said) in
+module _ (text : List ℕ) (here : ℕ) (w : List ℕ) (rest : Line) (b : Banner text here (w ∷ rest)) where
+  pub banner-next : (next : ℕ) → Scanned (first_is_word w (words_at text here)) text (behind_word (drop here text)) (Some next) → Banner text next rest
+  banner-next next s =
+      let passed = word_passed text here next s.1 (word_some w (words_at text here) s.0) in
       record {
         within = s.1.0;
+        behind = passed.1 ∙ b.behind;
         left = b.left ∙ words_next w rest (words_at text here)
-            ∙ ap (λ (t : Bool). t && same_words (map (map lower) (drop 1 (words_at text here))) rest) said
+            ∙ ap (λ (t : Bool). t && same_words (map (map lower) (drop 1 (words_at text here))) rest) s.0
             ∙ ap (λ (ws : Line). same_words (map (map lower) ws) rest) (sym passed.0);
       }
 
-  pub banner_other : r.found ≡ false → is_banner (words_at text 0) ≡ false
-  banner_other f =
-      b.left ∙ words_next w rest (words_at text here)
-      ∙ ap (λ (t : Bool). t && same_words (map (map lower) (drop 1 (words_at text here))) rest) (sym s.0 ∙ f)
+  pub banner_other : first_is_word w (words_at text here) ≡ false → is_banner (words_at text 0) ≡ false
+  banner_other f = b.left ∙ words_next w rest (words_at text here) ∙ ap (λ (t : Bool). t && same_words (map (map lower) (drop 1 (words_at text here))) rest) f
 
-pub banner_over : (text : List ℕ) (here : ℕ) → Banner text here [] → (r : Scan)
-    → Scanned (not (not_empty (words_at text here))) text here (behind_line (drop here text)) r → r.found ≡ is_banner (words_at text 0)
-banner_over text here b r s = s.0 ∙ sym (words_none (words_at text here)) ∙ sym b.left
+pub banner_over : (text : List ℕ) (here : ℕ) → Banner text here [] → is_banner (words_at text 0) ≡ not (not_empty (words_at text here))
+banner_over text here b = b.left ∙ words_none (words_at text here)
+
+-- the same as the code meets it, behind a word that was found or not
+pub banner_step : (text : List ℕ) (here : ℕ) (w : List ℕ) (rest : Line) (r : Option ℕ) (next : ℕ) → Banner text here (w ∷ rest) → Scanned (first_is_word w (words_at text here)) text (behind_word (drop here text)) r → r ≡ Some next → Banner text next rest
+banner_step text here w rest r next b s e = banner-next text here w rest b next (rw e at s)
+
+pub banner_stop : (text : List ℕ) (here : ℕ) (w : List ℕ) (rest : Line) (r : Option ℕ) → Banner text here (w ∷ rest) → Scanned (first_is_word w (words_at text here)) text (behind_word (drop here text)) r → r ≡ None → is_banner (words_at text 0) ≡ false
+banner_stop text here w rest r b s e = banner_other text here w rest b (rw e at s)
+
+pub banner_end : (text : List ℕ) (here : ℕ) (r : Option ℕ) → Banner text here [] → Scanned (not (not_empty (words_at text here))) text (behind_line (drop here text)) r → Scanned (is_banner (words_at text 0)) text (behind_line text) r
+banner_end text here None b s = banner_over text here b ∙ s
+banner_end text here (Some next) b s = (banner_over text here b ∙ s.0, (s.1.0, s.1.1 ∙ b.behind))
+
+-- and behind a number, or where the line is over
+pub number_none : (text : List ℕ) (at : ℕ) (r : Option Numeral) → NumberAt text at r → r ≡ None → first_is_number (words_at text at) ≡ false
+number_none text at r s e = rw e at s
+
+pub number_some : (text : List ℕ) (at : ℕ) (r : Option Numeral) (n : Numeral) → NumberAt text at r → r ≡ Some n → NumberRead text at n
+number_some text at r n s e = rw e at s
+
+pub over_none : (text : List ℕ) (at : ℕ) (r : Option ℕ) → Scanned (not (not_empty (words_at text at))) text (behind_line (drop at text)) r → r ≡ None → not (not_empty (words_at text at)) ≡ false
+over_none text at r s e = rw e at s
+
+pub over_some : (text : List ℕ) (at : ℕ) (r : Option ℕ) (next : ℕ) → Scanned (not (not_empty (words_at text at))) text (behind_line (drop at text)) r → r ≡ Some next → (not (not_empty (words_at text at)) ≡ true) × At text next (behind_line (drop at text))
+over_some text at r next s e = rw e at s

@@ -35,13 +35,10 @@ fn no_keys() -> [u64; BLOCK]
     [0; BLOCK]
 }
 
-// Check 23 of the lines of the pairs: one holds no pair, or they are not as many as stated. O(1).
+// Check 23 of the lines of the pairs, where each holds a pair: they are not as many as stated. O(1).
 fn wrong_lines(size: Size, tally: Tally) -> bool
     ensures { result ≡ wrong_lines size tally }
 {
-    if !tally.good {
-        return true;
-    }
     tally.pairs as u64 != size.pairs
 }
 
@@ -49,10 +46,7 @@ fn wrong_lines(size: Size, tally: Tally) -> bool
 fn wrong_matrix(size: Size, tally: Tally) -> bool
     ensures { result ≡ wrong_matrix size tally }
 {
-    if size.rows != size.columns {
-        return true;
-    }
-    tally.bad
+    size.rows != size.columns || tally.bad
 }
 
 // The first refusal of checks 23 and 24 of a text whose head is good, 0 for none. O(1).
@@ -85,10 +79,7 @@ fn size_refusal(n: usize, entries: usize) -> u32
 fn too_short(n: usize, entries: usize, starts: usize, neighbours: usize) -> bool
     ensures { (m : Mesh) → m.nodes ≡ n → length m.neighbours ≡ entries → result ≡ mesh_buffers_too_short m (mesh_lengths starts neighbours) }
 {
-    if starts <= n {
-        return true;
-    }
-    neighbours < entries
+    starts <= n || neighbours < entries
 }
 
 // What is left of reading a text whose pairs are sorted and whose mesh has passed 1 and 3: checks 26 and 8, then the mesh in the lent buffers.
@@ -124,12 +115,13 @@ fn hand_out(
 pub fn read(text: &[u8], starts: &mut [u32], neighbours: &mut [u16]) -> MeshAnswer
     ensures { TextRead text.now result (mesh_buffers starts.old neighbours.old) (mesh_buffers starts.new neighbours.new) }
 {
-    let size = read_head(text);
-    if !size.good {
+    let Some(size) = read_head(text) else {
         return MeshAnswer::Refused(23);
-    }
+    };
     let mut keys = no_keys();
-    let tally = survey(text, size.next, size.rows, &mut keys);
+    let Some(tally) = survey(text, size.next, size.rows, &mut keys) else {
+        return MeshAnswer::Refused(23);
+    };
     let wrong = pairs_refusal(size, tally);
     if wrong != 0 {
         return MeshAnswer::Refused(wrong);

@@ -9,7 +9,6 @@ ghost use Rattle.matrix_market.specs.Lines.{pairs_in, keys_in};
 ghost use Rattle.matrix_market.specs.Blocks.{Blocked};
 ghost use Rattle.sorting.specs.Sorted.{sorted};
 
-use crate::keys::key;
 use crate::pairs::read_pair;
 use sorting::{contains, has_repeat, sort};
 
@@ -28,14 +27,15 @@ fn gather(text: &[u8], at: usize, keys: &mut [u64]) -> Block
     let mut i = at;
     let mut k: usize = 0;
     while i < text.len() && k < keys.len() {
-        let l = read_pair(text, i);
-        if l.blank {
-            i = l.next;
-        } else {
-            keys[k] = key(l.row, l.column);
-            k += 1;
-            i = l.next;
-        }
+        let Some(line) = read_pair(text, i) else {
+            return Block { count: k, next: i };
+        };
+        i = line.next;
+        let Some(pair) = line.pair else {
+            continue;
+        };
+        keys[k] = pair.key();
+        k += 1;
     }
     Block { count: k, next: i }
 }
@@ -47,13 +47,15 @@ fn meets(text: &[u8], at: usize, keys: &[u64]) -> bool
 {
     let mut i = at;
     while i < text.len() {
-        let l = read_pair(text, i);
-        if l.blank {
-            i = l.next;
-        } else if contains(keys, key(l.row, l.column)) {
+        let Some(line) = read_pair(text, i) else {
+            return false;
+        };
+        i = line.next;
+        let Some(pair) = line.pair else {
+            continue;
+        };
+        if contains(keys, pair.key()) {
             return true;
-        } else {
-            i = l.next;
         }
     }
     false

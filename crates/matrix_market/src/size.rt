@@ -1,5 +1,5 @@
 // The head of a text: the banner, then comments and blank lines, then "the size line is rows, columns, pairs".
-ghost use Rattle.std.specs.Prelude.{◌≡◌, false, [], ◌≤◌, ◌<◌, length, get_or};
+ghost use Rattle.std.specs.Prelude.{◌≡◌, [], ◌≤◌, length, get_or};
 ghost use Rattle.plan.specs.MatrixMarket.{skip_comments};
 ghost use Rattle.lexer.specs.Suffixes.{words_at, lines_at};
 ghost use Rattle.matrix_market.specs.Lines.{SizeAt, HeadOf};
@@ -7,10 +7,9 @@ ghost use Rattle.matrix_market.specs.Lines.{SizeAt, HeadOf};
 use crate::banner::banner;
 use lexer::{comment, line_over, next_line, number};
 
-// What the head of a text holds: whether it is of the kind, the numbers of the size line, and where the lines of the pairs begin.
+// What the head of a text holds: the numbers of the size line, and where the lines of the pairs begin.
 #[derive(Clone, Copy)]
 pub(crate) struct Size {
-    pub good: bool,
     pub rows: u64,
     pub columns: u64,
     pub pairs: u64,
@@ -24,9 +23,8 @@ fn size_line(text: &[u8], at: usize) -> usize
 {
     let mut i = at;
     while i < text.len() {
-        let empty = line_over(text, i);
-        if empty.found {
-            i = empty.next;
+        if let Some(next) = line_over(text, i) {
+            i = next;
         } else if comment(text, i) {
             i = next_line(text, i);
         } else {
@@ -36,52 +34,27 @@ fn size_line(text: &[u8], at: usize) -> usize
     i
 }
 
-// A line that is no size line. O(1).
-fn no_size(at: usize) -> Size
-    ensures { result ≡ record { good = false; rows = 0; columns = 0; pairs = 0; next = at } }
-{
-    Size {
-        good: false,
-        rows: 0,
-        columns: 0,
-        pairs: 0,
-        next: at,
-    }
-}
-
-// The line that begins at a place, as the size line: whether it holds three numbers and nothing else. O(its length).
-fn read_size(text: &[u8], at: usize) -> Size
+// The line that begins at a place, as the size line, where it holds three numbers and nothing else. O(its length).
+fn read_size(text: &[u8], at: usize) -> Option<Size>
     requires { at ≤ length text.now }
     ensures { SizeAt text.now at result }
 {
-    let rows = number(text, at);
-    if !rows.found {
-        return no_size(at);
-    }
-    let columns = number(text, rows.next);
-    if !columns.found {
-        return no_size(at);
-    }
-    let pairs = number(text, columns.next);
-    if !pairs.found {
-        return no_size(at);
-    }
-    let end = line_over(text, pairs.next);
-    Size {
-        good: end.found,
+    let rows = number(text, at)?;
+    let columns = number(text, rows.next)?;
+    let pairs = number(text, columns.next)?;
+    let next = line_over(text, pairs.next)?;
+    Some(Size {
         rows: rows.value,
         columns: columns.value,
         pairs: pairs.value,
-        next: end.next,
-    }
+        next,
+    })
 }
 
-// The head of a text. O(its length).
-pub(crate) fn read_head(text: &[u8]) -> Size
+// The head of a text, where it is of the kind. O(its length).
+pub(crate) fn read_head(text: &[u8]) -> Option<Size>
     ensures { HeadOf text.now result }
 {
-    if !banner(text) {
-        return no_size(0);
-    }
-    read_size(text, size_line(text, next_line(text, 0)))
+    let second = banner(text)?;
+    read_size(text, size_line(text, second))
 }

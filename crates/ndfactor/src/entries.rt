@@ -7,7 +7,7 @@ ghost use Rattle.plan.specs.Solving.{Solved};
 ghost use Rattle.plan.specs.Held.{held_question};
 ghost use Rattle.ndfactor.specs.Replies.{factor_answer_of, ndf_held};
 
-use crate::replies::{NdfHeld, NdfReport, factor_reply, held_reply};
+use crate::replies::{NdfHeld, NdfReport};
 use factor::{factor, held_at, solve};
 
 // Factoring, as factor::factor does it, at its cost.
@@ -29,7 +29,7 @@ pub extern "C" fn ndf_factor(
         (record { diagonal = diagonal.old; values = values.old })
         (record { diagonal = diagonal.new; values = values.new }) }
 {
-    factor_reply(factor(
+    NdfReport::from(factor(
         unknowns,
         n,
         p,
@@ -92,5 +92,5 @@ pub extern "C" fn ndf_held(
 ) -> NdfHeld
     ensures { result ≡ ndf_held (held_question n column_starts.now rows.now (record { diagonal = diagonal.now; values = values.now }) a b) }
 {
-    held_reply(held_at(n, column_starts, rows, diagonal, values, a, b))
+    NdfHeld::from(held_at(n, column_starts, rows, diagonal, values, a, b))
 }

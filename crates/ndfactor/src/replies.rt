@@ -17,14 +17,16 @@ pub struct NdfReport {
 }
 
 // The reply of factoring. O(1).
-pub(crate) fn factor_reply(answer: FactorAnswer) -> NdfReport
-    ensures { result ≡ ndf_report answer }
-{
-    NdfReport {
-        refusal: answer.refusal,
-        smallest: answer.report.smallest,
-        largest: answer.report.largest,
-        operations: answer.report.operations,
+impl From<FactorAnswer> for NdfReport {
+    fn from(answer: FactorAnswer) -> NdfReport
+        ensures { result ≡ ndf_report answer }
+    {
+        NdfReport {
+            refusal: answer.refusal,
+            smallest: answer.report.smallest,
+            largest: answer.report.largest,
+            operations: answer.report.operations,
+        }
     }
 }
 
@@ -39,24 +41,26 @@ pub struct NdfHeld {
 }
 
 // The reply of that question. O(1).
-pub(crate) fn held_reply(answer: HeldAnswer) -> NdfHeld
-    ensures { result ≡ ndf_held (held_reply answer) }
-{
-    match answer {
-        HeldAnswer::Value(value) => NdfHeld {
-            refusal: 0,
-            kind: 1,
-            value,
-        },
-        HeldAnswer::NoSlot => NdfHeld {
-            refusal: 0,
-            kind: 2,
-            value: 0.0,
-        },
-        HeldAnswer::Refused(number) => NdfHeld {
-            refusal: number,
-            kind: 0,
-            value: 0.0,
-        },
+impl From<HeldAnswer> for NdfHeld {
+    fn from(answer: HeldAnswer) -> NdfHeld
+        ensures { result ≡ ndf_held (held_reply answer) }
+    {
+        match answer {
+            HeldAnswer::Value(value) => NdfHeld {
+                refusal: 0,
+                kind: 1,
+                value,
+            },
+            HeldAnswer::NoSlot => NdfHeld {
+                refusal: 0,
+                kind: 2,
+                value: 0.0,
+            },
+            HeldAnswer::Refused(number) => NdfHeld {
+                refusal: number,
+                kind: 0,
+                value: 0.0,
+            },
+        }
     }
 }

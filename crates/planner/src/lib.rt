@@ -16,7 +16,7 @@ ghost use Rattle.planner.specs.Checked.{early_checks, FilledChecked};
 
 use dissection::{dissect, write_order, write_parts};
 use layout::{buffers_too_short, count_rows, invert, sum, write_columns, write_starts};
-use mesh::{check, filled, index};
+use mesh::{check, filled};
 use plan::{Plan, PlanAnswer};
 
 // The first refusal of check 28, of the checks of the mesh and of 8, 0 for none. O(n + 26 · entries).
@@ -46,46 +46,44 @@ fn refusal(
     0
 }
 
-// The elimination tree and the column counts of the order at the front of an array. `inverse` has the positions, since the lent buffers are not
-// written yet. O(4,096 + slots + entries).
+// The elimination tree and the column counts of an order. `inverse` has the positions, since the lent buffers are not written yet.
+// O(4,096 + slots + entries).
 fn count_columns(
     n: usize,
     starts: &[u32],
     neighbours: &[u16],
-    held: &[u16],
+    nodes: &[u16],
     tree: &mut [u16],
     counts: &mut [u16],
 )
-    requires checked { Checked (lent n starts.now neighbours.now) × (n ≤ length held.now) × Order n (take n held.now) }
+    requires checked { Checked (lent n starts.now neighbours.now) × Order n nodes.now }
     requires n_in_bounds { (n ≤ length tree.old) × (n ≤ length counts.old) }
-    ensures { (take n counts.new ≡ map length (columns (lent n starts.now neighbours.now) (take n held.now))) × Tree (lent n starts.now neighbours.now) (take n held.now) tree.new }
+    ensures { (take n counts.new ≡ map length (columns (lent n starts.now neighbours.now) nodes.now)) × Tree (lent n starts.now neighbours.now) nodes.now tree.new }
 {
     let mut inverse = filled(0);
-    let nodes = &held[..n];
     invert(nodes, &mut inverse);
     count_rows(n, starts, neighbours, nodes, &inverse, tree, counts);
 }
 
-// The layout of the order at the front of an array: positions, column starts and rows. O(4,096 + slots + entries + the ways up the elimination tree).
+// The layout of an order: positions, column starts and rows. O(4,096 + slots + entries + the ways up the elimination tree).
 fn lay_out(
     n: usize,
     starts: &[u32],
     neighbours: &[u16],
-    held: &[u16],
+    nodes: &[u16],
     tree: &[u16],
     counts: &[u16],
     positions: &mut [u16],
     column_starts: &mut [u32],
     rows: &mut [u16],
 )
-    requires checked { Checked (lent n starts.now neighbours.now) × (n ≤ length held.now) × Order n (take n held.now) × (n ≤ length tree.now) × Tree (lent n starts.now neighbours.now) (take n held.now) tree.now }
-    requires n_in_bounds { (n ≤ length counts.now) × (take n counts.now ≡ map length (columns (lent n starts.now neighbours.now) (take n held.now))) }
-    requires n_in_bounds_2 { (n ≤ length positions.old) × (n < length column_starts.old) × (length (flatten (columns (lent n starts.now neighbours.now) (take n held.now))) ≤ length rows.old) }
-    ensures positions_after { positions.new ≡ written (positions_of n (take n held.now)) positions.old }
-    ensures column_starts_after { column_starts.new ≡ written (starts_of (columns (lent n starts.now neighbours.now) (take n held.now))) column_starts.old }
-    ensures rows_after { rows.new ≡ written (flatten (columns (lent n starts.now neighbours.now) (take n held.now))) rows.old }
+    requires checked { Checked (lent n starts.now neighbours.now) × Order n nodes.now × (n ≤ length tree.now) × Tree (lent n starts.now neighbours.now) nodes.now tree.now }
+    requires n_in_bounds { (n ≤ length counts.now) × (take n counts.now ≡ map length (columns (lent n starts.now neighbours.now) nodes.now)) }
+    requires n_in_bounds_2 { (n ≤ length positions.old) × (n < length column_starts.old) × (length (flatten (columns (lent n starts.now neighbours.now) nodes.now)) ≤ length rows.old) }
+    ensures positions_after { positions.new ≡ written (positions_of n nodes.now) positions.old }
+    ensures column_starts_after { column_starts.new ≡ written (starts_of (columns (lent n starts.now neighbours.now) nodes.now)) column_starts.old }
+    ensures rows_after { rows.new ≡ written (flatten (columns (lent n starts.now neighbours.now) nodes.now)) rows.old }
 {
-    let nodes = &held[..n];
     invert(nodes, positions);
     write_starts(n, counts, column_starts);
     write_columns(
@@ -122,12 +120,13 @@ fn plan_checked(
         (buffers order.new positions.new sizes.new parents.new column_starts.new rows.new) }
 {
     let d = dissect(n, starts, neighbours);
+    let nodes = &d.order[..n];
     let mut tree = filled(0);
     let mut counts = filled(0);
-    count_columns(n, starts, neighbours, &d.order, &mut tree, &mut counts);
+    count_columns(n, starts, neighbours, nodes, &mut tree, &mut counts);
     let totals = sum(n, &counts);
     let slots = totals.slots;
-    if rows.len() < index(slots) {
+    if rows.len() < slots as usize {
         return PlanAnswer::Refused(9);
     }
     let count = d.parts;
@@ -137,7 +136,7 @@ fn plan_checked(
         n,
         starts,
         neighbours,
-        &d.order,
+        nodes,
         &tree,
         &counts,
         positions,

@@ -19,6 +19,5 @@ pub extern "C" fn stage_order(n: usize, starts: &[u32], neighbours: &[u16]) -> u
     if check(n, starts, neighbours) != 0 {
         return 0;
     }
-    let d = dissect(n, starts, neighbours);
-    d.parts
+    dissect(n, starts, neighbours).parts
 }

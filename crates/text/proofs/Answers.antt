@@ -10,7 +10,7 @@ use borrow.Author.Tests.{le-ltb}
 use Rattle.plan.specs.declared.PlanAnswer.{PlanAnswer}
 use Rattle.plan.specs.declared.PlanAnswer.TheVariants.{Accepted, Refused}
 use Rattle.plan.specs.declared.Plan.{Plan}
-use Rattle.plan.specs.Lists.{below, list_at, written}
+use Rattle.plan.specs.Lists.{below, list_at}
 use Rattle.plan.specs.Refusals.{Checks, first_fault}
 use Rattle.plan.specs.Answers.{Reply}
 use Rattle.plan.specs.Mesh.{Mesh, mesh_checks}
@@ -28,7 +28,7 @@ use Rattle.theory.proofs.Planned.{planned-nodes, planned-once, planned-sizes}
 use Rattle.mesh.specs.Lists.{ListWithin}
 use Rattle.mesh.proofs.Lists.{good-starts-within}
 use Rattle.text.specs.Lines.{shown, head_of, lines_of, lent_plan, PlanWithin, answer_text, AnswerWithin, mesh_text}
-use Rattle.text.specs.Room.{max_listed_slots, longest, blank}
+use Rattle.text.specs.Room.{max_listed_slots, longest}
 use Rattle.text.proofs.Lines.{head-counts, plan-parts}
 use Rattle.text.proofs.Inputs.{input_passes, mesh-nodes}
 use Rattle.text.proofs.Bound.{slots_at_most, plan-fits, refusal-fits}
@@ -205,7 +205,3 @@ listing-fits bytes = elim (tested (bad_input bytes)) [
   | inl h ↦ omega (arith, ap length (listing-refused bytes h), refusal-fits 20 (omega arith))
   | inr h ↦ rw (listing-mesh bytes h) (mesh-fits (input_mesh bytes) (rw (mesh-nodes bytes) (input_passes bytes h).nodes))
 ]
-
--- the text that `list` promises ends within its bytes
-pub listed-within : (input : List ℕ) {bytes : List ℕ} {k : ℕ} → k ≡ length (listing input) → bytes ≡ written (listing input) blank → k ≤ length bytes
-listed-within input e w = omega (arith, e, ap length w, length-append (listing input) (drop (length (listing input)) blank))

@@ -3,7 +3,7 @@ use mathlib.Core.Path.{◌≡◌, refl, sym, ap, ◌∙◌}
 use mathlib.Core.Logic.{inl, inr}
 use mathlib.Core.Bool.{true}
 use mathlib.Core.List.{List, [], ◌∷◌, ◌++◌}
-use Prim.Native.Nat.{ℕ, suc, ◌+◌, ◌*◌, ◌/◌, ◌%◌, ◌≤◌, ◌<◌}
+use Prim.Native.Nat.{ℕ, suc, ◌+◌, ◌*◌, ◌/◌, ◌%◌, ◌^◌, ◌≤◌, ◌<◌}
 use native.Mathlib.Omega.{arith}
 use lib.Dec.{ltb}
 use lib.ListN.{length, length-append}
@@ -13,6 +13,8 @@ use Rattle.plan.specs.Listing.{decimal_up_to, decimal, spaced}
 use Rattle.theory.proofs.Bools.{cond_true, cond_false, lt_or_le}
 use Rattle.theory.proofs.Lists.{is_in-head, is_in_tail}
 use Rattle.theory.proofs.Decimal.{decimal-whole}
+use Rattle.std.specs.Fmt.{decimal as printed}
+use Rattle.std.proofs.lemmas.Fmt.{decimal_by_steps}
 use Rattle.text.proofs.Sequences.{texts, texts-none, texts_one, texts-append}
 
 -- a number below 10 is a digit
@@ -33,6 +35,10 @@ decimal_more x h =
 -- one more than its tenth
 pub decimal-length : (x : ℕ) → 10 ≤ x → length (decimal x) ≡ length (decimal (x / 10)) + 1
 decimal-length x h = ap length (decimal_more x h) ∙ length-append (decimal (x / 10)) ((48 + x % 10) ∷ [])
+
+-- it is what a number prints
+pub decimal_printed : (x : ℕ) → x < 2 ^ 64 → printed x ≡ decimal x
+decimal_printed = decimal_by_steps (λ x digits. digits ≡ decimal x) (λ x h. sym (decimal_one x h)) (λ x digits h same. rw same (sym (decimal_more x h)))
 
 -- ---- at most how many
 

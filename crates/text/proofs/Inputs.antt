@@ -122,12 +122,12 @@ module _ (bytes : List ℕ) where
   -- the mesh from the fronts of the buffers into which it was read
   pub mesh_read : (starts_found starts entries_found entries : List ℕ) (n e : ℕ) → n ≡ decode16 bytes 0 → e ≡ entry_count bytes
       → starts ≡ written (input_mesh bytes).starts starts_found → entries ≡ written (input_mesh bytes).neighbours entries_found
-      → lent n (take (n + 1 - 0) starts) (take (e - 0) entries) ≡ input_mesh bytes
+      → lent n (take (n + 1) starts) (take e entries) ≡ input_mesh bytes
   unfolding input_mesh
   mesh_read starts_found starts entries_found entries n e hn he hs ht =
       rw (
-        front-written (n + 1 - 0) (input_mesh bytes).starts starts_found starts hs (omega (arith, starts-many)),
-        front-written (e - 0) (input_mesh bytes).neighbours entries_found entries ht (omega (arith, entries-many)),
+        front-written (n + 1) (input_mesh bytes).starts starts_found starts hs (omega (arith, starts-many)),
+        front-written e (input_mesh bytes).neighbours entries_found entries ht (omega (arith, entries-many)),
         hn,
       )
 

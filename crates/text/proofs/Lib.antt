@@ -1,4 +1,3 @@
-pub mod Puts
 pub mod Sequences
 pub mod Decimals
 pub mod Lines

@@ -41,7 +41,7 @@ fault : (c : After-list_refusal-fault) → c.list_refusal-fault.result ≡ first
 unfolding mesh_of mesh_capacity
 fault c =
     c.list_refusal-fault.ensures (mesh_of c.args.n (merged_lists (lent c.args.n1 c.args.starts1.now c.args.neighbours1.now) (lent c.args.n2 c.args.starts2.now c.args.neighbours2.now)
-    c.args.goes.now c.args.from.now c.args.n)) refl (sym (summed c) ∙ sym c.index.ensures)
+    c.args.goes.now c.args.from.now c.args.n)) refl (sym (summed c))
     (made-long c.args.n (merged_lists (lent c.args.n1 c.args.starts1.now c.args.neighbours1.now) (lent c.args.n2 c.args.starts2.now c.args.neighbours2.now)
     c.args.goes.now c.args.from.now c.args.n) (lists_many _ _ _ _ c.args.n) ∙ ap (exists (ltb max_neighbours)) (sym c.count_entries-counts.ensures.1))
 
@@ -51,7 +51,7 @@ fault_at_else_fault_ne0 : (c : Else-fault-ne0) → c.list_refusal-fault.result �
 unfolding mesh_of mesh_capacity
 fault_at_else_fault_ne0 c =
     c.list_refusal-fault.ensures (mesh_of c.args.n (merged_lists (lent c.args.n1 c.args.starts1.now c.args.neighbours1.now) (lent c.args.n2 c.args.starts2.now c.args.neighbours2.now)
-    c.args.goes.now c.args.from.now c.args.n)) refl (sym (summed_at_else_fault_ne0 c) ∙ sym c.index.ensures)
+    c.args.goes.now c.args.from.now c.args.n)) refl (sym (summed_at_else_fault_ne0 c))
     (made-long c.args.n (merged_lists (lent c.args.n1 c.args.starts1.now c.args.neighbours1.now) (lent c.args.n2 c.args.starts2.now c.args.neighbours2.now)
     c.args.goes.now c.args.from.now c.args.n) (lists_many _ _ _ _ c.args.n) ∙ ap (exists (ltb max_neighbours)) (sym c.count_entries-counts.ensures.1))
 

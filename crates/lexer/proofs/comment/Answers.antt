@@ -1,13 +1,17 @@
 -- `lexer::comment` meets its contract.
-use mathlib.Core.Path.{◌≡◌, sym, ap, ◌∙◌}
-use mathlib.Core.List.{List}
+use mathlib.Core.Path.{◌≡◌, refl, sym, ap, ◌∙◌}
+use mathlib.Core.List.{List, [], ◌∷◌}
+use Rattle.std.specs.Prelude.{nat_eq}
+use Rattle.std.specs.List.{starts_with}
 use Prim.Native.Nat.{ℕ}
+use mathlib.Core.Bool.{true}
 use lib.Dec.{eqb}
-use lib.ListN.{drop, drop_of_length-le}
-use borrow.Author.Tests.{le-ltb}
+use borrow.Author.Tests.{eq-eqb, eqb-true}
+use Rattle.theory.proofs.Bools.{iff_eq, and_left, and_both}
+use Rattle.lexer.proofs.Cuts.{left_all}
+use lib.ListN.{drop}
 use Rattle.plan.specs.MatrixMarket.{is_comment}
 use Rattle.lexer.specs.Suffixes.{starts, behind_blanks, words_at, At}
-use Rattle.lexer.proofs.Cuts.{starts_at}
 use Rattle.lexer.proofs.Words.{words_comment}
 use Rattle.lexer.proofs.Suffixes.{words_at_lem, not_blank_at}
 use Rattle.lexer.proofs.comment.Goals as goal
@@ -16,8 +20,9 @@ use Rattle.lexer.proofs.comment.Goals as goal
 comment_at : (text : List ℕ) (at i : ℕ) → At text i (behind_blanks (drop at text)) → is_comment (words_at text at) ≡ starts (λ b. eqb b 37) (drop i text)
 comment_at text at i skipped = ap is_comment (words_at_lem text at i skipped) ∙ words_comment (drop i text) (not_blank_at text at i skipped)
 
-pub returns-then-i-text : goal.returns-then-i-text
-returns-then-i-text c = sym (comment_at c.args.text.now c.args.at c.skip_blanks-i.result c.skip_blanks-i.ensures ∙ starts_at (λ b. eqb b 37) c.args.text.now c.skip_blanks-i.result c.if-i-text.true)
+percent : (t : List ℕ) → starts_with nat_eq t (37 ∷ []) ≡ starts (λ b. eqb b 37) t
+percent [] = refl
+percent (b ∷ t) = iff_eq _ _ (λ h. eq-eqb b 37 (sym (eqb-true 37 b (and_left (eqb 37 b) true h)))) (λ h. and_both (eqb 37 b) true (eq-eqb 37 b (sym (eqb-true b 37 h))) refl)
 
-pub returns-else-i-text : goal.returns-else-i-text
-returns-else-i-text c = le-ltb _ _ c.if-i-text.false ∙ sym (comment_at c.args.text.now c.args.at c.skip_blanks-i.result c.skip_blanks-i.ensures ∙ ap (starts (λ b. eqb b 37)) (drop_of_length-le c.args.text.now c.if-i-text.false))
+pub returns : goal.returns
+returns c = c.starts_with.ensures.value ∙ ap (λ (l : List ℕ). starts_with nat_eq l (37 ∷ [])) (left_all c.args.text.now c.skip_blanks-i.result) ∙ percent (drop c.skip_blanks-i.result c.args.text.now) ∙ sym (comment_at c.args.text.now c.args.at c.skip_blanks-i.result c.skip_blanks-i.ensures)

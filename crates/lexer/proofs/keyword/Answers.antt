@@ -8,7 +8,7 @@ use Rattle.plan.specs.MatrixMarket.{lower}
 use Rattle.lexer.specs.Suffixes.{word_ends, behind_letters, behind_blanks, words_at, At, first_is_word}
 use Rattle.lexer.proofs.Cuts.{up_to-segment}
 use Rattle.lexer.proofs.Words.{words_keyword}
-use Rattle.lexer.proofs.Suffixes.{words_at_lem, scan_found, scan_missed}
+use Rattle.lexer.proofs.Suffixes.{words_at_lem}
 use Rattle.lexer.proofs.keyword.Goals.{After-same_lowered}
 use Rattle.lexer.proofs.keyword.Goals as goal
 
@@ -26,7 +26,7 @@ found c =
     ∙ sym (keyword_at c.args.text.now c.args.word.now c.args.at c.skip_blanks-i.result c.word_end-e.result c.requires.1 c.skip_blanks-i.ensures c.word_end-e.ensures.0)
 
 pub returns-then-same_lowered : goal.returns-then-same_lowered
-returns-then-same_lowered c = scan_found _ c.args.text.now c.args.at c.word_end-e.result _ (sym (found (goal.at.returns-then-same_lowered c).After-same_lowered) ∙ c.if-same_lowered.true) (c.word_end-e.ensures.0.0, c.word_end-e.ensures.0.1 ∙ ap behind_letters c.skip_blanks-i.ensures.1)
+returns-then-same_lowered c = (sym (found (goal.at.returns-then-same_lowered c).After-same_lowered) ∙ c.if-same_lowered.true, (c.word_end-e.ensures.0.0, c.word_end-e.ensures.0.1 ∙ ap behind_letters c.skip_blanks-i.ensures.1))
 
-pub returns : goal.returns
-returns c = scan_missed _ c.args.text.now c.args.at _ (sym (found (goal.at.returns c).After-same_lowered) ∙ c.if-same_lowered.false) c.requires.0
+pub returns-else-same_lowered : goal.returns-else-same_lowered
+returns-else-same_lowered c = sym (found (goal.at.returns-else-same_lowered c).After-same_lowered) ∙ c.if-same_lowered.false

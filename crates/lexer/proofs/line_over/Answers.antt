@@ -7,7 +7,7 @@ use lib.ListN.{drop}
 use Rattle.plan.specs.MatrixMarket.{not_empty}
 use Rattle.lexer.specs.Suffixes.{line_ends, behind_line, behind_blanks, words_at, At}
 use Rattle.lexer.proofs.Words.{words_some}
-use Rattle.lexer.proofs.Suffixes.{words_at_lem, feed_blanks, scan_found, scan_missed}
+use Rattle.lexer.proofs.Suffixes.{words_at_lem, feed_blanks}
 use Rattle.lexer.proofs.line_over.Goals as goal
 
 -- the line is over where it ends behind blanks
@@ -15,10 +15,10 @@ over_at : (text : List ℕ) (at i : ℕ) → At text i (behind_blanks (drop at t
 over_at text at i skipped = ap (λ ws. not (not_empty ws)) (words_at_lem text at i skipped) ∙ ap not (words_some (drop i text)) ∙ not-not (line_ends (drop i text))
 
 pub returns-then-line_ends : goal.returns-then-line_ends
-returns-then-line_ends c =
-    let text : List ℕ = c.args.text.now in
-    scan_found _ text c.args.at c.next_line.result _ (over_at text c.args.at c.skip_blanks-i.result c.skip_blanks-i.ensures ∙ sym c.line_ends.ensures ∙ c.if-line_ends.true)
-    (c.next_line.ensures.0, c.next_line.ensures.1 ∙ ap behind_line c.skip_blanks-i.ensures.1 ∙ feed_blanks (drop c.args.at text))
+returns-then-line_ends c = (
+  over_at c.args.text.now c.args.at c.skip_blanks-i.result c.skip_blanks-i.ensures ∙ sym c.line_ends.ensures ∙ c.if-line_ends.true,
+  (c.next_line.ensures.0, c.next_line.ensures.1 ∙ ap behind_line c.skip_blanks-i.ensures.1 ∙ feed_blanks (drop c.args.at c.args.text.now)),
+)
 
-pub returns : goal.returns
-returns c = scan_missed _ c.args.text.now c.args.at _ (over_at c.args.text.now c.args.at c.skip_blanks-i.result c.skip_blanks-i.ensures ∙ sym c.line_ends.ensures ∙ c.if-line_ends.false) c.requires
+pub returns-else-line_ends : goal.returns-else-line_ends
+returns-else-line_ends c = over_at c.args.text.now c.args.at c.skip_blanks-i.result c.skip_blanks-i.ensures ∙ sym c.line_ends.ensures ∙ c.if-line_ends.false

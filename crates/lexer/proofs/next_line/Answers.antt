@@ -1,31 +1,17 @@
--- `lexer::next_line` meets its contract: the loop passes no line feed.
-use mathlib.Core.Path.{sym, ap, ◌∙◌}
-use Prim.Native.Nat.{◌<◌}
-use native.Mathlib.Omega.{arith}
-use lib.ListN.{length, drop, drop_of_length-le}
-use lib.Seq.{drop-drop}
-use borrow.Author.Tests.{eq-eqb, ne_eqb}
+-- `lexer::next_line` meets its contract: behind the first line feed, or the text's end.
+use Rattle.std.proofs.Common.{refl, sym, ap, ◌∙◌, arith, ◌+◌, drop}
+use lib.Seq.{drop-drop, drop-length}
 use Rattle.plan.specs.MatrixMarket.{is_line_feed}
-use Rattle.lexer.specs.Suffixes.{from}
-use Rattle.lexer.proofs.Cuts.{starts_at, passed_none, passed_more, passed-all}
-use Rattle.lexer.proofs.next_line.Invariants.{feeds}
+use Rattle.lexer.specs.Suffixes.{starts}
+use Rattle.lexer.proofs.Cuts.{place_found, place_none}
 use Rattle.lexer.proofs.next_line.Goals as goal
 
-pub returns-then-text-i-eq10 : goal.returns-then-text-i-eq10
-returns-then-text-i-eq10 c =
-    let lt : c.loop-i.i < length c.args.text.now = c.loop-i-test.true in
-    let found = passed-all feeds c.args.text.now c.args.at c.loop-i.i c.loop-i.invariant (starts_at is_line_feed c.args.text.now c.loop-i.i lt ∙ eq-eqb _ _ c.if-text-i-eq10.true) in
-    (omega (arith, lt), sym (drop-drop 1 c.loop-i.i c.args.text.now) ∙ ap (drop 1) found.1)
+pub returns-in-Some : goal.returns-in-Some
+returns-in-Some c =
+    let place = place_found (starts is_line_feed) is_line_feed (λ b t. refl) c.args.text.now c.args.at c.in-Some.k (sym c.first_feed.ensures ∙ c.in-Some.is) in
+    (omega (arith, place.0), sym (drop-drop 1 (c.args.at + c.in-Some.k) c.args.text.now) ∙ ap (drop 1) place.1)
 
-pub loop-i-preserved : goal.loop-i-preserved
-loop-i-preserved c =
-    let lt : c.loop-i.i < length c.args.text.now = c.loop-i-test.true in
-    passed_more feeds c.args.text.now c.args.at c.loop-i.i c.loop-i.invariant lt (starts_at is_line_feed c.args.text.now c.loop-i.i lt ∙ ne_eqb _ _ c.if-text-i-eq10.false)
-
-pub returns : goal.returns
-returns c =
-    let none = drop_of_length-le c.args.text.now {i = c.loop-i.i} c.loop-i-test.false in
-    (c.loop-i.invariant.most, none ∙ sym (ap (drop 1) (c.loop-i.invariant.same ∙ ap (from feeds) none)))
-
-pub loop-i-init : goal.loop-i-init
-loop-i-init c = passed_none feeds c.args.text.now c.args.at c.requires
+pub returns-in-None : goal.returns-in-None
+returns-in-None c =
+    let none = place_none (starts is_line_feed) is_line_feed (λ b t. refl) c.args.text.now c.args.at (sym c.first_feed.ensures ∙ c.in-None.is) in
+    (omega arith, drop-length c.args.text.now ∙ sym (ap (drop 1) none))

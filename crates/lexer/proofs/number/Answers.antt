@@ -1,11 +1,12 @@
 -- `lexer::number` meets its contract.
 use mathlib.Core.Path.{◌≡◌, refl, sym, ap, ◌∙◌}
 use mathlib.Core.Bool.{true, false, not, ◌&&◌}
-use Prim.Native.Nat.{ℕ}
+use Prim.Native.Nat.{ℕ, ◌≤◌}
+use borrow.Author.Rules.{rules}
 use native.Mathlib.Omega.{arith}
 use lib.Dec.{eqb, leb}
 use lib.ListN.{drop}
-use borrow.Author.Tests.{ltb-false, leb-true, le-leb, ne_eqb, not-false}
+use borrow.Author.Tests.{leb-true, le-leb, ne_eqb, not-false}
 use Rattle.plan.specs.Lists.{segment}
 use Rattle.plan.specs.MatrixMarket.{max_number, value_of}
 use Rattle.theory.proofs.Bools.{and_left, and_right, clash, refuted, not_eqb}
@@ -37,9 +38,7 @@ missed c h =
     ]
 
 pub returns-then-d-i : goal.returns-then-d-i
-returns-then-d-i c =
-    let none = refuted _ (missed (goal.at.returns-then-d-i c).Joined-then-d-i) in
-    record { found = sym none; value = rw none; next = rw none (c.requires, refl) }
+returns-then-d-i c = refuted _ (missed (goal.at.returns-then-d-i c).Joined-then-d-i)
 
 pub returns : goal.returns
 returns c =
@@ -48,11 +47,11 @@ returns c =
     let v : ℕ = value_of (segment c.args.text.now i e) in
     let apart : eqb e i ≡ false = ne_eqb e i c.if-d-i.false in
     let ends : word_ends (drop e c.args.text.now) ≡ true = sym c.word_ends.ensures ∙ not-false _ (ap not c.if-not-word_ends.false) in
-    let low = ltb-false max_number c.digits-d.result.value c.if-d-gt-LARGEST.false-raw in
+    let low : c.digits-d.result.value ≤ max_number = search rules in
     let some : first_is_number (words_at c.args.text.now c.args.at) ≡ true = tests (goal.at.returns c).After-digits-d ∙ rw (apart, ends) (le-leb v max_number (omega (arith, low, c.digits-d.ensures.2))) in
     let behind = digits_end c.args.text.now c.args.at i e c.skip_blanks-i.ensures c.digits-d.ensures.1 ends in
     record {
-      found = sym some;
-      value = rw some (omega (arith, low, c.digits-d.ensures.2, number-value c.args.text.now c.args.at i e c.skip_blanks-i.ensures c.digits-d.ensures.1 apart ends));
-      next = rw some (behind.0, behind.1 ∙ ap behind_letters c.skip_blanks-i.ensures.1);
+      found = some;
+      value = omega (arith, low, c.digits-d.ensures.2, number-value c.args.text.now c.args.at i e c.skip_blanks-i.ensures c.digits-d.ensures.1 apart ends);
+      next = (behind.0, behind.1 ∙ ap behind_letters c.skip_blanks-i.ensures.1);
     }

@@ -5,6 +5,11 @@ use mathlib.Core.List.{List, map}
 use Prim.Native.Nat.{ℕ, ◌+◌, ◌<◌}
 use native.Mathlib.Numerals.{add-one}
 use native.Mathlib.Omega.{arith}
+use mathlib.Core.Logic.{inl, inr}
+use Rattle.std.specs.Char.{to_ascii_lowercase}
+use Rattle.std.proofs.lemmas.Bool.{lt-leb}
+use borrow.Author.Tests.{lt-ltb, le-ltb, le-leb}
+use Rattle.theory.proofs.Bools.{lt_or_le}
 use lib.Dec.{eqb}
 use lib.ListN.{length, length-map, get_or, get_or-map, drop, drop_of_length-le}
 use lib.Seq.{drop-cons}
@@ -14,8 +19,17 @@ use Rattle.plan.specs.Lists.{same}
 use Rattle.plan.specs.MatrixMarket.{lower}
 use Rattle.theory.proofs.Bools.{refuted}
 use Rattle.theory.proofs.Lists.{same_equal}
-use Rattle.lexer.proofs.same_lowered.Goals.{After-lower}
+use Rattle.lexer.proofs.same_lowered.Goals.{After-to_ascii_lowercase}
 use Rattle.lexer.proofs.same_lowered.Goals as goal
+
+lowered : (b : ℕ) → to_ascii_lowercase b ≡ lower b
+lowered b = elim (lt_or_le b 65) [
+  | inl low ↦ rw (lt-ltb b 65 low, lt-leb 65 b low)
+  | inr up ↦ elim (lt_or_le b 91) [
+    | inl low ↦ rw (le-ltb b 65 up, lt-ltb b 91 low, le-leb 65 b up, le-leb b 90 (omega arith))
+    | inr high ↦ rw (le-ltb b 65 up, le-ltb b 91 high, le-leb 65 b up, lt-leb b 90 (omega arith))
+  ]
+]
 
 -- the bytes from i on are the same as the word's where those at i are, and all behind them
 same_next : (bytes word : List ℕ) (i : ℕ) → i < length bytes → i < length word
@@ -30,14 +44,14 @@ returns-then-bytes-word c =
     (λ h. c.if-bytes-word.true (sym (length-map c.args.bytes.now lower) ∙ ap length (same_equal (map lower c.args.bytes.now) c.args.word.now h))))
 
 -- at i, by the two bytes there
-step : (c : After-lower) → same (map lower c.args.bytes.now) c.args.word.now ≡ (eqb c.lower.result (get_or c.args.word.now c.loop-i.i 0) && same (drop (c.loop-i.i + 1) (map lower c.args.bytes.now)) (drop (c.loop-i.i + 1) c.args.word.now))
-step c = rw c.lower.ensures (c.loop-i.invariant ∙ same_next c.args.bytes.now c.args.word.now c.loop-i.i (search rules) (search rules))
+step : (c : After-to_ascii_lowercase) → same (map lower c.args.bytes.now) c.args.word.now ≡ (eqb c.to_ascii_lowercase.result (get_or c.args.word.now c.loop-i.i 0) && same (drop (c.loop-i.i + 1) (map lower c.args.bytes.now)) (drop (c.loop-i.i + 1) c.args.word.now))
+step c = rw (c.to_ascii_lowercase.ensures.value ∙ lowered (get_or c.args.bytes.now c.loop-i.i 0)) (c.loop-i.invariant ∙ same_next c.args.bytes.now c.args.word.now c.loop-i.i (search rules) (search rules))
 
-pub returns-then-lower-word : goal.returns-then-lower-word
-returns-then-lower-word c = sym (step (goal.at.returns-then-lower-word c).After-lower ∙ rw (ne_eqb _ _ c.if-lower-word.true))
+pub returns-then-to_ascii_lowercase-word : goal.returns-then-to_ascii_lowercase-word
+returns-then-to_ascii_lowercase-word c = sym (step (goal.at.returns-then-to_ascii_lowercase-word c).After-to_ascii_lowercase ∙ rw (ne_eqb _ _ c.if-to_ascii_lowercase-word.true))
 
 pub loop-i-preserved : goal.loop-i-preserved
-loop-i-preserved c = step (goal.at.loop-i-preserved c).After-lower ∙ rw (eq-eqb _ _ c.if-lower-word.false)
+loop-i-preserved c = step (goal.at.loop-i-preserved c).After-to_ascii_lowercase ∙ rw (eq-eqb _ _ c.if-to_ascii_lowercase-word.false)
 
 pub returns : goal.returns
 returns c =

@@ -1,18 +1,15 @@
--- `lexer::skip_blanks` meets its contract: the loop passes blanks only.
-use mathlib.Core.Path.{sym, ◌∙◌}
+-- `lexer::skip_blanks` meets its contract.
+use Rattle.std.proofs.Common.{refl, sym, ◌∙◌, not, arith}
+use lib.Seq.{drop-length}
 use Rattle.plan.specs.MatrixMarket.{is_blank}
 use Rattle.lexer.specs.Suffixes.{not_blank}
-use Rattle.lexer.proofs.Cuts.{passed_none, kind_more, kind-last, kind-end}
+use Rattle.lexer.proofs.Cuts.{place_found, place_none}
 use Rattle.lexer.proofs.skip_blanks.Goals as goal
 
-pub loop-i-preserved : goal.loop-i-preserved
-loop-i-preserved c = kind_more is_blank c.args.text.now c.args.at c.loop-i.i c.loop-i.invariant c.loop-i-test.true (sym c.blank.ensures ∙ c.if-blank.true)
+pub returns-in-Some : goal.returns-in-Some
+returns-in-Some c =
+    let place = place_found not_blank (λ b. not (is_blank b)) (λ b t. refl) c.args.text.now c.args.at c.in-Some.k (sym c.first_other.ensures ∙ c.in-Some.is) in
+    (omega (arith, place.0), place.1)
 
-pub returns-else-blank : goal.returns-else-blank
-returns-else-blank c = kind-last is_blank c.args.text.now c.args.at c.loop-i.i c.loop-i.invariant c.loop-i-test.true (sym c.blank.ensures ∙ c.if-blank.false)
-
-pub returns-after-loop-i : goal.returns-after-loop-i
-returns-after-loop-i c = kind-end is_blank c.args.text.now c.args.at c.loop-i.i c.loop-i.invariant c.loop-i-test.false
-
-pub loop-i-init : goal.loop-i-init
-loop-i-init c = passed_none not_blank c.args.text.now c.args.at c.requires
+pub returns-in-None : goal.returns-in-None
+returns-in-None c = (omega arith, drop-length c.args.text.now ∙ sym (place_none not_blank (λ b. not (is_blank b)) (λ b t. refl) c.args.text.now c.args.at (sym c.first_other.ensures ∙ c.in-None.is)))

@@ -1,10 +1,6 @@
--- `listing_cases::list_all` is safe and ends: each case ends behind its beginning.
-use Prim.Native.Nat.{◌-◌, ◌≤◌}
+-- `listing_cases::list_all` ends: each case leaves less.
 use lib.ListN.{length}
 use Rattle.listing_cases.proofs.list_all.Given as goal
 
-abbrev pub invariant-loop-at : goal.invariant-loop-at
-invariant-loop-at g l = l.at ≤ length l.input
-
-abbrev pub decreases-loop-at : goal.decreases-loop-at
-decreases-loop-at g l = length l.input - l.at
+abbrev pub decreases-loop-case : goal.decreases-loop-case
+decreases-loop-case g l = length l.left

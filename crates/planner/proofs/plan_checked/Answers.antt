@@ -4,7 +4,6 @@ use mathlib.Core.List.{map, flatten}
 use Prim.Native.Nat.{◌≤◌}
 use native.Mathlib.Omega.{arith}
 use lib.ListN.{length, take}
-use borrow.Author.Rules.{rules}
 use Rattle.plan.specs.declared.PlanAnswer.TheVariants.{Accepted}
 use Rattle.plan.specs.Mesh.{lent}
 use Rattle.plan.specs.Elimination.{columns}
@@ -15,16 +14,12 @@ use Rattle.theory.proofs.Handed.{Room, enough_room, lengths_of}
 use Rattle.dissection.specs.Blocks.{Dissected}
 use Rattle.dissection.proofs.Heads.{dissected_parts}
 use Rattle.planner.proofs.Planning.{dissected_order, parts_within, held_plan, held-slots, counted_slots, held-reply, checked_refused, checked-accepted}
-use Rattle.planner.proofs.plan_checked.Goals.{After-dissect-d, After-sum-totals, After-index}
+use Rattle.planner.proofs.plan_checked.Goals.{After-dissect-d, After-sum-totals}
 use Rattle.planner.proofs.plan_checked.Goals as goal
 
 -- the mesh passed its checks
 good : (c : After-dissect-d) → Checked (lent c.args.n c.args.starts.now c.args.neighbours.now)
 good c = c.requires.checked
-
--- the mesh passed its checks
-good_at_after_index : (c : After-index) → Checked (lent c.args.n c.args.starts.now c.args.neighbours.now)
-good_at_after_index c = c.requires.checked
 
 -- the mesh passed its checks
 good_at_after_sum_totals : (c : After-sum-totals) → Checked (lent c.args.n c.args.starts.now c.args.neighbours.now)
@@ -35,8 +30,8 @@ dissected : (c : After-dissect-d) → Dissected (lent c.args.n c.args.starts.now
 dissected c = c.dissect-d.ensures
 
 -- the arrays hold its dissection
-dissected_at_after_index : (c : After-index) → Dissected (lent c.args.n c.args.starts.now c.args.neighbours.now) c.dissect-d.result.order c.dissect-d.result.heads c.dissect-d.result.left c.dissect-d.result.parts
-dissected_at_after_index c = c.dissect-d.ensures
+dissected_at_after_sum_totals : (c : After-sum-totals) → Dissected (lent c.args.n c.args.starts.now c.args.neighbours.now) c.dissect-d.result.order c.dissect-d.result.heads c.dissect-d.result.left c.dissect-d.result.parts
+dissected_at_after_sum_totals c = c.dissect-d.ensures
 
 -- the buffers passed check 8
 room : (c : After-dissect-d) → Room (lent c.args.n c.args.starts.now c.args.neighbours.now).nodes (lengths_of (buffers c.args.order.now c.args.positions.now c.args.sizes.now c.args.parents.now c.args.column_starts.now c.args.rows.now))
@@ -50,17 +45,13 @@ held_long c = omega (arith, (good c).few, (dissected c).order_long)
 pub count_columns-requires : goal.count_columns-requires
 count_columns-requires c =
     let few = (good (goal.at.count_columns-requires c).After-dissect-d).few in record {
-      checked = (good (goal.at.count_columns-requires c).After-dissect-d, held_long (goal.at.count_columns-requires c).After-dissect-d, dissected_order (lent c.args.n c.args.starts.now c.args.neighbours.now) c.dissect-d.result.order c.dissect-d.result.heads c.dissect-d.result.parts (dissected (goal.at.count_columns-requires c).After-dissect-d));
+      checked = (good (goal.at.count_columns-requires c).After-dissect-d, dissected_order (lent c.args.n c.args.starts.now c.args.neighbours.now) c.dissect-d.result.order c.dissect-d.result.heads c.dissect-d.result.parts (dissected (goal.at.count_columns-requires c).After-dissect-d));
       n_in_bounds = (omega (arith, few, c.filled-tree.ensures.1), omega (arith, few, c.filled-counts.ensures.1));
     }
 
 -- the counts are those of the columns
 counts : (c : After-sum-totals) → take (lent c.args.n c.args.starts.now c.args.neighbours.now).nodes c.count_columns.new.counts ≡ map length (columns (lent c.args.n c.args.starts.now c.args.neighbours.now) (take (lent c.args.n c.args.starts.now c.args.neighbours.now).nodes c.dissect-d.result.order))
 counts c = c.count_columns.ensures.0
-
--- the counts are those of the columns
-counts_at_after_index : (c : After-index) → take (lent c.args.n c.args.starts.now c.args.neighbours.now).nodes c.count_columns.new.counts ≡ map length (columns (lent c.args.n c.args.starts.now c.args.neighbours.now) (take (lent c.args.n c.args.starts.now c.args.neighbours.now).nodes c.dissect-d.result.order))
-counts_at_after_index c = c.count_columns.ensures.0
 
 -- the tree's array and the counts' are long enough
 tree_long : (c : After-sum-totals) → (lent c.args.n c.args.starts.now c.args.neighbours.now).nodes ≤ length c.count_columns.new.tree
@@ -69,15 +60,12 @@ tree_long c = omega (arith, (good_at_after_sum_totals c).few, c.count_columns.au
 counts_long : (c : After-sum-totals) → (lent c.args.n c.args.starts.now c.args.neighbours.now).nodes ≤ length c.count_columns.new.counts
 counts_long c = omega (arith, (good_at_after_sum_totals c).few, c.count_columns.auto.counts, c.filled-counts.ensures.1)
 
-pub index-requires : goal.index-requires
-index-requires c = search rules
-
 -- the slots are the plan's
-slots : (c : After-index) → c.index.result ≡ (plan_of c.args.unknowns (lent c.args.n c.args.starts.now c.args.neighbours.now)).slots
-slots c = c.index.ensures ∙ c.sum-totals.ensures.0 ∙ counted_slots c.args.unknowns (lent c.args.n c.args.starts.now c.args.neighbours.now) (good_at_after_index c) c.dissect-d.result.order c.dissect-d.result.heads c.dissect-d.result.parts (dissected_at_after_index c) _ (counts_at_after_index c)
+slots : (c : After-sum-totals) → c.sum-totals.result.slots ≡ (plan_of c.args.unknowns (lent c.args.n c.args.starts.now c.args.neighbours.now)).slots
+slots c = c.sum-totals.ensures.0 ∙ counted_slots c.args.unknowns (lent c.args.n c.args.starts.now c.args.neighbours.now) (good_at_after_sum_totals c) c.dissect-d.result.order c.dissect-d.result.heads c.dissect-d.result.parts (dissected_at_after_sum_totals c) _ (counts c)
 
-pub returns-then-rows-index : goal.returns-then-rows-index
-returns-then-rows-index c = checked_refused c.args.unknowns (lent c.args.n c.args.starts.now c.args.neighbours.now) (buffers c.args.order.now c.args.positions.now c.args.sizes.now c.args.parents.now c.args.column_starts.now c.args.rows.now) (omega (arith, slots (goal.at.returns-then-rows-index c).After-index, c.if-rows-index.true))
+pub returns-then-rows-slots : goal.returns-then-rows-slots
+returns-then-rows-slots c = checked_refused c.args.unknowns (lent c.args.n c.args.starts.now c.args.neighbours.now) (buffers c.args.order.now c.args.positions.now c.args.sizes.now c.args.parents.now c.args.column_starts.now c.args.rows.now) (omega (arith, slots (goal.at.returns-then-rows-slots c).After-sum-totals, c.if-rows-slots.true))
 
 -- ---- the plan is written
 pub write_order-requires : goal.write_order-requires
@@ -91,8 +79,8 @@ write_parts-requires c =
 pub lay_out-requires : goal.lay_out-requires
 lay_out-requires c =
     let fit : length (flatten (columns (lent c.args.n c.args.starts.now c.args.neighbours.now) (take (lent c.args.n c.args.starts.now c.args.neighbours.now).nodes c.dissect-d.result.order))) ≤ length (buffers c.args.order.now c.args.positions.now c.args.sizes.now c.args.parents.now c.args.column_starts.now c.args.rows.now).rows =
-    omega (arith, held-slots c.args.unknowns (lent c.args.n c.args.starts.now c.args.neighbours.now) (good (goal.at.lay_out-requires c).After-dissect-d) c.dissect-d.result.order c.dissect-d.result.heads c.dissect-d.result.parts (dissected (goal.at.lay_out-requires c).After-dissect-d), slots (goal.at.lay_out-requires c).After-index, c.if-rows-index.false) in record {
-      checked = (good (goal.at.lay_out-requires c).After-dissect-d, held_long (goal.at.lay_out-requires c).After-dissect-d, dissected_order (lent c.args.n c.args.starts.now c.args.neighbours.now) c.dissect-d.result.order c.dissect-d.result.heads c.dissect-d.result.parts (dissected (goal.at.lay_out-requires c).After-dissect-d), tree_long (goal.at.lay_out-requires c).After-sum-totals, c.count_columns.ensures.1);
+    omega (arith, held-slots c.args.unknowns (lent c.args.n c.args.starts.now c.args.neighbours.now) (good (goal.at.lay_out-requires c).After-dissect-d) c.dissect-d.result.order c.dissect-d.result.heads c.dissect-d.result.parts (dissected (goal.at.lay_out-requires c).After-dissect-d), slots (goal.at.lay_out-requires c).After-sum-totals, c.if-rows-slots.false) in record {
+      checked = (good (goal.at.lay_out-requires c).After-dissect-d, dissected_order (lent c.args.n c.args.starts.now c.args.neighbours.now) c.dissect-d.result.order c.dissect-d.result.heads c.dissect-d.result.parts (dissected (goal.at.lay_out-requires c).After-dissect-d), tree_long (goal.at.lay_out-requires c).After-sum-totals, c.count_columns.ensures.1);
       n_in_bounds = (counts_long (goal.at.lay_out-requires c).After-sum-totals, counts (goal.at.lay_out-requires c).After-sum-totals);
       n_in_bounds_2 = ((room (goal.at.lay_out-requires c).After-dissect-d).positions, (room (goal.at.lay_out-requires c).After-dissect-d).column_starts, fit);
     }
@@ -109,7 +97,7 @@ overflow_cast-unknowns c = omega (arith, unknowns_limits c.args.unknowns c.requi
 pub returns : goal.returns
 unfolding hand_out fill held_plan
 returns c =
-    checked-accepted c.args.unknowns (lent c.args.n c.args.starts.now c.args.neighbours.now) (good (goal.at.returns c).After-dissect-d) c.dissect-d.result.order c.dissect-d.result.heads c.dissect-d.result.parts (dissected (goal.at.returns c).After-dissect-d) (Accepted c.new.result) (buffers c.args.order.now c.args.positions.now c.args.sizes.now c.args.parents.now c.args.column_starts.now c.args.rows.now) _ (omega (arith, slots (goal.at.returns c).After-index, c.if-rows-index.false))
+    checked-accepted c.args.unknowns (lent c.args.n c.args.starts.now c.args.neighbours.now) (good (goal.at.returns c).After-dissect-d) c.dissect-d.result.order c.dissect-d.result.heads c.dissect-d.result.parts (dissected (goal.at.returns c).After-dissect-d) (Accepted c.new.result) (buffers c.args.order.now c.args.positions.now c.args.sizes.now c.args.parents.now c.args.column_starts.now c.args.rows.now) _ (omega (arith, slots (goal.at.returns c).After-sum-totals, c.if-rows-slots.false))
     (record {
       reply = held-reply c.args.unknowns (lent c.args.n c.args.starts.now c.args.neighbours.now) c.dissect-d.result.order c.dissect-d.result.heads c.dissect-d.result.parts _ c.sum-totals.result.slots c.sum-totals.result.multiplications c.new.result (counts (goal.at.returns c).After-sum-totals) c.sum-totals.ensures.0 c.sum-totals.ensures.1 c.new.ensures;
       order = c.write_order.ensures;

@@ -1,21 +1,16 @@
--- `text::list` meets its promise: the listing is put at the front of zeros.
-use mathlib.Core.Path.{ap, ◌∙◌}
-use mathlib.Core.List.{List}
-use Prim.Native.Nat.{ℕ}
-use native.Mathlib.Nat.{zero-add}
+-- `text::list` meets its promise: what check 20 refuses is listed as its refusal, and else the mesh is.
+use mathlib.Core.Path.{sym, ap, ◌∙◌}
 use native.Mathlib.Omega.{arith}
 use lib.ListN.{length}
-use borrow.Author.Rules.{rules}
-use Rattle.plan.specs.Lists.{written}
-use Rattle.plan.specs.Listing.{listing}
-use Rattle.text.proofs.Puts.{put_front}
-use Rattle.text.proofs.Answers.{listing-fits}
+use Rattle.text.proofs.Bound.{refusal-fits}
+use Rattle.text.proofs.Answers.{listing-refused, listing-mesh}
 use Rattle.text.proofs.list.Goals as goal
 
-pub returns : goal.returns
-returns c =
-    let input : List ℕ = c.args.input.now in
-    record {
-      length_value = c.put_listing-length.ensures.ends ∙ zero-add (length (listing input));
-      bytes_value = put_front c.put_listing-length.ensures (omega (arith, c.byte_zeros-bytes.ensures.1, listing-fits input)) (search rules) ∙ ap (written (listing input)) c.byte_zeros-bytes.ensures.0;
-    }
+pub refusal-requires : goal.refusal-requires
+refusal-requires c = omega (arith, ap length c.new-text.ensures, refusal-fits 20 (omega arith))
+
+pub returns-then-bad_input : goal.returns-then-bad_input
+returns-then-bad_input c = rw (c.refusal.ensures, c.new-text.ensures) (sym (listing-refused c.args.input.now (sym c.bad_input.ensures ∙ c.if-bad_input.true)))
+
+pub returns-else-bad_input : goal.returns-else-bad_input
+returns-else-bad_input c = c.put_input.ensures ∙ sym (listing-mesh c.args.input.now (sym c.bad_input.ensures ∙ c.if-bad_input.false))

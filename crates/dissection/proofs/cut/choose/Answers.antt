@@ -3,6 +3,7 @@ use Prim.Native.Nat.{◌≤◌}
 use native.Mathlib.Omega.{arith}
 use borrow.Author.Rules.{rules}
 use Rattle.plan.specs.Mesh.{lent}
+use Rattle.dissection.specs.Changes.{rest_fresh}
 use Rattle.dissection.proofs.Cuts.{last-few, parted-whole, parted_cut}
 use Rattle.dissection.proofs.cut.choose.Goals.{Start}
 use Rattle.dissection.proofs.cut.choose.Goals as goal
@@ -27,8 +28,8 @@ separate-requires c =
     let le = few (goal.at.separate-requires c).Start in
     (c.requires.checked.0, c.requires.checked.1, c.requires.checked.2, omega arith)
 
-pub renumber-requires : goal.renumber-requires
-renumber-requires c = record { ascends = c.requires.checked.1.ascends; inside = λ v h. let lt = c.requires.checked.1.inside v h in search rules }
+pub renumber-requires-clause-within : goal.renumber-requires-clause-within
+renumber-requires-clause-within c = record { ascends = c.requires.checked.1.ascends; inside = λ v h. let lt = c.requires.checked.1.inside v h in search rules }
 
 pub returns : goal.returns
-returns c = parted_cut (lent c.args.n c.args.starts.now c.args.neighbours.now) c.args.nodes.now c.requires.checked.1 c.args.last c.requires.rooted.0 c.args.numbers.now c.requires.rooted.1 c.requires.checked.0 (omega (arith, c.if-last-le1.false)) c.separate.new.numbers _ c.separate.ensures c.renumber.ensures
+returns c = parted_cut (lent c.args.n c.args.starts.now c.args.neighbours.now) c.args.nodes.now c.requires.checked.1 c.args.last c.requires.rooted.0 c.args.numbers.now c.requires.rooted.1 c.requires.checked.0 (omega (arith, c.if-last-le1.false)) c.separate.new.numbers _ c.separate.ensures (c.renumber.ensures rest_fresh (λ x r e. search (rules, e)))

@@ -3,6 +3,7 @@ use Prim.Native.Nat.{◌≤◌}
 use native.Mathlib.Omega.{arith}
 use borrow.Author.Rules.{rules}
 use Rattle.plan.specs.Mesh.{lent}
+use Rattle.dissection.specs.Changes.{part_numbered}
 use Rattle.dissection.proofs.Cuts.{parted-fresh, parted-high, divided}
 use Rattle.dissection.proofs.cut.divide.Goals.{After-label-count}
 use Rattle.dissection.proofs.cut.divide.Goals as goal
@@ -30,12 +31,12 @@ overflow_cast-part c =
     let le = few (goal.at.overflow_cast-part c).After-label-count in
     search rules
 
-pub renumber-requires : goal.renumber-requires
-renumber-requires c = record { ascends = c.requires.0.within.ascends; inside = λ v h. omega (arith, c.requires.0.within.inside v h, c.requires.0.numbers_long, c.search-last.auto.numbers, c.choose.auto.numbers, c.label-count.auto.numbers) }
+pub renumber-requires-clause-within : goal.renumber-requires-clause-within
+renumber-requires-clause-within c = record { ascends = c.requires.0.within.ascends; inside = λ v h. omega (arith, c.requires.0.within.inside v h, c.requires.0.numbers_long, c.search-last.auto.numbers, c.choose.auto.numbers, c.label-count.auto.numbers) }
 
 pub returns : goal.returns
 returns c = (
   divided (lent c.args.n c.args.starts.now c.args.neighbours.now) c.args.nodes.now c.args.at c.choose.new.numbers c.label-count.new.numbers c.renumber.new.numbers c.label-count.new.begins
-      c.label-count.result (omega (arith, few (goal.at.returns c).After-label-count, c.requires.0.checked.few)) c.choose.ensures c.label-count.ensures c.renumber.ensures,
+      c.label-count.result (omega (arith, few (goal.at.returns c).After-label-count, c.requires.0.checked.few)) c.choose.ensures c.label-count.ensures (c.renumber.ensures (part_numbered c.label-count.result) (λ x r e. search (rules, e))),
   c.search-last.ensures.2,
 )

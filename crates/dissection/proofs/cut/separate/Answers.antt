@@ -1,5 +1,5 @@
 -- `dissection::cut::separate` meets its contract: of the nodes passed, those of the separator are left out.
-use mathlib.Core.Path.{refl, ap, ◌∙◌}
+use mathlib.Core.Path.{refl, ◌∙◌}
 use Prim.Native.Nat.{◌<◌}
 use native.Mathlib.Omega.{arith}
 use lib.ListN.{get_or}
@@ -7,34 +7,31 @@ use borrow.Author.Rules.{rules}
 use Rattle.plan.specs.Mesh.{lent}
 use Rattle.theory.proofs.Lists.{is_in-get_or}
 use Rattle.dissection.proofs.Renumbering.{renumbering_none, renumbering_more, renumbering_all}
-use Rattle.dissection.proofs.Cuts.{left_out, left_out_next}
-use Rattle.dissection.proofs.cut.separate.Goals.{After-wide-v}
+use Rattle.dissection.proofs.Cuts.{left_out_next}
+use Rattle.dissection.proofs.cut.separate.Goals.{In-loop-v}
 use Rattle.dissection.proofs.cut.separate.Goals as goal
 
 -- a node of the list is a node of the mesh
-inside : (c : After-wide-v) → c.wide-v.result < c.args.n
-inside c = rw c.wide-v.ensures (c.requires.1.inside (get_or c.args.nodes.now c.loop-i.i 0) (is_in-get_or c.args.nodes.now c.loop-i.i 0 c.loop-i-test.true))
+inside : (c : In-loop-v) → get_or c.args.nodes.now c.loop-v.v-index 0 < c.args.n
+inside c = (c.requires.1.inside (get_or c.args.nodes.now c.loop-v.v-index 0) (is_in-get_or c.args.nodes.now c.loop-v.v-index 0 c.loop-v-test.true))
 
-pub loop-i-init : goal.loop-i-init
-loop-i-init c = (refl, renumbering_none _ _ _)
+pub loop-v-init : goal.loop-v-init
+loop-v-init c = renumbering_none _ _ _
 
 pub separated-requires : goal.separated-requires
-separated-requires c = let lt = inside (goal.at.separated-requires c).After-wide-v in search rules
+separated-requires c = let lt = inside (goal.at.separated-requires c).In-loop-v in search rules
 
 pub offset_bounds-numbers-v : goal.offset_bounds-numbers-v
-offset_bounds-numbers-v c = let lt = inside (goal.at.offset_bounds-numbers-v c).After-wide-v in search rules
+offset_bounds-numbers-v c = let lt = inside (goal.at.offset_bounds-numbers-v c).In-loop-v in search rules
 
 pub bounds-numbers-v : goal.bounds-numbers-v
-bounds-numbers-v c = let lt = inside (goal.at.bounds-numbers-v c).After-wide-v in search rules
+bounds-numbers-v c = let lt = inside (goal.at.bounds-numbers-v c).In-loop-v in search rules
 
-pub loop-i-preserved : goal.loop-i-preserved
-loop-i-preserved c = (
-  refl,
-  renumbering_more c.loop-i.invariant.1 c.wide-v.ensures (omega arith) (λ v h. omega (arith, c.requires.1.inside v h, c.requires.2)) c.separated.result
-      (c.separated.ensures
-      ∙ ap (left_out (lent c.args.n c.args.starts.now c.args.neighbours.now) c.args.j c.loop-i.numbers) c.wide-v.ensures
-      ∙ left_out_next (lent c.args.n c.args.starts.now c.args.neighbours.now) c.args.j (omega (arith, c.requires.3, c.requires.0.few)) c.loop-i.invariant.1 (omega arith) c.requires.1.ascends),
-)
+pub loop-v-preserved : goal.loop-v-preserved
+loop-v-preserved c =
+    renumbering_more c.loop-v.invariant refl (omega arith) (λ v h. omega (arith, c.requires.1.inside v h, c.requires.2)) c.separated.result
+    (c.separated.ensures
+    ∙ left_out_next (lent c.args.n c.args.starts.now c.args.neighbours.now) c.args.j (omega (arith, c.requires.3, c.requires.0.few)) c.loop-v.invariant (omega arith) c.requires.1.ascends)
 
 pub returns : goal.returns
-returns c = renumbering_all c.loop-i.invariant.1 (omega arith)
+returns c = renumbering_all c.loop-v.invariant (omega arith)

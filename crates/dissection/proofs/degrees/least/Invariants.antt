@@ -7,7 +7,7 @@ use Rattle.dissection.specs.Degrees.{degree_by}
 use Rattle.dissection.proofs.LeastDegrees.{Leading}
 use Rattle.dissection.proofs.degrees.least.Given as goal
 
-abbrev pub invariant-loop-i : goal.invariant-loop-i
-invariant-loop-i l =
-    (l.i ≤ length l.nodes) × (l.i-end ≡ length l.nodes) × (length l.best ≡ length l.initial.best) × (length l.degrees ≡ length l.initial.degrees)
-    × Leading (degree_by (lent l.n l.starts l.neighbours) l.region) l.groups l.count (take l.i l.nodes) l.best l.degrees
+abbrev pub invariant-loop-v : goal.invariant-loop-v
+invariant-loop-v l =
+    (l.v-index ≤ length l.nodes) × (length l.best ≡ length l.initial.best) × (length l.degrees ≡ length l.initial.degrees)
+    × Leading (degree_by (lent l.n l.starts l.neighbours) l.region) l.groups l.count (take l.v-index l.nodes) l.best l.degrees

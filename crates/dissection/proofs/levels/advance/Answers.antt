@@ -28,18 +28,18 @@ same_node : (c : In-loop-k) → get_or c.loop-k.queue c.loop-k.k 0 ≡ get_or c.
 same_node c = get_d_front c.loop-k.queue c.args.queue.now c.loop-k.k c.args.hi 0 c.loop-k-test.true c.loop-k.invariant.3.kept
 
 pub visit-tail-requires : goal.visit-tail-requires
-visit-tail-requires c = (c.requires.0, omega (arith, c.wide.ensures, same_node (goal.at.visit-tail-requires c).In-loop-k, c.requires.4 c.loop-k.k c.loop-k-test.true), c.requires.1, c.loop-k.invariant.3.left)
+visit-tail-requires c = (c.requires.0, omega (arith, same_node (goal.at.visit-tail-requires c).In-loop-k, c.requires.4 c.loop-k.k c.loop-k-test.true), c.requires.1, c.loop-k.invariant.3.left)
 
 pub loop-k-preserved : goal.loop-k-preserved
 loop-k-preserved c =
-    let same = c.wide.ensures ∙ same_node (goal.at.loop-k-preserved c).In-loop-k in (
+    let same = same_node (goal.at.loop-k-preserved c).In-loop-k in (
       omega arith,
       omega (arith, c.loop-k-test.true),
       c.loop-k.invariant.2,
       spread_as
           (λ v. ap (λ (w : ℕ). exists (λ u. adjacent (lent c.args.n c.args.starts.now c.args.neighbours.now) u v) (segment c.args.queue.now c.args.lo c.loop-k.k) || adjacent (lent c.args.n c.args.starts.now c.args.neighbours.now) w v) same
           ∙ sym (segment_more (λ u. adjacent (lent c.args.n c.args.starts.now c.args.neighbours.now) u v) c.args.queue.now c.args.lo c.loop-k.k c.loop-k.invariant.0 (omega (arith, c.loop-k-test.true, c.loop-k.invariant.2, c.requires.3.queue_long))))
-          (spread_both {t = adjacent (lent c.args.n c.args.starts.now c.args.neighbours.now) c.wide.result} c.requires.1 c.loop-k.invariant.3 c.visit-tail.ensures),
+          (spread_both {t = adjacent (lent c.args.n c.args.starts.now c.args.neighbours.now) (get_or c.loop-k.queue c.loop-k.k 0)} c.requires.1 c.loop-k.invariant.3 c.visit-tail.ensures),
     )
 
 pub returns : goal.returns

@@ -3,5 +3,5 @@ use Rattle.plan.specs.Mesh.{lent}
 use Rattle.mesh.proofs.Lists.{checked-within}
 use Rattle.dissection.proofs.levels.is_irregular.Goals as goal
 
-pub list-entries-requires : goal.list-entries-requires
-list-entries-requires c = checked-within (lent c.args.n c.args.starts.now c.args.neighbours.now) c.requires c.loop-v.v c.loop-v-test.true
+pub list-requires : goal.list-requires
+list-requires c = checked-within (lent c.args.n c.args.starts.now c.args.neighbours.now) c.requires c.loop-v.v c.loop-v-test.true

@@ -6,7 +6,7 @@ use borrow.Author.Rules.{rules}
 use lib.ListN.{length, get_or, length-set}
 use Rattle.theory.proofs.Lists.{is_in-get_or}
 use Rattle.dissection.proofs.Labels.{Labelable, labelling_none, labelling_room, labelling_end, labelling_more, labelling_all}
-use Rattle.dissection.proofs.levels.label.Goals.{Start, At-loop-i}
+use Rattle.dissection.proofs.levels.label.Goals.{Start, At-loop-v}
 use Rattle.dissection.proofs.levels.label.Goals as goal
 
 -- what is asked of the nodes and the numbers
@@ -14,37 +14,36 @@ asked : (c : Start) → Labelable c.args.n c.args.nodes.now c.args.numbers.now
 asked c = record { small = omega (arith, c.requires.checked.0.few); within = c.requires.checked.1; whole = c.requires.checked.2; unlabelled = c.requires.checked.3 }
 
 -- there is room for as many places as at the start
-long : (c : At-loop-i) → length c.loop-i.begins ≡ length c.args.begins.now
-long c = c.loop-i.invariant.3 ∙ length-set c.args.begins.now 0 c.args.at
+long : (c : At-loop-v) → length c.loop-v.begins ≡ length c.args.begins.now
+long c = c.loop-v.invariant.2 ∙ length-set c.args.begins.now 0 c.args.at
 
-pub loop-i-init : goal.loop-i-init
-loop-i-init c = (refl, refl, refl, refl, labelling_none _ _ _ _ _ c.args.begins.now (omega arith))
+pub loop-v-init : goal.loop-v-init
+loop-v-init c = (refl, refl, refl, labelling_none _ _ _ _ _ c.args.begins.now (omega arith))
 
 pub component-count-requires : goal.component-count-requires
 component-count-requires c =
-    let lt : c.loop-i.i < length c.args.nodes.now = omega arith in
+    let lt : c.loop-v.v-index < length c.args.nodes.now = omega arith in
     record {
       checked = (
         c.requires.checked.0,
-        c.requires.checked.1.inside (get_or c.args.nodes.now c.loop-i.i 0) (is_in-get_or c.args.nodes.now c.loop-i.i 0 lt),
+        c.requires.checked.1.inside (get_or c.args.nodes.now c.loop-v.v-index 0) (is_in-get_or c.args.nodes.now c.loop-v.v-index 0 lt),
         search rules,
         search rules,
-        omega (arith, long (goal.at.component-count-requires c).At-loop-i),
+        omega (arith, long (goal.at.component-count-requires c).At-loop-v),
       );
-      count_lt_n = (labelling_room (asked (goal.at.component-count-requires c).Start) c.loop-i.invariant.4 lt, omega (arith, labelling_end (asked (goal.at.component-count-requires c).Start) c.loop-i.invariant.4));
+      count_lt_n = (labelling_room (asked (goal.at.component-count-requires c).Start) c.loop-v.invariant.3 lt, omega (arith, labelling_end (asked (goal.at.component-count-requires c).Start) c.loop-v.invariant.3));
     }
 
-pub loop-i-preserved : goal.loop-i-preserved
-loop-i-preserved c = (
-  refl,
+pub loop-v-preserved : goal.loop-v-preserved
+loop-v-preserved c = (
   search rules,
   search rules,
   search rules,
-  labelling_more (asked (goal.at.loop-i-preserved c).Start) c.loop-i.invariant.4 _ _ _ (omega arith) (omega (arith, long (goal.at.loop-i-preserved c).At-loop-i)) c.component-count.ensures,
+  labelling_more (asked (goal.at.loop-v-preserved c).Start) c.loop-v.invariant.3 _ _ _ (omega arith) (omega (arith, long (goal.at.loop-v-preserved c).At-loop-v)) c.component-count.ensures,
 )
 
 pub returns : goal.returns
-returns c = labelling_all (asked (goal.at.returns c).Start) c.loop-i.invariant.4 (omega arith)
+returns c = labelling_all (asked (goal.at.returns c).Start) c.loop-v.invariant.3 (omega arith)
 
 pub shape_of-begins : goal.shape_of-begins
-shape_of-begins c = long (goal.at.shape_of-begins c).At-loop-i
+shape_of-begins c = long (goal.at.shape_of-begins c).At-loop-v

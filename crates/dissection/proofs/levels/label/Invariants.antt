@@ -5,10 +5,9 @@ use Rattle.plan.specs.Mesh.{lent, adjacent}
 use Rattle.dissection.proofs.Labels.{Labelling}
 use Rattle.dissection.proofs.levels.label.Given as goal
 
-abbrev pub invariant-loop-i : goal.invariant-loop-i
-invariant-loop-i l =
-    (l.i-end ≡ length l.nodes)
-    × (length l.numbers ≡ length l.initial.numbers)
+abbrev pub invariant-loop-v : goal.invariant-loop-v
+invariant-loop-v l =
+    (length l.numbers ≡ length l.initial.numbers)
     × (length l.queue ≡ length l.initial.queue)
     × (length l.begins ≡ length l.initial.begins)
-    × Labelling l.n (adjacent (lent l.n l.starts l.neighbours)) l.nodes l.at l.initial.numbers l.i l.numbers l.begins l.count
+    × Labelling l.n (adjacent (lent l.n l.starts l.neighbours)) l.nodes l.at l.initial.numbers l.v-index l.numbers l.begins l.count

@@ -7,7 +7,7 @@ use lib.ListN.{set, length-set}
 use Rattle.plan.specs.Mesh.{lent, adjacent}
 use Rattle.dissection.specs.Numbers.{fresh}
 use Rattle.dissection.proofs.Walks.{Walking, walking_as, stand_few, restored, walk_start, walk_step, walk_node, walk_end}
-use Rattle.dissection.proofs.levels.walk.Goals.{Start, After-wide-first, At-loop-hi}
+use Rattle.dissection.proofs.levels.walk.Goals.{Start, At-loop-hi}
 use Rattle.dissection.proofs.levels.walk.Goals as goal
 
 -- an edge leads to a node
@@ -15,12 +15,12 @@ inside : (c : Start) (u : ℕ) (v : ℕ) → (adjacent (lent c.args.n c.args.sta
 inside c u v h = (c.requires.0.inside u v h).1
 
 -- the numbers before the walk
-old : (c : After-wide-first) → set (set c.args.numbers.now c.wide-first.result 0) c.args.root fresh ≡ c.args.numbers.now
-old c = rw c.wide-first.ensures (restored c.args.numbers.now c.args.root c.requires.2)
+old : (c : Start) → set (set c.args.numbers.now c.args.root 0) c.args.root fresh ≡ c.args.numbers.now
+old c = (restored c.args.numbers.now c.args.root c.requires.2)
 
 -- the numbers before the walk
-old_at_at_loop_hi : (c : At-loop-hi) → set (set c.args.numbers.now c.wide-first.result 0) c.args.root fresh ≡ c.args.numbers.now
-old_at_at_loop_hi c = rw c.wide-first.ensures (restored c.args.numbers.now c.args.root c.requires.2)
+old_at_at_loop_hi : (c : At-loop-hi) → set (set c.args.numbers.now c.args.root 0) c.args.root fresh ≡ c.args.numbers.now
+old_at_at_loop_hi c = (restored c.args.numbers.now c.args.root c.requires.2)
 
 -- what holds between two levels
 walking : (c : At-loop-hi) → Walking c.args.n (adjacent (lent c.args.n c.args.starts.now c.args.neighbours.now)) c.args.root c.args.numbers.now c.loop-hi.last c.loop-hi.width c.loop-hi.lo c.loop-hi.hi c.loop-hi.numbers c.loop-hi.queue
@@ -37,7 +37,7 @@ loop-hi-init c =
     let begun = walk_start c.args.n (adjacent (lent c.args.n c.args.starts.now c.args.neighbours.now)) c.args.numbers.now c.args.root c.args.queue.now c.requires.1 c.requires.2 c.requires.3 c.requires.4 in (
       refl,
       refl,
-      walking_as (adjacent (lent c.args.n c.args.starts.now c.args.neighbours.now)) c.args.root (sym (old (goal.at.loop-hi-init c).After-wide-first)) (rw c.wide-first.ensures begun),
+      walking_as (adjacent (lent c.args.n c.args.starts.now c.args.neighbours.now)) c.args.root (sym (old (goal.at.loop-hi-init c).Start)) begun,
     )
 
 pub advance-tail-requires : goal.advance-tail-requires
@@ -58,7 +58,7 @@ pub loop-hi-preserved : goal.loop-hi-preserved
 loop-hi-preserved c = (
   c.advance-tail.ensures.numbers_length ∙ c.loop-hi.invariant.0,
   c.advance-tail.ensures.queue_length ∙ c.loop-hi.invariant.1,
-  rw c.greater-width.ensures (walking_as (adjacent (lent c.args.n c.args.starts.now c.args.neighbours.now)) c.args.root (sym (old (goal.at.loop-hi-preserved c).After-wide-first))
+  rw c.max-width.ensures (walking_as (adjacent (lent c.args.n c.args.starts.now c.args.neighbours.now)) c.args.root (sym (old (goal.at.loop-hi-preserved c).Start))
       (walk_step c.args.n (adjacent (lent c.args.n c.args.starts.now c.args.neighbours.now)) (inside (goal.at.loop-hi-preserved c).Start) (omega (arith, few (goal.at.loop-hi-preserved c).At-loop-hi)) c.args.numbers.now c.args.root c.loop-hi.last c.loop-hi.width c.loop-hi.lo c.loop-hi.hi c.loop-hi.numbers c.loop-hi.queue _ _ c.advance-tail.result (walking (goal.at.loop-hi-preserved c).At-loop-hi) c.advance-tail.ensures c.if-tail-hi.false)),
 )
 

@@ -1,27 +1,25 @@
 -- `dissection::numbers::renumber` meets its contract: the loop renumbers one node after the other.
-use mathlib.Core.Path.{refl}
+use mathlib.Core.Path.{refl, ◌∙◌}
 use native.Mathlib.Omega.{arith}
-use Rattle.dissection.specs.Changes.{changed_by}
-use Rattle.dissection.proofs.Renumbering.{renumbering_none, renumbering_inside, renumbering_each, renumbering_all}
+use lib.ListN.{get_or, length-set}
+use Rattle.theory.proofs.Lists.{is_in-get_or}
+use Rattle.dissection.proofs.Renumbering.{renumbering_none, renumbering_each, renumbering_all}
 use Rattle.dissection.proofs.numbers.renumber.Goals as goal
 
-pub loop-i-init : goal.loop-i-init
-loop-i-init c = (refl, renumbering_none _ _ _)
-
-pub offset_bounds-numbers-v : goal.offset_bounds-numbers-v
-offset_bounds-numbers-v c = omega (arith, c.type_inv.nodes c.loop-i.i)
+pub loop-v-init : goal.loop-v-init
+loop-v-init g c = (refl, λ f h. renumbering_none _ _ _)
 
 pub bounds-numbers-v : goal.bounds-numbers-v
-bounds-numbers-v c = renumbering_inside c.loop-i.invariant.1 c.wide-v.ensures (omega arith) c.requires.inside
+bounds-numbers-v g c = omega (arith, c.requires.within.inside (get_or c.args.nodes.now c.loop-v.v-index 0) (is_in-get_or c.args.nodes.now c.loop-v.v-index 0 (omega arith)), c.loop-v.invariant.0)
 
-pub loop-i-preserved : goal.loop-i-preserved
-loop-i-preserved c = (refl, renumbering_each (changed_by c.args.change) c.loop-i.invariant.1 c.wide-v.ensures (omega arith) c.requires c.changed.ensures)
+pub loop-v-preserved : goal.loop-v-preserved
+loop-v-preserved g c = (
+  length-set _ _ _ ∙ c.loop-v.invariant.0,
+  λ f h. renumbering_each f (c.loop-v.invariant.1 f h) refl (omega arith) c.requires.within (h _ _ c.change.ensures),
+)
 
 pub returns : goal.returns
-returns c = renumbering_all c.loop-i.invariant.1 (omega arith)
+returns g c f h = renumbering_all (c.loop-v.invariant.1 f h) (omega arith)
 
-pub offset_bounds-numbers-v-in-loop-i : goal.offset_bounds-numbers-v-in-loop-i
-offset_bounds-numbers-v-in-loop-i c = (omega (arith, c.type_inv.nodes c.loop-i.i))
-
-pub bounds-numbers-v-in-loop-i : goal.bounds-numbers-v-in-loop-i
-bounds-numbers-v-in-loop-i c = (renumbering_inside c.loop-i.invariant.1 c.wide-v.ensures (omega arith) c.requires.inside)
+pub bounds-numbers-v-in-loop-v : goal.bounds-numbers-v-in-loop-v
+bounds-numbers-v-in-loop-v g c = omega (arith, c.requires.within.inside (get_or c.args.nodes.now c.loop-v.v-index 0) (is_in-get_or c.args.nodes.now c.loop-v.v-index 0 (omega arith)), c.loop-v.invariant.0)

@@ -3,12 +3,15 @@
 use mathlib.Core.Path.{refl}
 use Prim.Native.Nat.{◌≤◌}
 use native.Mathlib.Omega.{arith}
+use borrow.Author.Rules.{rules}
 use Rattle.plan.specs.Mesh.{lent}
+use Rattle.dissection.specs.Numbers.{Renumbered}
+use Rattle.dissection.specs.Changes.{only_level}
 use Rattle.dissection.specs.Standing.{Regional, Standing}
 use Rattle.dissection.specs.Degrees.{degree_by}
 use Rattle.dissection.proofs.LeastDegrees.{degree_in_lem}
 use Rattle.dissection.proofs.Roots.{regional_again, standing_transferred, fresh-inside, level-high, candidates-only, candidates-found}
-use Rattle.dissection.proofs.root.candidates.Goals.{After-transfer, After-label-count}
+use Rattle.dissection.proofs.root.candidates.Goals.{After-transfer, After-renumber, After-label-count}
 use Rattle.dissection.proofs.root.candidates.Goals as goal
 
 -- the root's levels stand there
@@ -24,16 +27,20 @@ transfer-requires c v t =
     let lt = c.requires.regional.0.within.inside v t in
     (omega (arith, lt, c.requires.regional.1), omega (arith, lt, c.requires.regional.0.numbers_long))
 
-pub renumber-requires : goal.renumber-requires
-renumber-requires c =
-    let h = regional (goal.at.renumber-requires c).After-transfer in
+pub renumber-requires-clause-within : goal.renumber-requires-clause-within
+renumber-requires-clause-within c =
+    let h = regional (goal.at.renumber-requires-clause-within c).After-transfer in
     record { ascends = h.within.ascends; inside = λ v t. omega (arith, h.within.inside v t, h.numbers_long) }
+
+-- only the nodes of the last level stay fresh
+only_last : (c : After-renumber) → Renumbered (only_level c.args.root.last) c.args.nodes.now c.transfer.new.numbers c.renumber.new.numbers
+only_last c = c.renumber.ensures (only_level c.args.root.last) (λ x r e. search (rules, e))
 
 pub label-count-requires : goal.label-count-requires
 label-count-requires c =
     let h = regional (goal.at.label-count-requires c).After-transfer in
     record {
-      checked = (h.checked, h.within, fresh-inside (lent c.args.n c.args.starts.now c.args.neighbours.now) c.args.nodes.now h c.requires.rooted.0 (standing (goal.at.label-count-requires c).After-transfer) c.renumber.new.numbers c.renumber.ensures, level-high c.args.root.last c.args.n c.args.nodes.now c.transfer.new.numbers c.renumber.new.numbers h.checked.few c.renumber.ensures);
+      checked = (h.checked, h.within, fresh-inside (lent c.args.n c.args.starts.now c.args.neighbours.now) c.args.nodes.now h c.requires.rooted.0 (standing (goal.at.label-count-requires c).After-transfer) c.renumber.new.numbers (only_last (goal.at.label-count-requires c).After-renumber), level-high c.args.root.last c.args.n c.args.nodes.now c.transfer.new.numbers c.renumber.new.numbers h.checked.few (only_last (goal.at.label-count-requires c).After-renumber));
       at_le_n = (omega arith, omega (arith, h.numbers_long, c.renumber.auto.numbers), h.queue_long, c.requires.regional.2);
     }
 
@@ -55,9 +62,9 @@ least-requires c =
 pub returns : goal.returns
 returns c =
     let h = regional (goal.at.returns c).After-transfer in (
-      candidates-found (lent c.args.n c.args.starts.now c.args.neighbours.now) c.args.nodes.now h c.requires.rooted.0 (standing (goal.at.returns c).After-transfer) c.renumber.new.numbers c.renumber.ensures c.label-count.ensures
+      candidates-found (lent c.args.n c.args.starts.now c.args.neighbours.now) c.args.nodes.now h c.requires.rooted.0 (standing (goal.at.returns c).After-transfer) c.renumber.new.numbers (only_last (goal.at.returns c).After-renumber) c.label-count.ensures
           (degree_by (lent c.args.n c.args.starts.now c.args.neighbours.now) c.args.levels.now) (degree_in_lem (lent c.args.n c.args.starts.now c.args.neighbours.now) c.args.nodes.now h.within c.args.root.node h.checked c.args.levels.now c.requires.rooted.1)
           c.least.new.best c.least.new.degrees (omega (arith, few (goal.at.returns c).After-label-count, c.least.auto.best, c.label-count.auto.begins, c.requires.regional.2)) c.least.ensures,
       few (goal.at.returns c).After-label-count,
-      candidates-only (lent c.args.n c.args.starts.now c.args.neighbours.now) c.args.nodes.now h c.requires.rooted.0 (standing (goal.at.returns c).After-transfer) c.renumber.new.numbers c.renumber.ensures c.label-count.ensures,
+      candidates-only (lent c.args.n c.args.starts.now c.args.neighbours.now) c.args.nodes.now h c.requires.rooted.0 (standing (goal.at.returns c).After-transfer) c.renumber.new.numbers (only_last (goal.at.returns c).After-renumber) c.label-count.ensures,
     )

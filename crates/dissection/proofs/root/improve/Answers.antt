@@ -2,7 +2,6 @@
 use mathlib.Core.Path.{sym, ap, ◌∙◌}
 use mathlib.Core.List.{List, head_d}
 use Prim.Native.Nat.{ℕ}
-use native.Mathlib.Omega.{arith}
 use Rattle.plan.specs.Lists.{is_in, keep}
 use Rattle.plan.specs.Mesh.{lent}
 use Rattle.plan.specs.Choice.{improves, next_root}
@@ -14,10 +13,9 @@ pub first_better-requires : goal.first_better-requires
 first_better-requires c =
     record {
       regional = (regional_again (lent c.args.n c.args.starts.now c.args.neighbours.now) c.args.nodes.now c.requires.regional.0 c.candidates-count.ensures.2 c.trial-1.given c.queue-1.given, c.requires.measured.0, c.requires.measured.2);
-      count_in_bounds = (
-        omega (arith, c.candidates-count.ensures.1, c.requires.regional.2, c.found-1.given),
-        λ x t. candidate_inside (lent c.args.n c.args.starts.now c.args.neighbours.now) c.args.nodes.now c.args.root.node c.requires.measured.0.rooted.inside x (ap (is_in x) (sym c.candidates-count.ensures.0) ∙ t),
-      );
+      inside = (
+          λ x t. candidate_inside (lent c.args.n c.args.starts.now c.args.neighbours.now) c.args.nodes.now c.args.root.node c.requires.measured.0.rooted.inside x (ap (is_in x) (sym c.candidates-count.ensures.0) ∙ t)
+          );
     }
 
 pub returns : goal.returns

@@ -5,6 +5,3 @@ use Rattle.factor.proofs.column.divide.Given as goal
 
 abbrev pub invariant-loop-s : goal.invariant-loop-s
 invariant-loop-s l = Dividing l.initial.values l.initial.kept l.initial.lower l.from l.to l.d l.values l.kept l.lower l.s
-
-abbrev pub decreases-loop-s : goal.decreases-loop-s
-decreases-loop-s l = l.to - l.s

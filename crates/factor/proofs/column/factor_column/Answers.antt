@@ -15,7 +15,7 @@ divide-requires c =
     let n = length c.args.diagonal.now in
     let i = slot_inside n c.args.starts.now c.args.rows.now c.requires.plan c.args.j c.requires.column in
     let fits = column_fits n c.args.starts.now c.args.rows.now c.requires.plan c.args.j c.requires.column in
-    (omega (arith, c.index-from.ensures, c.index-to.ensures, i.0), omega (arith, c.index-to.ensures, i.2, c.requires.slots), omega (arith, c.index-from.ensures, c.index-to.ensures, fits, c.requires.room_kept), omega (arith, c.index-from.ensures, c.index-to.ensures, fits, c.requires.room_lower))
+    (i.0, omega (arith, i.2, c.requires.slots), omega (arith, fits, c.requires.room_kept), omega (arith, fits, c.requires.room_lower))
 
 pub loop-s-init : goal.loop-s-init
 loop-s-init c =
@@ -28,26 +28,26 @@ loop-s-init c =
       room_lower = omega (arith, c.requires.room_lower, c.divide.auto.lower);
       room_places = c.requires.room_places;
     } in (
-      in_column-begins c.args.starts.now c.args.rows.now c.divide.new.kept c.divide.new.lower c.args.diagonal.now c.divide.new.values c.args.places.now (length c.args.diagonal.now) (length c.args.values.now) c.args.j c.index-from.result c.index-to.result
-          lengths c.index-from.ensures c.index-to.ensures refl c.divide.auto.values,
+      in_column-begins c.args.starts.now c.args.rows.now c.divide.new.kept c.divide.new.lower c.args.diagonal.now c.divide.new.values c.args.places.now (length c.args.diagonal.now) (length c.args.values.now) c.args.j (get_or c.args.starts.now c.args.j 0) (get_or c.args.starts.now (c.args.j + 1) 0)
+          lengths refl refl refl c.divide.auto.values,
       refl,
     )
 
 -- the row in slot s
 inside : (c : In-loop-s) → let k = get_or c.args.rows.now c.loop-s.s 0 in
-    (c.loop-s.s < length c.args.rows.now) × (length c.args.rows.now < above32) × (k < length c.loop-s.diagonal) × (k + 1 < length c.args.starts.now) × (c.index-to.result ≤ length c.args.rows.now) × (get_or c.args.starts.now k 0 + (c.index-to.result - (c.loop-s.s + 1)) ≤ length c.args.rows.now)
+    (c.loop-s.s < length c.args.rows.now) × (length c.args.rows.now < above32) × (k < length c.loop-s.diagonal) × (k + 1 < length c.args.starts.now) × (get_or c.args.starts.now (c.args.j + 1) 0 ≤ length c.args.rows.now) × (get_or c.args.starts.now k 0 + (get_or c.args.starts.now (c.args.j + 1) 0 - (c.loop-s.s + 1)) ≤ length c.args.rows.now)
 inside c = row_inside c.args.starts.now c.args.rows.now (length c.loop-s.diagonal) (length c.loop-s.values) _ _ _ c.loop-s.s _ (c.loop-s.invariant.0.ready c.loop-s-test.true)
 
 pub along-requires : goal.along-requires
 along-requires c =
     let i = inside (goal.at.along-requires c).In-loop-s in
-    rw c.wide.ensures (omega (arith, i.3), omega (arith, c.loop-s-test.true), i.4, i.5)
+    (omega (arith, i.3), omega (arith, c.loop-s-test.true), i.4, i.5)
 
 pub row_along-requires : goal.row_along-requires
 row_along-requires c =
     record {
       at_row = c.loop-s.invariant.0.ready c.loop-s-test.true;
-      to_value = rw c.wide.ensures at (sym c.along.ensures ∙ c.if-along.true);
+      to_value = sym c.along.ensures ∙ c.if-along.true;
     }
 
 pub loop-s-preserved-then-along : goal.loop-s-preserved-then-along
@@ -61,8 +61,8 @@ loop-s-preserved c = (in_column_on c.args.starts.now c.args.rows.now _ _ _ _ c.l
 
 pub returns : goal.returns
 returns c =
-    column-worked c.args.starts.now c.args.rows.now c.divide.new.kept c.divide.new.lower c.args.diagonal.now c.args.values.now c.divide.new.values c.loop-s.diagonal c.loop-s.values c.args.j c.args.d c.index-from.result c.index-to.result c.loop-s.s
-    c.index-from.ensures c.index-to.ensures c.divide.ensures.values_after c.divide.ensures.keeps.0 c.divide.ensures.keeps.1 c.loop-s.invariant.0.advanced c.loop-s-test.false
+    column-worked c.args.starts.now c.args.rows.now c.divide.new.kept c.divide.new.lower c.args.diagonal.now c.args.values.now c.divide.new.values c.loop-s.diagonal c.loop-s.values c.args.j c.args.d (get_or c.args.starts.now c.args.j 0) (get_or c.args.starts.now (c.args.j + 1) 0) c.loop-s.s
+    refl refl c.divide.ensures.values_after c.divide.ensures.keeps.0 c.divide.ensures.keeps.1 c.loop-s.invariant.0.advanced c.loop-s-test.false
 
 pub bounds-starts-j : goal.bounds-starts-j
 bounds-starts-j c = omega (arith, c.requires.plan.starts.many, c.requires.column)

@@ -1,15 +1,14 @@
 -- `factor::column::factor_rows` meets its contract: a row is run down, and those that follow it are known.
-use mathlib.Core.Path.{◌≡◌, sym, ◌∙◌}
-use mathlib.Core.Bool.{true}
-use Prim.Native.Nat.{◌+◌, ◌-◌, ◌≤◌, ◌<◌}
+use mathlib.Core.Path.{◌≡◌, refl, sym, ap, ◌∙◌, subst}
+use mathlib.Core.Bool.{true, not}
+use Prim.Native.Nat.{ℕ, ◌+◌, ◌-◌, ◌≤◌, ◌<◌}
 use native.Mathlib.Omega.{arith}
 use borrow.Author.Tests.{not-false}
 use lib.ListN.{length, get_or}
 use Rattle.factor.specs.Down.{continued, above32}
+use Rattle.factor.specs.Working.{Advanced}
 use Rattle.factor.proofs.ColumnSteps.{row_beside, row_inside, row_twins, advanced_on, following-begins, known_on, following_on}
-use mathlib.Core.Bool.{not}
-use mathlib.Core.Path.{ap}
-use Rattle.factor.proofs.column.factor_rows.Goals.{Start, In-loop-at, Else-not-continues, After-index-in-loop-at}
+use Rattle.factor.proofs.column.factor_rows.Goals.{Start, In-loop-at, Else-not-continues}
 use Rattle.factor.proofs.column.factor_rows.Goals as goal
 
 -- slot s is one of the plan
@@ -32,13 +31,13 @@ row_down-requires c = c.requires
 pub loop-at-init : goal.loop-at-init
 loop-at-init c = (
   following-begins c.args.starts.now c.args.rows.now c.args.kept.now c.args.lower.now c.row_down.new.places (length c.args.diagonal.now) (length c.args.values.now) c.args.first c.args.s c.args.to
-      c.row_down.new.diagonal c.row_down.new.values c.wide-k.result c.requires.0 (omega (arith, c.requires.1, c.row_down.auto.places)) c.row_down.auto.diagonal c.row_down.auto.values c.wide-k.ensures c.row_down.ensures.placed,
+      c.row_down.new.diagonal c.row_down.new.values (get_or c.args.rows.now c.args.s 0) c.requires.0 (omega (arith, c.requires.1, c.row_down.auto.places)) c.row_down.auto.diagonal c.row_down.auto.values refl c.row_down.ensures.placed,
   c.requires.0.low,
 )
 
 pub continues-requires : goal.continues-requires
 continues-requires c =
-    rw (c.wide-next.ensures, c.loop-at.invariant.0.row)
+    rw c.loop-at.invariant.0.row
     (row_twins c.args.starts.now c.args.rows.now (length c.loop-at.diagonal) (length c.loop-at.values) (length c.args.kept.now) (length c.args.lower.now) c.args.first c.loop-at.at c.args.to (c.loop-at.invariant.0.ready c.loop-at-test.true) (omega (arith, c.loop-at.invariant.0.some, c.loop-at.invariant.1)))
 
 pub returns-then-not-continues : goal.returns-then-not-continues
@@ -49,48 +48,41 @@ returns-then-not-continues c = (
 
 -- the next column continues k's
 continuing : (c : Else-not-continues) → continued c.args.starts.now c.args.rows.now c.loop-at.k (get_or c.args.rows.now c.loop-at.at 0) ≡ true
-continuing c = rw c.wide-next.ensures at (sym c.continues.ensures ∙ not-false c.continues.result (ap not c.if-not-continues.false))
-
--- the next column continues k's
-continuing_at_after_index_in_loop_at : (c : After-index-in-loop-at) → continued c.args.starts.now c.args.rows.now c.loop-at.k (get_or c.args.rows.now c.loop-at.at 0) ≡ true
-continuing_at_after_index_in_loop_at c = rw c.wide-next.ensures at (sym c.continues.ensures ∙ not-false c.continues.result (ap not c.if-not-continues.false))
+continuing c = sym c.continues.ensures ∙ not-false c.continues.result (ap not c.if-not-continues.false)
 
 -- so its places are known
-known : (c : After-index-in-loop-at) → let next = get_or c.args.rows.now c.loop-at.at 0 in
-    let later = c.loop-at.shift + (c.index.result - c.index-in-loop-at.result - 1) in
-    (c.index-in-loop-at.result < c.index.result) × (later ≤ get_or c.args.starts.now next 0) × (get_or c.args.starts.now next 0 ≤ length c.args.rows.now)
-    × (later ≡ c.loop-at.shift + (get_or c.args.starts.now next 0 - get_or c.args.starts.now c.loop-at.k 0 - 1))
+known : (c : Else-not-continues) → let next = get_or c.args.rows.now c.loop-at.at 0 in
+    let later = c.loop-at.shift + (get_or c.args.starts.now next 0 - get_or c.args.starts.now c.loop-at.k 0 - 1) in
+    (get_or c.args.starts.now c.loop-at.k 0 < get_or c.args.starts.now next 0) × (later ≤ get_or c.args.starts.now next 0) × (get_or c.args.starts.now next 0 ≤ length c.args.rows.now)
 known c =
-    let o = known_on c.args.starts.now c.args.rows.now c.args.kept.now c.args.lower.now _ c.args.first c.args.s c.args.to _ _ c.loop-at.diagonal c.loop-at.values c.loop-at.k c.loop-at.shift c.loop-at.at c.loop-at.invariant.0 c.loop-at.invariant.1 c.loop-at-test.true (continuing_at_after_index_in_loop_at c) in
-    let start-next : c.index.result ≡ get_or c.args.starts.now (get_or c.args.rows.now c.loop-at.at 0) 0 = rw c.wide-next.ensures at c.index.ensures in
-    let r = row_beside c.args.starts.now c.args.rows.now (length c.loop-at.diagonal) (length c.loop-at.values) (length c.args.kept.now) (length c.args.lower.now) c.args.first c.loop-at.at c.args.to (c.loop-at.invariant.0.ready c.loop-at-test.true) in (
-      omega (arith, c.index-in-loop-at.ensures, start-next, o.0),
-      omega (arith, c.index-in-loop-at.ensures, start-next, o.1),
-      omega (arith, r.rising, r.inside),
-      omega (arith, c.index-in-loop-at.ensures, start-next),
-    )
+    let o = known_on c.args.starts.now c.args.rows.now c.args.kept.now c.args.lower.now _ c.args.first c.args.s c.args.to _ _ c.loop-at.diagonal c.loop-at.values c.loop-at.k c.loop-at.shift c.loop-at.at c.loop-at.invariant.0 c.loop-at.invariant.1 c.loop-at-test.true (continuing c) in
+    let r = row_beside c.args.starts.now c.args.rows.now (length c.loop-at.diagonal) (length c.loop-at.values) (length c.args.kept.now) (length c.args.lower.now) c.args.first c.loop-at.at c.args.to (c.loop-at.invariant.0.ready c.loop-at-test.true) in
+    (o.0, o.1, omega (arith, r.rising, r.inside))
 
 pub row_known-requires : goal.row_known-requires
 row_known-requires c =
     let o = known_on c.args.starts.now c.args.rows.now c.args.kept.now c.args.lower.now _ c.args.first c.args.s c.args.to _ _ c.loop-at.diagonal c.loop-at.values c.loop-at.k c.loop-at.shift c.loop-at.at c.loop-at.invariant.0 c.loop-at.invariant.1 c.loop-at-test.true (continuing (goal.at.row_known-requires c).Else-not-continues) in
     record {
       at_row = (c.loop-at.invariant.0.ready c.loop-at-test.true, c.loop-at.invariant.0.room);
-      shift_bound = rw (known (goal.at.row_known-requires c).After-index-in-loop-at).3 (o.1, o.2);
+      shift_bound = (o.1, o.2);
     }
 
 pub loop-at-preserved : goal.loop-at-preserved
 loop-at-preserved c = (
-  rw (c.wide-next.ensures, (known (goal.at.loop-at-preserved c).After-index-in-loop-at).3)
-      (following_on c.args.starts.now c.args.rows.now c.args.kept.now c.args.lower.now _ c.args.first c.args.s c.args.to _ _ c.loop-at.diagonal c.loop-at.values c.row_known.new.diagonal c.row_known.new.values c.loop-at.k c.loop-at.shift c.loop-at.at
+  (following_on c.args.starts.now c.args.rows.now c.args.kept.now c.args.lower.now _ c.args.first c.args.s c.args.to _ _ c.loop-at.diagonal c.loop-at.values c.row_known.new.diagonal c.row_known.new.values c.loop-at.k c.loop-at.shift c.loop-at.at
       c.loop-at.invariant.0 c.loop-at.invariant.1 c.loop-at-test.true (continuing (goal.at.loop-at-preserved c).Else-not-continues) c.row_known.ensures),
   c.loop-at.invariant.1,
 )
 
+-- the last slot is reached
 pub returns : goal.returns
-returns c = (
-  advanced_on c.args.starts.now c.args.rows.now c.args.kept.now c.args.lower.now c.args.first c.args.to c.args.s (c.args.s + 1) c.loop-at.at c.args.diagonal.now c.args.values.now c.row_down.new.diagonal c.row_down.new.values c.loop-at.diagonal c.loop-at.values c.row_down.ensures.advanced c.loop-at.invariant.0.advanced,
-  c.loop-at.invariant.0.some,
-)
+returns c =
+    let end : c.loop-at.at ≡ c.args.to = omega (arith, c.loop-at-test.false, c.loop-at.invariant.0.advanced.high) in
+    let P : ℕ → Type 0 = λ r. Advanced c.args.starts.now c.args.rows.now c.args.kept.now c.args.lower.now c.args.first c.args.to c.args.s r c.args.diagonal.now c.args.values.now c.loop-at.diagonal c.loop-at.values × (c.args.s < r) in
+    subst P end (
+      advanced_on c.args.starts.now c.args.rows.now c.args.kept.now c.args.lower.now c.args.first c.args.to c.args.s (c.args.s + 1) c.loop-at.at c.args.diagonal.now c.args.values.now c.row_down.new.diagonal c.row_down.new.values c.loop-at.diagonal c.loop-at.values c.row_down.ensures.advanced c.loop-at.invariant.0.advanced,
+      c.loop-at.invariant.0.some,
+    )
 
 pub offset_bounds-rows-s : goal.offset_bounds-rows-s
 offset_bounds-rows-s c = omega (arith, inside (goal.at.offset_bounds-rows-s c).Start)
@@ -105,10 +97,10 @@ pub bounds-rows-at : goal.bounds-rows-at
 bounds-rows-at c = omega (arith, inside_loop (goal.at.bounds-rows-at c).In-loop-at)
 
 pub offset_bounds-starts-next : goal.offset_bounds-starts-next
-offset_bounds-starts-next c = omega (arith, c.wide-next.ensures, inside_loop (goal.at.offset_bounds-starts-next c).In-loop-at)
+offset_bounds-starts-next c = omega (arith, inside_loop (goal.at.offset_bounds-starts-next c).In-loop-at)
 
 pub bounds-starts-next : goal.bounds-starts-next
-bounds-starts-next c = omega (arith, c.wide-next.ensures, inside_loop (goal.at.bounds-starts-next c).In-loop-at)
+bounds-starts-next c = omega (arith, inside_loop (goal.at.bounds-starts-next c).In-loop-at)
 
 pub offset_bounds-starts-k : goal.offset_bounds-starts-k
 offset_bounds-starts-k c = omega (arith, inside_loop (goal.at.offset_bounds-starts-k c).In-loop-at)
@@ -117,16 +109,10 @@ pub bounds-starts-k : goal.bounds-starts-k
 bounds-starts-k c = omega (arith, inside_loop (goal.at.bounds-starts-k c).In-loop-at)
 
 pub overflow_sub-shift : goal.overflow_sub-shift
-overflow_sub-shift c = omega (arith, (known (goal.at.overflow_sub-shift c).After-index-in-loop-at).0)
+overflow_sub-shift c = omega (arith, (known (goal.at.overflow_sub-shift c).Else-not-continues).0)
 
 pub overflow_sub-shift-in-loop-at : goal.overflow_sub-shift-in-loop-at
-overflow_sub-shift-in-loop-at c = omega (arith, (known (goal.at.overflow_sub-shift-in-loop-at c).After-index-in-loop-at).0)
+overflow_sub-shift-in-loop-at c = omega (arith, (known (goal.at.overflow_sub-shift-in-loop-at c).Else-not-continues).0)
 
 pub overflow_add-shift : goal.overflow_add-shift
-overflow_add-shift c = omega (arith, known (goal.at.overflow_add-shift c).After-index-in-loop-at, (inside_loop (goal.at.overflow_add-shift c).In-loop-at).1)
-
-pub overflow_add-at-in-loop-at : goal.overflow_add-at-in-loop-at
-overflow_add-at-in-loop-at c = omega (arith, inside_loop (goal.at.overflow_add-at-in-loop-at c).In-loop-at)
-
-pub loop-at-smaller : goal.loop-at-smaller
-loop-at-smaller c = omega (arith, c.loop-at-test.true)
+overflow_add-shift c = omega (arith, known (goal.at.overflow_add-shift c).Else-not-continues, (inside_loop (goal.at.overflow_add-shift c).In-loop-at).1)

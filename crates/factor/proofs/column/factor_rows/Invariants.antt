@@ -5,6 +5,3 @@ use Rattle.factor.proofs.column.factor_rows.Given as goal
 
 abbrev pub invariant-loop-at : goal.invariant-loop-at
 invariant-loop-at l = Following l.starts l.rows l.kept l.lower l.places l.first l.s l.to l.initial.diagonal l.initial.values l.diagonal l.values l.k l.shift l.at × (l.first ≤ l.s)
-
-abbrev pub decreases-loop-at : goal.decreases-loop-at
-decreases-loop-at l = l.to - l.at

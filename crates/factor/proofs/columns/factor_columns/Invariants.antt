@@ -6,6 +6,3 @@ use Rattle.factor.proofs.columns.factor_columns.Given as goal
 
 abbrev pub invariant-loop-j : goal.invariant-loop-j
 invariant-loop-j l = Columns l.starts l.rows l.initial.diagonal l.initial.values l.initial.report l.diagonal l.values l.kept l.lower l.places l.report l.j
-
-abbrev pub decreases-loop-j : goal.decreases-loop-j
-decreases-loop-j l = length l.initial.diagonal - l.j

@@ -5,5 +5,5 @@ use Rattle.factor.proofs.columns.is_pivot.Goals as goal
 pub returns-then-d : goal.returns-then-d
 returns-then-d c = positive-inside _ c.if-d.true
 
-pub returns : goal.returns
-returns c = positive-outside _ c.if-d.false
+pub returns-else-d : goal.returns-else-d
+returns-else-d c = positive-outside _ c.if-d.false

@@ -10,30 +10,23 @@ use Rattle.factor.proofs.passes.backward_column.Goals as goal
 
 pub loop-s-init : goal.loop-s-init
 loop-s-init c =
-    rw c.index-s.ensures (
-      summing_begins (length c.args.vector.now) c.args.starts.now c.args.rows.now c.requires.0.plan c.args.values.now c.args.j c.requires.1 c.args.vector.now,
-      c.index-to.ensures,
-    )
+    summing_begins (length c.args.vector.now) c.args.starts.now c.args.rows.now c.requires.0.plan c.args.values.now c.args.j c.requires.1 c.args.vector.now
 
 -- slot s and its row are inside
 inside : (c : In-loop-s) → (c.loop-s.s < length c.args.rows.now) × (c.loop-s.s < length c.args.values.now) × (get_or c.args.rows.now c.loop-s.s 0 < length c.args.vector.now)
 inside c =
-    let n = length c.args.vector.now in
-    let taken : c.loop-s.s < get_or c.args.starts.now (c.args.j + 1) 0 = omega (arith, c.loop-s-test.true, c.loop-s.invariant.1) in
-    let ends = slot_inside n c.args.starts.now c.args.rows.now c.requires.0.plan c.args.j c.requires.1 in
-    let row = slot_after n c.args.starts.now c.args.rows.now c.requires.0.plan c.args.j c.requires.1 c.loop-s.s c.loop-s.invariant.0.low taken in
-    (omega (arith, taken, ends), omega (arith, taken, ends, c.requires.0.slots), omega (arith, row))
+    let ends = slot_inside (length c.args.vector.now) c.args.starts.now c.args.rows.now c.requires.0.plan c.args.j c.requires.1 in
+    let row = slot_after (length c.args.vector.now) c.args.starts.now c.args.rows.now c.requires.0.plan c.args.j c.requires.1 c.loop-s.s c.loop-s.invariant.low c.loop-s-test.true in
+    (omega (arith, ends), omega (arith, ends, c.requires.0.slots), omega (arith, row))
 
 pub loop-s-preserved : goal.loop-s-preserved
 loop-s-preserved c =
-    let taken : c.loop-s.s < get_or c.args.starts.now (c.args.j + 1) 0 = omega (arith, c.loop-s-test.true, c.loop-s.invariant.1) in
-    let next = summing_steps (length c.args.vector.now) c.args.starts.now c.args.rows.now c.requires.0.plan c.args.values.now c.args.j c.requires.1 c.args.vector.now c.loop-s.s c.loop-s.x c.requires.1 c.loop-s.invariant.0 taken in
-    rw c.wide.ensures (next, c.loop-s.invariant.1)
+    summing_steps (length c.args.vector.now) c.args.starts.now c.args.rows.now c.requires.0.plan c.args.values.now c.args.j c.requires.1 c.args.vector.now c.loop-s.s c.loop-s.x c.requires.1 c.loop-s.invariant c.loop-s-test.true
 
 pub returns : goal.returns
 returns c =
-    summing_ends (length c.args.vector.now) c.args.starts.now c.args.rows.now c.requires.0.plan c.args.values.now c.args.j c.requires.1 c.args.vector.now c.loop-s.s c.loop-s.x c.loop-s.invariant.0
-    (omega (arith, c.loop-s-test.false, c.loop-s.invariant.1))
+    summing_ends (length c.args.vector.now) c.args.starts.now c.args.rows.now c.requires.0.plan c.args.values.now c.args.j c.requires.1 c.args.vector.now c.loop-s.s c.loop-s.x c.loop-s.invariant
+    c.loop-s-test.false
 
 pub offset_bounds-values-s : goal.offset_bounds-values-s
 offset_bounds-values-s c = search (rules, inside (goal.at.offset_bounds-values-s c).In-loop-s)
@@ -47,8 +40,8 @@ offset_bounds-rows-s c = search (rules, inside (goal.at.offset_bounds-rows-s c).
 pub bounds-rows-s : goal.bounds-rows-s
 bounds-rows-s c = search (rules, inside (goal.at.bounds-rows-s c).In-loop-s)
 
-pub offset_bounds-vector-wide : goal.offset_bounds-vector-wide
-offset_bounds-vector-wide c = search (rules, c.wide.ensures, inside (goal.at.offset_bounds-vector-wide c).In-loop-s)
+pub offset_bounds-vector-rows : goal.offset_bounds-vector-rows
+offset_bounds-vector-rows c = search (rules, inside (goal.at.offset_bounds-vector-rows c).In-loop-s)
 
-pub bounds-vector-wide : goal.bounds-vector-wide
-bounds-vector-wide c = search (rules, c.wide.ensures, inside (goal.at.bounds-vector-wide c).In-loop-s)
+pub bounds-vector-rows : goal.bounds-vector-rows
+bounds-vector-rows c = search (rules, inside (goal.at.bounds-vector-rows c).In-loop-s)

@@ -6,6 +6,3 @@ use Rattle.factor.proofs.passes.backward_columns.Given as goal
 
 abbrev pub invariant-loop-j : goal.invariant-loop-j
 invariant-loop-j l = Descending (backward_column l.starts l.rows l.values) (length l.initial.vector) l.initial.vector l.j l.vector
-
-abbrev pub decreases-loop-j : goal.decreases-loop-j
-decreases-loop-j l = l.j

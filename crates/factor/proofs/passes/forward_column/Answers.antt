@@ -12,34 +12,28 @@ use Rattle.factor.proofs.passes.forward_column.Goals.{In-loop-s}
 use Rattle.factor.proofs.passes.forward_column.Goals as goal
 
 pub loop-s-init : goal.loop-s-init
-loop-s-init c =
-    rw c.index-s.ensures (
-      turning_begins (less_row c.args.rows.now c.args.values.now c.args.j) (get_or c.args.starts.now c.args.j 0) (get_or c.args.starts.now (c.args.j + 1) 0) c.args.vector.now
-          (slot_inside (length c.args.vector.now) c.args.starts.now c.args.rows.now c.requires.0.plan c.args.j c.requires.1).0,
-      refl,
-      c.index-to.ensures,
-    )
+loop-s-init c = (
+  turning_begins (less_row c.args.rows.now c.args.values.now c.args.j) (get_or c.args.starts.now c.args.j 0) (get_or c.args.starts.now (c.args.j + 1) 0) c.args.vector.now
+      (slot_inside (length c.args.vector.now) c.args.starts.now c.args.rows.now c.requires.0.plan c.args.j c.requires.1).0,
+  refl,
+)
 
 -- slot s and its row are inside
 inside : (c : In-loop-s) → (c.loop-s.s < length c.args.rows.now) × (c.loop-s.s < length c.args.values.now) × (get_or c.args.rows.now c.loop-s.s 0 < length c.loop-s.vector)
 inside c =
-    let n = length c.args.vector.now in
-    let taken : c.loop-s.s < get_or c.args.starts.now (c.args.j + 1) 0 = omega (arith, c.loop-s-test.true, c.loop-s.invariant.2) in
-    let ends = slot_inside n c.args.starts.now c.args.rows.now c.requires.0.plan c.args.j c.requires.1 in
-    let row = slot_after n c.args.starts.now c.args.rows.now c.requires.0.plan c.args.j c.requires.1 c.loop-s.s c.loop-s.invariant.0.low taken in
-    (omega (arith, taken, ends), omega (arith, taken, ends, c.requires.0.slots), omega (arith, row, c.loop-s.invariant.0.long))
+    let ends = slot_inside (length c.args.vector.now) c.args.starts.now c.args.rows.now c.requires.0.plan c.args.j c.requires.1 in
+    let row = slot_after (length c.args.vector.now) c.args.starts.now c.args.rows.now c.requires.0.plan c.args.j c.requires.1 c.loop-s.s c.loop-s.invariant.0.low c.loop-s-test.true in
+    (omega (arith, ends), omega (arith, ends, c.requires.0.slots), omega (arith, row, c.loop-s.invariant.0.long))
 
 pub loop-s-preserved : goal.loop-s-preserved
 loop-s-preserved c =
-    let taken : c.loop-s.s < get_or c.args.starts.now (c.args.j + 1) 0 = omega (arith, c.loop-s-test.true, c.loop-s.invariant.2) in
-    let next = row-steps (length c.args.vector.now) c.args.starts.now c.args.rows.now c.requires.0.plan c.args.values.now c.args.j c.requires.1 c.args.vector.now c.loop-s.vector c.loop-s.s _ c.loop-s.invariant.0 c.loop-s.invariant.1 taken in
-    rw c.wide-i.ensures (next.0, next.1, c.loop-s.invariant.2)
+    row-steps (length c.args.vector.now) c.args.starts.now c.args.rows.now c.requires.0.plan c.args.values.now c.args.j c.requires.1 c.args.vector.now c.loop-s.vector c.loop-s.s _ c.loop-s.invariant.0 c.loop-s.invariant.1 c.loop-s-test.true
 
 pub returns : goal.returns
 unfolding forward_column slots_of
 returns c =
     turning_ends (less_row c.args.rows.now c.args.values.now c.args.j) (get_or c.args.starts.now c.args.j 0) (get_or c.args.starts.now (c.args.j + 1) 0) c.args.vector.now c.loop-s.s c.loop-s.vector c.loop-s.invariant.0
-    (omega (arith, c.loop-s-test.false, c.loop-s.invariant.2))
+    c.loop-s-test.false
 
 pub offset_bounds-rows-s : goal.offset_bounds-rows-s
 offset_bounds-rows-s c = search (rules, inside (goal.at.offset_bounds-rows-s c).In-loop-s)
@@ -48,10 +42,10 @@ pub bounds-rows-s : goal.bounds-rows-s
 bounds-rows-s c = search (rules, inside (goal.at.bounds-rows-s c).In-loop-s)
 
 pub offset_bounds-vector-i : goal.offset_bounds-vector-i
-offset_bounds-vector-i c = search (rules, c.wide-i.ensures, inside (goal.at.offset_bounds-vector-i c).In-loop-s)
+offset_bounds-vector-i c = search (rules, inside (goal.at.offset_bounds-vector-i c).In-loop-s)
 
 pub bounds-vector-i : goal.bounds-vector-i
-bounds-vector-i c = search (rules, c.wide-i.ensures, inside (goal.at.bounds-vector-i c).In-loop-s)
+bounds-vector-i c = search (rules, inside (goal.at.bounds-vector-i c).In-loop-s)
 
 pub offset_bounds-values-s : goal.offset_bounds-values-s
 offset_bounds-values-s c = search (rules, inside (goal.at.offset_bounds-values-s c).In-loop-s)
@@ -60,7 +54,7 @@ pub bounds-values-s : goal.bounds-values-s
 bounds-values-s c = search (rules, inside (goal.at.bounds-values-s c).In-loop-s)
 
 pub offset_bounds-vector-i-in-loop-s : goal.offset_bounds-vector-i-in-loop-s
-offset_bounds-vector-i-in-loop-s c = search (rules, c.wide-i.ensures, inside (goal.at.offset_bounds-vector-i-in-loop-s c).In-loop-s)
+offset_bounds-vector-i-in-loop-s c = search (rules, inside (goal.at.offset_bounds-vector-i-in-loop-s c).In-loop-s)
 
 pub bounds-vector-i-in-loop-s : goal.bounds-vector-i-in-loop-s
-bounds-vector-i-in-loop-s c = search (rules, c.wide-i.ensures, inside (goal.at.bounds-vector-i-in-loop-s c).In-loop-s)
+bounds-vector-i-in-loop-s c = search (rules, inside (goal.at.bounds-vector-i-in-loop-s c).In-loop-s)

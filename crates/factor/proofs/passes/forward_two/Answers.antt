@@ -1,54 +1,58 @@
 -- `factor::passes::forward_two` meets its contract: the rows from slot s of the one column and slot t of the other on are left.
 use mathlib.Core.Path.{◌≡◌, refl, ◌∙◌}
-use Prim.Native.Nat.{◌+◌, ◌<◌}
+use Prim.Native.Nat.{◌+◌, ◌-◌, ◌<◌}
 use native.Mathlib.Omega.{arith}
 use borrow.Author.Rules.{rules}
 use lib.ListN.{length, get_or, length-set}
-use Rattle.factor.proofs.TwoColumns.{both-begins, both-steps, both_ends, both-inside, first-inside}
-use Rattle.factor.proofs.passes.forward_two.Goals.{In-loop-s, After-index-from}
+use Rattle.factor.proofs.TwoColumns.{both-begins, both-steps, both_ends, both-inside, has-row, first-inside}
+use Rattle.factor.proofs.passes.forward_two.Goals.{In-loop-s, Start}
 use Rattle.factor.proofs.passes.forward_two.Goals as goal
+
+-- column j has a row
+some : (c : Start) → get_or c.args.starts.now c.args.j 0 < get_or c.args.starts.now (c.args.j + 1) 0
+some c = has-row (length c.args.vector.now) c.args.starts.now c.args.rows.now c.requires.filled.0.plan c.args.values.now c.args.j c.requires.filled.1 c.requires.j_value
+
+pub overflow_sub-ahead : goal.overflow_sub-ahead
+overflow_sub-ahead c = omega (arith, some (goal.at.overflow_sub-ahead c).Start)
+
+pub overflow_sub-ahead-2 : goal.overflow_sub-ahead-2
+overflow_sub-ahead-2 c = omega (arith, some (goal.at.overflow_sub-ahead-2 c).Start)
 
 pub loop-s-init : goal.loop-s-init
 loop-s-init c =
-    rw (c.index-from.ensures, c.index-to.ensures) (
-      both-begins (length c.args.vector.now) c.args.starts.now c.args.rows.now c.requires.filled.0.plan c.args.values.now c.args.j c.requires.filled.1 c.requires.j_value c.args.vector.now refl,
-      refl,
-    )
+    let behind : get_or c.args.starts.now c.args.j 0 + 1 + (get_or c.args.starts.now (c.args.j + 1) 0 - get_or c.args.starts.now c.args.j 0 - 1) ≡ get_or c.args.starts.now (c.args.j + 1) 0 = omega (arith, some (goal.at.loop-s-init c).Start) in
+    rw behind
+    (both-begins (length c.args.vector.now) c.args.starts.now c.args.rows.now c.requires.filled.0.plan c.args.values.now c.args.j c.requires.filled.1 c.requires.j_value c.args.vector.now refl)
 
 -- the slots and their row are inside
-inside : (c : In-loop-s) → (c.loop-s.s < length c.args.values.now) × (c.loop-s.t < length c.args.rows.now) × (c.loop-s.t < length c.args.values.now) × (get_or c.args.rows.now c.loop-s.t 0 < length c.loop-s.vector) × (length c.loop-s.vector ≡ length c.args.vector.now)
+inside : (c : In-loop-s) → (c.loop-s.s < length c.args.values.now) × ((c.loop-s.s + (get_or c.args.starts.now (c.args.j + 1) 0 - get_or c.args.starts.now c.args.j 0 - 1)) < length c.args.rows.now) × ((c.loop-s.s + (get_or c.args.starts.now (c.args.j + 1) 0 - get_or c.args.starts.now c.args.j 0 - 1)) < length c.args.values.now) × (get_or c.args.rows.now (c.loop-s.s + (get_or c.args.starts.now (c.args.j + 1) 0 - get_or c.args.starts.now c.args.j 0 - 1)) 0 < length c.loop-s.vector) × (length c.loop-s.vector ≡ length c.args.vector.now)
 inside c =
     let n = length c.args.vector.now in
-    let taken : c.loop-s.s < get_or c.args.starts.now (c.args.j + 1) 0 = omega (arith, c.loop-s-test.true, c.loop-s.invariant.1) in
-    let b = both-inside n c.args.starts.now c.args.rows.now c.requires.filled.0.plan c.args.values.now c.args.j c.requires.filled.1 c.requires.j_value _ c.loop-s.vector c.loop-s.s c.loop-s.t _ _ (length-set c.args.vector.now (c.args.j + 1) _) c.loop-s.invariant.0 taken in
-    (omega (arith, b, c.requires.filled.0.slots), b.1, omega (arith, b, c.requires.filled.0.slots), b.2, c.loop-s.invariant.0.long ∙ length-set c.args.vector.now (c.args.j + 1) _)
+    let taken : c.loop-s.s < get_or c.args.starts.now (c.args.j + 1) 0 = c.loop-s-test.true in
+    let b = both-inside n c.args.starts.now c.args.rows.now c.requires.filled.0.plan c.args.values.now c.args.j c.requires.filled.1 c.requires.j_value _ c.loop-s.vector c.loop-s.s (c.loop-s.s + (get_or c.args.starts.now (c.args.j + 1) 0 - get_or c.args.starts.now c.args.j 0 - 1)) _ _ (length-set c.args.vector.now (c.args.j + 1) _) c.loop-s.invariant taken in
+    (omega (arith, b, c.requires.filled.0.slots), b.1, omega (arith, b, c.requires.filled.0.slots), b.2, c.loop-s.invariant.long ∙ length-set c.args.vector.now (c.args.j + 1) _)
 
 pub loop-s-preserved : goal.loop-s-preserved
 loop-s-preserved c =
-    let taken : c.loop-s.s < get_or c.args.starts.now (c.args.j + 1) 0 = omega (arith, c.loop-s-test.true, c.loop-s.invariant.1) in
-    rw c.wide-i.ensures (
-      both-steps (length c.args.vector.now) c.args.starts.now c.args.rows.now c.requires.filled.0.plan c.args.values.now c.args.j c.requires.filled.1 c.requires.j_value _ c.loop-s.vector c.loop-s.s c.loop-s.t _ _ (length-set c.args.vector.now (c.args.j + 1) _) c.loop-s.invariant.0 taken,
-      c.loop-s.invariant.1,
-    )
+    let on : c.loop-s.s + 1 + (get_or c.args.starts.now (c.args.j + 1) 0 - get_or c.args.starts.now c.args.j 0 - 1) ≡ (c.loop-s.s + (get_or c.args.starts.now (c.args.j + 1) 0 - get_or c.args.starts.now c.args.j 0 - 1)) + 1 = omega arith in
+    rw on
+    (both-steps (length c.args.vector.now) c.args.starts.now c.args.rows.now c.requires.filled.0.plan c.args.values.now c.args.j c.requires.filled.1 c.requires.j_value _ c.loop-s.vector c.loop-s.s (c.loop-s.s + (get_or c.args.starts.now (c.args.j + 1) 0 - get_or c.args.starts.now c.args.j 0 - 1)) _ _ (length-set c.args.vector.now (c.args.j + 1) _) c.loop-s.invariant c.loop-s-test.true)
 
 pub shape_of-vector : goal.shape_of-vector
-shape_of-vector c = c.loop-s.invariant.0.long ∙ length-set c.args.vector.now (c.args.j + 1) _
+shape_of-vector c = c.loop-s.invariant.long ∙ length-set c.args.vector.now (c.args.j + 1) _
 
 pub returns : goal.returns
-returns c = both_ends (length c.args.vector.now) c.args.starts.now c.args.rows.now c.requires.filled.0.plan c.args.values.now c.args.j c.requires.filled.1 c.requires.j_value c.args.vector.now c.loop-s.vector c.loop-s.s c.loop-s.t _ _ (rw c.index-from.ensures at c.loop-s.invariant.0) (omega (arith, c.loop-s-test.false, c.loop-s.invariant.1))
+returns c = both_ends (length c.args.vector.now) c.args.starts.now c.args.rows.now c.requires.filled.0.plan c.args.values.now c.args.j c.requires.filled.1 c.requires.j_value c.args.vector.now c.loop-s.vector c.loop-s.s (c.loop-s.s + (get_or c.args.starts.now (c.args.j + 1) 0 - get_or c.args.starts.now c.args.j 0 - 1)) _ _ c.loop-s.invariant c.loop-s-test.false
 
 -- column j has a row
-begins : (c : After-index-from) → get_or c.args.starts.now c.args.j 0 < length c.args.values.now
+begins : (c : Start) → get_or c.args.starts.now c.args.j 0 < length c.args.values.now
 begins c = omega (arith, c.requires.filled.0.slots, first-inside (length c.args.vector.now) c.args.starts.now c.args.rows.now c.requires.filled.0.plan c.args.values.now c.args.j c.requires.filled.1 c.requires.j_value)
 
 pub offset_bounds-values-from : goal.offset_bounds-values-from
-offset_bounds-values-from c = search (rules, c.index-from.ensures, begins (goal.at.offset_bounds-values-from c).After-index-from)
+offset_bounds-values-from c = search (rules, begins (goal.at.offset_bounds-values-from c).Start)
 
 pub bounds-values-from : goal.bounds-values-from
-bounds-values-from c = search (rules, c.index-from.ensures, begins (goal.at.bounds-values-from c).After-index-from)
-
-pub overflow_add-s : goal.overflow_add-s
-overflow_add-s c = search (rules, c.index-from.ensures, begins (goal.at.overflow_add-s c).After-index-from)
+bounds-values-from c = search (rules, begins (goal.at.bounds-values-from c).Start)
 
 pub offset_bounds-rows-t : goal.offset_bounds-rows-t
 offset_bounds-rows-t c = search (rules, inside (goal.at.offset_bounds-rows-t c).In-loop-s)
@@ -57,10 +61,10 @@ pub bounds-rows-t : goal.bounds-rows-t
 bounds-rows-t c = search (rules, inside (goal.at.bounds-rows-t c).In-loop-s)
 
 pub offset_bounds-vector-i : goal.offset_bounds-vector-i
-offset_bounds-vector-i c = search (rules, c.wide-i.ensures, inside (goal.at.offset_bounds-vector-i c).In-loop-s)
+offset_bounds-vector-i c = search (rules, inside (goal.at.offset_bounds-vector-i c).In-loop-s)
 
 pub bounds-vector-i : goal.bounds-vector-i
-bounds-vector-i c = search (rules, c.wide-i.ensures, inside (goal.at.bounds-vector-i c).In-loop-s)
+bounds-vector-i c = search (rules, inside (goal.at.bounds-vector-i c).In-loop-s)
 
 pub offset_bounds-values-s : goal.offset_bounds-values-s
 offset_bounds-values-s c = search (rules, inside (goal.at.offset_bounds-values-s c).In-loop-s)
@@ -75,10 +79,7 @@ pub bounds-values-t : goal.bounds-values-t
 bounds-values-t c = search (rules, inside (goal.at.bounds-values-t c).In-loop-s)
 
 pub offset_bounds-vector-i-in-loop-s : goal.offset_bounds-vector-i-in-loop-s
-offset_bounds-vector-i-in-loop-s c = search (rules, c.wide-i.ensures, inside (goal.at.offset_bounds-vector-i-in-loop-s c).In-loop-s)
+offset_bounds-vector-i-in-loop-s c = search (rules, inside (goal.at.offset_bounds-vector-i-in-loop-s c).In-loop-s)
 
 pub bounds-vector-i-in-loop-s : goal.bounds-vector-i-in-loop-s
-bounds-vector-i-in-loop-s c = search (rules, c.wide-i.ensures, inside (goal.at.bounds-vector-i-in-loop-s c).In-loop-s)
-
-pub overflow_add-t : goal.overflow_add-t
-overflow_add-t c = search (rules, inside (goal.at.overflow_add-t c).In-loop-s)
+bounds-vector-i-in-loop-s c = search (rules, inside (goal.at.bounds-vector-i-in-loop-s c).In-loop-s)

@@ -3,11 +3,8 @@ use native.Mathlib.Omega.{arith}
 use lib.ListN.{length}
 use Rattle.plan.specs.Solving.{by_pivot, scaled}
 use Rattle.theory.proofs.Solving.{by_pivot_keeps}
-use Rattle.factor.proofs.PassSteps.{turning_begins, turning_steps, turned}
+use Rattle.factor.proofs.PassSteps.{turning_steps, turned}
 use Rattle.factor.proofs.passes.scale.Goals as goal
-
-pub loop-j-init : goal.loop-j-init
-loop-j-init c = turning_begins (by_pivot c.args.pivots.now) 0 (length c.args.vector.now) c.args.vector.now (omega arith)
 
 pub loop-j-preserved : goal.loop-j-preserved
 unfolding by_pivot

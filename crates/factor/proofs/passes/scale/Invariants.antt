@@ -7,6 +7,3 @@ use Rattle.factor.proofs.passes.scale.Given as goal
 
 abbrev pub invariant-loop-j : goal.invariant-loop-j
 invariant-loop-j l = Turning (by_pivot l.pivots) 0 (length l.initial.vector) l.initial.vector l.j l.vector
-
-abbrev pub decreases-loop-j : goal.decreases-loop-j
-decreases-loop-j l = length l.initial.vector - l.j

@@ -9,13 +9,12 @@ use Rattle.factor.proofs.rows.less_down.Goals.{In-loop-t}
 use Rattle.factor.proofs.rows.less_down.Goals as goal
 
 pub loop-t-init : goal.loop-t-init
-loop-t-init c =
-    rw c.index-u.ensures (
-      lessening_begins c.args.starts.now c.args.rows.now c.args.values.now c.args.lower.now c.args.k c.args.first c.args.from c.args.to c.args.v c.requires.0,
-      running_begins c.args.starts.now c.args.rows.now c.args.k c.args.first c.args.from c.args.to (length c.args.values.now) (length c.args.lower.now) c.requires.0,
-      λ t a b. absurd (omega arith),
-      refl,
-    )
+loop-t-init c = (
+  lessening_begins c.args.starts.now c.args.rows.now c.args.values.now c.args.lower.now c.args.k c.args.first c.args.from c.args.to c.args.v c.requires.0,
+  running_begins c.args.starts.now c.args.rows.now c.args.k c.args.first c.args.from c.args.to (length c.args.values.now) (length c.args.lower.now) c.requires.0,
+  λ t a b. absurd (omega arith),
+  refl,
+)
 
 -- column k goes on
 inside : (c : In-loop-t) → (c.loop-t.u < get_or c.args.starts.now (c.args.k + 1) 0) × (get_or c.args.starts.now (c.args.k + 1) 0 ≤ length c.args.rows.now) × (length c.args.rows.now ≡ length c.loop-t.values) × (length c.args.rows.now < above32)

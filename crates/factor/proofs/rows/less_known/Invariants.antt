@@ -5,6 +5,3 @@ use Rattle.factor.proofs.rows.less_known.Given as goal
 
 abbrev pub invariant-loop-t : goal.invariant-loop-t
 invariant-loop-t l = Lessening l.starts l.rows l.initial.values l.lower l.k l.first l.from l.to l.v l.values l.t
-
-abbrev pub decreases-loop-t : goal.decreases-loop-t
-decreases-loop-t l = l.to - l.t

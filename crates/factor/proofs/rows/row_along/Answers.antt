@@ -16,7 +16,6 @@ inside c =
 
 pub less_along-requires : goal.less_along-requires
 less_along-requires c =
-    rw c.wide-k.ensures
     record {
       beside = row_beside c.args.starts.now c.args.rows.now (length c.args.diagonal.now) (length c.args.values.now) (length c.args.kept.now) (length c.args.lower.now) c.args.first c.args.s c.args.to c.requires.at_row;
       to_value = c.requires.to_value;
@@ -24,9 +23,8 @@ less_along-requires c =
 
 pub returns : goal.returns
 returns c =
-    rw c.wide-k.ensures
     (row_advances c.args.starts.now c.args.rows.now c.args.kept.now c.args.lower.now c.args.diagonal.now c.args.values.now c.less_along.new.values c.args.first c.args.s c.args.to c.requires.at_row c.less_along.auto.values
-    (rw c.wide-k.ensures at c.less_along.ensures))
+    c.less_along.ensures)
 
 pub offset_bounds-rows-s : goal.offset_bounds-rows-s
 offset_bounds-rows-s c = omega (arith, inside (goal.at.offset_bounds-rows-s c).Start)
@@ -35,13 +33,13 @@ pub bounds-rows-s : goal.bounds-rows-s
 bounds-rows-s c = omega (arith, inside (goal.at.bounds-rows-s c).Start)
 
 pub offset_bounds-diagonal-k : goal.offset_bounds-diagonal-k
-offset_bounds-diagonal-k c = search (rules, c.wide-k.ensures, (inside (goal.at.offset_bounds-diagonal-k c).Start).2)
+offset_bounds-diagonal-k c = search (rules, (inside (goal.at.offset_bounds-diagonal-k c).Start).2)
 
 pub bounds-diagonal-k : goal.bounds-diagonal-k
-bounds-diagonal-k c = omega (arith, c.wide-k.ensures, (inside (goal.at.bounds-diagonal-k c).Start).2)
+bounds-diagonal-k c = omega (arith, (inside (goal.at.bounds-diagonal-k c).Start).2)
 
 pub offset_bounds-diagonal-k-2 : goal.offset_bounds-diagonal-k-2
-offset_bounds-diagonal-k-2 c = search (rules, c.wide-k.ensures, (inside (goal.at.offset_bounds-diagonal-k-2 c).Start).2)
+offset_bounds-diagonal-k-2 c = search (rules, (inside (goal.at.offset_bounds-diagonal-k-2 c).Start).2)
 
 pub bounds-diagonal-k-2 : goal.bounds-diagonal-k-2
-bounds-diagonal-k-2 c = omega (arith, c.wide-k.ensures, (inside (goal.at.bounds-diagonal-k-2 c).Start).2)
+bounds-diagonal-k-2 c = omega (arith, (inside (goal.at.bounds-diagonal-k-2 c).Start).2)

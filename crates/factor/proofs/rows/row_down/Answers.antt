@@ -16,15 +16,13 @@ inside c =
 
 pub less_down-requires : goal.less_down-requires
 less_down-requires c =
-    rw c.wide-k.ensures
     (row_beside c.args.starts.now c.args.rows.now (length c.args.diagonal.now) (length c.args.values.now) (length c.args.kept.now) (length c.args.lower.now) c.args.first c.args.s c.args.to c.requires.0, c.requires.1)
 
 pub returns : goal.returns
 returns c =
-    rw c.wide-k.ensures
     record {
-      advanced = row_advances c.args.starts.now c.args.rows.now c.args.kept.now c.args.lower.now c.args.diagonal.now c.args.values.now c.less_down.new.values c.args.first c.args.s c.args.to c.requires.0 c.less_down.auto.values (rw c.wide-k.ensures at c.less_down.ensures.values_after);
-      placed = rw c.wide-k.ensures at c.less_down.ensures.placed;
+      advanced = row_advances c.args.starts.now c.args.rows.now c.args.kept.now c.args.lower.now c.args.diagonal.now c.args.values.now c.less_down.new.values c.args.first c.args.s c.args.to c.requires.0 c.less_down.auto.values c.less_down.ensures.values_after;
+      placed = c.less_down.ensures.placed;
     }
 
 pub offset_bounds-rows-s : goal.offset_bounds-rows-s
@@ -34,13 +32,13 @@ pub bounds-rows-s : goal.bounds-rows-s
 bounds-rows-s c = omega (arith, inside (goal.at.bounds-rows-s c).Start)
 
 pub offset_bounds-diagonal-k : goal.offset_bounds-diagonal-k
-offset_bounds-diagonal-k c = search (rules, c.wide-k.ensures, (inside (goal.at.offset_bounds-diagonal-k c).Start).2)
+offset_bounds-diagonal-k c = search (rules, (inside (goal.at.offset_bounds-diagonal-k c).Start).2)
 
 pub bounds-diagonal-k : goal.bounds-diagonal-k
-bounds-diagonal-k c = omega (arith, c.wide-k.ensures, (inside (goal.at.bounds-diagonal-k c).Start).2)
+bounds-diagonal-k c = omega (arith, (inside (goal.at.bounds-diagonal-k c).Start).2)
 
 pub offset_bounds-diagonal-k-2 : goal.offset_bounds-diagonal-k-2
-offset_bounds-diagonal-k-2 c = search (rules, c.wide-k.ensures, (inside (goal.at.offset_bounds-diagonal-k-2 c).Start).2)
+offset_bounds-diagonal-k-2 c = search (rules, (inside (goal.at.offset_bounds-diagonal-k-2 c).Start).2)
 
 pub bounds-diagonal-k-2 : goal.bounds-diagonal-k-2
-bounds-diagonal-k-2 c = omega (arith, c.wide-k.ensures, (inside (goal.at.bounds-diagonal-k-2 c).Start).2)
+bounds-diagonal-k-2 c = omega (arith, (inside (goal.at.bounds-diagonal-k-2 c).Start).2)

@@ -20,8 +20,8 @@ pub returns-then-outside : goal.returns-then-outside
 unfolding bad_pairing
 returns-then-outside c =
     let lengths = eqb (length c.args.first.now) (length c.args.second.now) in
-    sym (or_left (not lengths || exists (leb c.args.n1) c.args.first.now) _ (or_right (not lengths) _ (sym c.outside.ensures ∙ c.if-outside.true)))
+    c.if-outside.true ∙ sym (or_left (not lengths || exists (leb c.args.n1) c.args.first.now) _ (or_right (not lengths) _ (sym c.outside.ensures ∙ c.if-outside.true)))
 
-pub returns : goal.returns
+pub returns-else-outside : goal.returns-else-outside
 unfolding bad_pairing
-returns c = rw (eq-eqb (length c.args.first.now) (length c.args.second.now) (omega arith), sym c.outside.ensures ∙ c.if-outside.false) c.outside-2.ensures
+returns-else-outside c = rw (eq-eqb (length c.args.first.now) (length c.args.second.now) (omega arith), sym c.outside.ensures ∙ c.if-outside.false) c.outside-else-outside.ensures

@@ -7,8 +7,8 @@ use Rattle.join.proofs.checks.paired_twice.Goals as goal
 
 pub returns-then-repeats : goal.returns-then-repeats
 unfolding paired_twice
-returns-then-repeats c = sym (or_left (twice c.args.first.now) _ (sym c.repeats.ensures ∙ c.if-repeats.true))
+returns-then-repeats c = c.if-repeats.true ∙ sym (or_left (twice c.args.first.now) _ (sym c.repeats.ensures ∙ c.if-repeats.true))
 
-pub returns : goal.returns
+pub returns-else-repeats : goal.returns-else-repeats
 unfolding paired_twice
-returns c = rw (sym c.repeats.ensures ∙ c.if-repeats.false) c.repeats-2.ensures
+returns-else-repeats c = rw (sym c.repeats.ensures ∙ c.if-repeats.false) c.repeats-else-repeats.ensures

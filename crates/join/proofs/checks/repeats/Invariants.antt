@@ -2,5 +2,5 @@
 use Rattle.join.proofs.Seen.{Seen}
 use Rattle.join.proofs.checks.repeats.Given as goal
 
-abbrev pub invariant-loop-k : goal.invariant-loop-k
-invariant-loop-k l = Seen l.nodes l.seen l.k
+abbrev pub invariant-loop-v : goal.invariant-loop-v
+invariant-loop-v l = Seen l.nodes l.seen l.v-index

@@ -25,10 +25,10 @@ ones_at_after_count_merged : (c : After-count_merged) → c.neighbours_of-ones.r
 ones_at_after_count_merged c = c.neighbours_of-ones.ensures
 
 others : (c : After-neighbours_of-others) → c.neighbours_of-others.result.now ≡ neighbours_of (lent c.args.n2 c.args.starts2.now c.args.neighbours2.now) (get_or c.args.from.now c.loop-v.v 0)
-others c = c.neighbours_of-others.ensures ∙ ap (neighbours_of (lent c.args.n2 c.args.starts2.now c.args.neighbours2.now)) c.wide.ensures
+others c = c.neighbours_of-others.ensures
 
 others_at_after_count_merged : (c : After-count_merged) → c.neighbours_of-others.result.now ≡ neighbours_of (lent c.args.n2 c.args.starts2.now c.args.neighbours2.now) (get_or c.args.from.now c.loop-v.v 0)
-others_at_after_count_merged c = c.neighbours_of-others.ensures ∙ ap (neighbours_of (lent c.args.n2 c.args.starts2.now c.args.neighbours2.now)) c.wide.ensures
+others_at_after_count_merged c = c.neighbours_of-others.ensures
 
 -- what was counted is the length of node v's list
 listed : (c : After-count_merged) → c.count_merged.result ≡ length (merged_list (lent c.args.n1 c.args.starts1.now c.args.neighbours1.now) (lent c.args.n2 c.args.starts2.now c.args.neighbours2.now) c.args.goes.now c.args.from.now c.loop-v.v)

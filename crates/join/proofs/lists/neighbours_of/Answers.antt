@@ -13,5 +13,5 @@ pub returns-then-v-n : goal.returns-then-v-n
 unfolding neighbours_of
 returns-then-v-n c = c.list.ensures
 
-pub returns : goal.returns
-returns c = sym (list_out (lent c.args.n c.args.starts.now c.args.neighbours.now) c.args.v c.requires.starts.many (omega arith))
+pub returns-else-v-n : goal.returns-else-v-n
+returns-else-v-n c = sym (list_out (lent c.args.n c.args.starts.now c.args.neighbours.now) c.args.v c.requires.starts.many (omega arith))

@@ -76,10 +76,10 @@ ones_at_after_write_merged_at : (c : After-write_merged-at) → c.neighbours_of-
 ones_at_after_write_merged_at c = c.neighbours_of-ones.ensures
 
 others : (c : After-neighbours_of-others) → c.neighbours_of-others.result.now ≡ neighbours_of (lent c.args.n2 c.args.starts2.now c.args.neighbours2.now) (get_or c.args.from.now c.loop-v.v 0)
-others c = c.neighbours_of-others.ensures ∙ ap (neighbours_of (lent c.args.n2 c.args.starts2.now c.args.neighbours2.now)) c.wide.ensures
+others c = c.neighbours_of-others.ensures
 
 others_at_after_write_merged_at : (c : After-write_merged-at) → c.neighbours_of-others.result.now ≡ neighbours_of (lent c.args.n2 c.args.starts2.now c.args.neighbours2.now) (get_or c.args.from.now c.loop-v.v 0)
-others_at_after_write_merged_at c = c.neighbours_of-others.ensures ∙ ap (neighbours_of (lent c.args.n2 c.args.starts2.now c.args.neighbours2.now)) c.wide.ensures
+others_at_after_write_merged_at c = c.neighbours_of-others.ensures
 
 merged_here : (c : After-neighbours_of-others) → merged (gone c.args.goes.now c.neighbours_of-others.result.now) c.neighbours_of-ones.result.now ≡ list_at_after_neighbours_of_others c c.loop-v.v
 unfolding merged_list

@@ -9,24 +9,25 @@ use borrow.Author.Rules.{rules}
 use Rattle.plan.specs.Mesh.{max_nodes}
 use Rattle.mesh.proofs.Lists.{filled_at}
 use Rattle.join.proofs.Scattered.{scattered_none, scattered_more, scattered_indices}
-use Rattle.join.proofs.numbers.origins.Goals.{After-wide, After-filled-from}
+use Rattle.join.proofs.numbers.origins.Goals.{In-loop-w, After-filled-from}
 use Rattle.join.proofs.numbers.origins.Goals as goal
 
 -- where a node goes is a place of the array
-inside : (c : After-wide) → c.wide.result < max_nodes
-inside c = omega (arith, c.wide.ensures, c.requires.3 c.loop-w.w (omega arith))
+inside : (c : In-loop-w) → get_or (take c.args.n2 c.args.goes.now) c.loop-w.w 0 < max_nodes
+inside c =
+    let low : c.loop-w.w < c.args.n2 = omega (arith, length-take-le c.args.n2 c.args.goes.now c.requires.1) in
+    omega (arith, get_or-take c.args.n2 c.args.goes.now c.loop-w.w 0 low, c.requires.3 c.loop-w.w low)
 
 -- the list of where nodes go is as long as there are nodes
 many : (c : After-filled-from) → length (take c.args.n2 c.args.goes.now) ≡ c.args.n2
 many c = length-take-le c.args.n2 c.args.goes.now c.requires.1
 
 pub loop-w-preserved : goal.loop-w-preserved
-loop-w-preserved c =
-    let goes : List ℕ = c.args.goes.now in (
-      search rules,
-      scattered_more c.loop-w.invariant.1 c.requires.2 c.wide.result _
-          (omega (arith, many (goal.at.loop-w-preserved c).After-filled-from)) (c.wide.ensures ∙ sym (get_or-take c.args.n2 goes c.loop-w.w 0 (omega arith))) (omega (arith, inside (goal.at.loop-w-preserved c).After-wide)) refl,
-    )
+loop-w-preserved c = (
+  omega (arith, many (goal.at.loop-w-preserved c).After-filled-from),
+  scattered_more c.loop-w.invariant.1 c.requires.2 _ _
+      (omega arith) refl (omega (arith, inside (goal.at.loop-w-preserved c).In-loop-w)) refl,
+)
 
 pub returns : goal.returns
 returns c = (
@@ -38,8 +39,8 @@ returns c = (
 pub loop-w-init : goal.loop-w-init
 loop-w-init c = (search rules, scattered_none (take c.args.n2 c.args.goes.now) (λ i. i) c.filled-from.result)
 
-pub offset_bounds-from-wide : goal.offset_bounds-from-wide
-offset_bounds-from-wide c = omega (arith, inside (goal.at.offset_bounds-from-wide c).After-wide)
+pub offset_bounds-from-v : goal.offset_bounds-from-v
+offset_bounds-from-v c = omega (arith, inside (goal.at.offset_bounds-from-v c).In-loop-w)
 
-pub bounds-from-wide : goal.bounds-from-wide
-bounds-from-wide c = omega (arith, inside (goal.at.bounds-from-wide c).After-wide)
+pub bounds-from-v : goal.bounds-from-v
+bounds-from-v c = omega (arith, inside (goal.at.bounds-from-v c).In-loop-w)

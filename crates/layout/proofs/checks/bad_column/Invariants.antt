@@ -5,5 +5,5 @@ use lib.ListN.{drop}
 use Rattle.plan.specs.File.{bad_column}
 use Rattle.layout.proofs.checks.bad_column.Given as goal
 
-abbrev pub invariant-loop-k : goal.invariant-loop-k
-invariant-loop-k l = bad_column l.n l.j l.column ≡ bad_column l.n l.before (drop l.k l.column)
+abbrev pub invariant-loop-row : goal.invariant-loop-row
+invariant-loop-row l = bad_column l.n l.j l.column ≡ bad_column l.n l.before (drop l.row-index l.column)

@@ -23,16 +23,16 @@ returns-then-bad_starts c = rw (sym c.bad_starts.ensures ∙ c.if-bad_starts.tru
 many : (c : Else-bad_starts) → length c.args.column_starts.now ≡ c.args.n + 1
 many c = (good-starts c.args.n c.args.column_starts.now (started c)).many
 
-pub returns-then-rows-index : goal.returns-then-rows-index
+pub returns-then-rows-column_starts : goal.returns-then-rows-column_starts
 unfolding bad_layout
-returns-then-rows-index c = rw (started (goal.at.returns-then-rows-index c).Else-bad_starts, lt-ltb _ _ (rw c.index.ensures at c.if-rows-index.true))
+returns-then-rows-column_starts c = rw (started (goal.at.returns-then-rows-column_starts c).Else-bad_starts, lt-ltb _ _ (c.if-rows-column_starts.true))
 
 pub bad_columns-requires : goal.bad_columns-requires
-bad_columns-requires c = (started (goal.at.bad_columns-requires c).Else-bad_starts, omega (arith, c.index.ensures))
+bad_columns-requires c = (started (goal.at.bad_columns-requires c).Else-bad_starts, omega arith)
 
-pub returns : goal.returns
+pub returns-else-rows-column_starts : goal.returns-else-rows-column_starts
 unfolding bad_layout
-returns c = rw (c.bad_columns.ensures, started (goal.at.returns c).Else-bad_starts, le-ltb _ _ (rw c.index.ensures at c.if-rows-index.false))
+returns-else-rows-column_starts c = rw (c.bad_columns.ensures, started (goal.at.returns-else-rows-column_starts c).Else-bad_starts, le-ltb _ _ (c.if-rows-column_starts.false))
 
 pub offset_bounds-column_starts-n : goal.offset_bounds-column_starts-n
 offset_bounds-column_starts-n c = omega (arith, many (goal.at.offset_bounds-column_starts-n c).Else-bad_starts)

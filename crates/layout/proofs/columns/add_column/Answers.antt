@@ -89,17 +89,17 @@ mark_children-requires c =
 pub write_column-requires : goal.write_column-requires
 write_column-requires c =
     let b = bounds (goal.at.write_column-requires c).Start in
-    let count : c.index-e.result - c.index-a.result ≡ length (column (lent c.args.n c.args.starts.now c.args.neighbours.now) c.args.order.now c.args.j) = omega (arith, b, c.index-e.ensures, c.index-a.ensures) in record {
+    let count : get_or c.args.column_starts.now (c.args.j + 1) 0 - get_or c.args.column_starts.now c.args.j 0 ≡ length (column (lent c.args.n c.args.starts.now c.args.neighbours.now) c.args.order.now c.args.j) = omega (arith, b) in record {
       n_le_max_nodes = (b.0, c.requires.column_starts_value.2, c.requires.ordered.1, omega (arith, c.requires.n_in_bounds.0, c.mark_children.auto.marks, c.mark_neighbours.auto.marks), marked_meets (marking (goal.at.write_column-requires c).After-mark_children));
-      count_value = (count ∙ sym (ap length (marked_column (marking (goal.at.write_column-requires c).After-mark_children))), simp (length-take, length-drop) (omega (arith, b, count, c.index-e.ensures, c.index-a.ensures)));
+      count_value = (count ∙ sym (ap length (marked_column (marking (goal.at.write_column-requires c).After-mark_children))), simp (length-take, length-drop) (omega (arith, b, count)));
     }
 
 pub returns : goal.returns
 returns c = (
   still_unmarked (marking (goal.at.returns c).After-mark_children),
   rw (rows_more (lent c.args.n c.args.starts.now c.args.neighbours.now) c.args.order.now c.args.j)
-      (written_grow c.args.rows.now c.args.rows.now (rows_before (lent c.args.n c.args.starts.now c.args.neighbours.now) c.args.order.now c.args.j) (column (lent c.args.n c.args.starts.now c.args.neighbours.now) c.args.order.now c.args.j) c.write_column.new.rows c.index-a.result c.requires.n_in_bounds.2
-      (c.index-a.ensures ∙ (bounds (goal.at.returns c).Start).2) (c.write_column.ensures ∙ ap (λ (l : List ℕ). written l (take (length c.args.rows.now - c.index-a.result) (drop c.index-a.result c.args.rows.now))) (marked_column (marking (goal.at.returns c).After-mark_children)))),
+      (written_grow c.args.rows.now c.args.rows.now (rows_before (lent c.args.n c.args.starts.now c.args.neighbours.now) c.args.order.now c.args.j) (column (lent c.args.n c.args.starts.now c.args.neighbours.now) c.args.order.now c.args.j) c.write_column.new.rows (get_or c.args.column_starts.now c.args.j 0) c.requires.n_in_bounds.2
+      (bounds (goal.at.returns c).Start).2 (c.write_column.ensures ∙ ap (λ (l : List ℕ). written l (take (length c.args.rows.now - get_or c.args.column_starts.now c.args.j 0) (drop (get_or c.args.column_starts.now c.args.j 0) c.args.rows.now))) (marked_column (marking (goal.at.returns c).After-mark_children)))),
 )
 
 pub bounds-column_starts-j : goal.bounds-column_starts-j
@@ -115,13 +115,13 @@ pub overflow_cast-j : goal.overflow_cast-j
 overflow_cast-j c = omega (arith, (bounds (goal.at.overflow_cast-j c).Start).0, c.requires.column_starts_value.2)
 
 pub overflow_sub-e : goal.overflow_sub-e
-overflow_sub-e c = let b = bounds (goal.at.overflow_sub-e c).Start in omega (arith, c.index-e.ensures, c.index-a.ensures)
+overflow_sub-e c = let b = bounds (goal.at.overflow_sub-e c).Start in omega (arith)
 
 pub offset_bounds-rows-a : goal.offset_bounds-rows-a
-offset_bounds-rows-a c = let b = bounds (goal.at.offset_bounds-rows-a c).Start in omega (arith, c.index-a.ensures, room (goal.at.offset_bounds-rows-a c).Start)
+offset_bounds-rows-a c = let b = bounds (goal.at.offset_bounds-rows-a c).Start in omega (arith, room (goal.at.offset_bounds-rows-a c).Start)
 
 pub slice_bounds-write_column-count : goal.slice_bounds-write_column-count
-slice_bounds-write_column-count c = let b = bounds (goal.at.slice_bounds-write_column-count c).Start in omega (arith, c.index-a.ensures)
+slice_bounds-write_column-count c = let b = bounds (goal.at.slice_bounds-write_column-count c).Start in omega arith
 
 pub slice_bounds-write_column-start : goal.slice_bounds-write_column-start
-slice_bounds-write_column-start c = let b = bounds (goal.at.slice_bounds-write_column-start c).Start in omega (arith, c.index-a.ensures)
+slice_bounds-write_column-start c = let b = bounds (goal.at.slice_bounds-write_column-start c).Start in omega arith

@@ -2,32 +2,31 @@
 -- children of its parent.
 use Prim.Native.Nat.{◌≤◌, ◌<◌}
 use native.Mathlib.Omega.{arith}
-use lib.ListN.{length}
+use lib.ListN.{length, get_or}
 use Rattle.layout.proofs.Children.{children_none, children_link}
-use Rattle.layout.proofs.columns.link.Goals.{After-wide}
+use Rattle.layout.proofs.columns.link.Goals.{Else-p}
 use Rattle.layout.proofs.columns.link.Goals as goal
 
 -- the parent is a column
-inside : (c : After-wide) → (c.wide.result < c.args.n) × (c.args.n ≤ length c.args.first.now)
-inside c = (omega (arith, c.wide.ensures, (c.requires.2 c.args.c c.requires.3 c.if-p.false).1), c.requires.4.first_room)
+inside : (c : Else-p) → (get_or c.args.tree.now c.args.c 0 < c.args.n) × (c.args.n ≤ length c.args.first.now)
+inside c = (omega (arith, (c.requires.2 c.args.c c.requires.3 c.if-p.false).1), c.requires.4.first_room)
 
 pub returns-then-p : goal.returns-then-p
 returns-then-p c = children_none c.args.n c.args.tree.now c.args.first.now c.args.next.now c.args.c c.requires.4 c.if-p.true (omega arith)
 
 pub returns : goal.returns
 returns c =
-    rw (c.wide-2.ensures, c.wide.ensures)
-    (children_link c.args.n c.args.tree.now c.args.first.now c.args.next.now c.args.c c.requires.4 c.requires.3
-    (omega (arith, c.wide.ensures, (inside (goal.at.returns c).After-wide).0)))
+    children_link c.args.n c.args.tree.now c.args.first.now c.args.next.now c.args.c c.requires.4 c.requires.3
+    (omega (arith, (inside (goal.at.returns c).Else-p).0))
 
-pub offset_bounds-first-wide : goal.offset_bounds-first-wide
-offset_bounds-first-wide c = let h = inside (goal.at.offset_bounds-first-wide c).After-wide in omega arith
+pub offset_bounds-first-p : goal.offset_bounds-first-p
+offset_bounds-first-p c = let h = inside (goal.at.offset_bounds-first-p c).Else-p in omega arith
 
-pub bounds-first-wide : goal.bounds-first-wide
-bounds-first-wide c = let h = inside (goal.at.bounds-first-wide c).After-wide in omega arith
+pub bounds-first-p : goal.bounds-first-p
+bounds-first-p c = let h = inside (goal.at.bounds-first-p c).Else-p in omega arith
 
-pub offset_bounds-first-wide-2 : goal.offset_bounds-first-wide-2
-offset_bounds-first-wide-2 c = let h = inside (goal.at.offset_bounds-first-wide-2 c).After-wide in omega (arith, c.wide-2.ensures, c.wide.ensures)
+pub offset_bounds-first-p-2 : goal.offset_bounds-first-p-2
+offset_bounds-first-p-2 c = let h = inside (goal.at.offset_bounds-first-p-2 c).Else-p in omega arith
 
-pub bounds-first-wide-2 : goal.bounds-first-wide-2
-bounds-first-wide-2 c = let h = inside (goal.at.bounds-first-wide-2 c).After-wide in omega (arith, c.wide-2.ensures, c.wide.ensures)
+pub bounds-first-p-2 : goal.bounds-first-p-2
+bounds-first-p-2 c = let h = inside (goal.at.bounds-first-p-2 c).Else-p in omega arith

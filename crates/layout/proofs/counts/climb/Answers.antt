@@ -34,7 +34,7 @@ returns-then-start-i c = λ w. record { climbing = w.climbing; reached = λ l. a
 pub loop-marks-init : goal.loop-marks-init
 loop-marks-init c =
     invariant c.requires refl refl refl
-    (λ w. rw c.wide-k.ensures (way_start w.mesh w.order c.args.i w.inside c.args.start c.args.tree.now c.args.marks.now c.args.counts.now (omega arith) w.row w.climbing))
+    (λ w. way_start w.mesh w.order c.args.i w.inside c.args.start c.args.tree.now c.args.marks.now c.args.counts.now (omega arith) w.row w.climbing)
 
 -- a turn's step up the way
 step : (c : After-parent_of-p) → (w : Climbable c.args.i c.args.start c.args.tree.now c.args.marks.now c.args.counts.now) → (c.loop-marks.k < c.parent_of-p.result)
@@ -46,7 +46,7 @@ step c w =
 pub loop-marks-smaller : goal.loop-marks-smaller
 loop-marks-smaller c =
     let t = step (goal.at.loop-marks-smaller c).After-parent_of-p c.requires in
-    omega (arith, t.0, t.1.low, c.wide-k-in-loop-marks.ensures)
+    omega (arith, t.0, t.1.low)
 
 pub loop-marks-preserved : goal.loop-marks-preserved
 loop-marks-preserved c =
@@ -54,7 +54,7 @@ loop-marks-preserved c =
     (length-set c.loop-marks.tree c.loop-marks.k c.parent_of-p.result ∙ c.loop-marks.invariant.long_tree)
     (length-set c.loop-marks.marks c.loop-marks.k c.args.i ∙ c.loop-marks.invariant.long_marks)
     (length-set c.loop-marks.counts c.loop-marks.k (get_or c.loop-marks.counts c.loop-marks.k 0 + 1) ∙ c.loop-marks.invariant.long_counts)
-    (λ w. rw c.wide-k-in-loop-marks.ensures (step (goal.at.loop-marks-preserved c).After-parent_of-p w).1)
+    (λ w. (step (goal.at.loop-marks-preserved c).After-parent_of-p w).1)
 
 pub returns : goal.returns
 returns c =

@@ -16,22 +16,22 @@ use Rattle.theory.proofs.Orders.{order-length, order-inside}
 use Rattle.mesh.proofs.Lists.{checked-within, entry_node}
 use Rattle.layout.specs.Climbing.{Climbable}
 use Rattle.layout.proofs.Climbing.{climbing-start, climbing-end, entry_row, entries-all}
-use Rattle.layout.proofs.counts.count_row.Goals.{After-wide-in-loop-e}
+use Rattle.layout.proofs.counts.count_row.Goals.{In-loop-w}
 use Rattle.layout.proofs.counts.count_row.Goals as goal
 
 pub bounds-order-i : goal.bounds-order-i
 bounds-order-i c = omega (arith, order-length c.args.n c.args.order.now c.requires.ordered.0.once)
 
-pub list-entries-requires : goal.list-entries-requires
-list-entries-requires c =
-    checked-within (lent c.args.n c.args.starts.now c.args.neighbours.now) c.requires.ordered.0.checked c.wide.result
-    (omega (arith, c.wide.ensures, order-inside c.args.n c.args.order.now c.requires.ordered.0.once c.args.i c.requires.ordered.1))
+pub list-w-items-requires : goal.list-w-items-requires
+list-w-items-requires c =
+    checked-within (lent c.args.n c.args.starts.now c.args.neighbours.now) c.requires.ordered.0.checked (get_or c.args.order.now c.args.i 0)
+    (omega (arith, order-inside c.args.n c.args.order.now c.requires.ordered.0.once c.args.i c.requires.ordered.1))
 
-pub loop-e-init : goal.loop-e-init
+pub loop-w-init : goal.loop-w-init
 unfolding neighbours_of
-loop-e-init c =
+loop-w-init c =
     record {
-      near = c.list-entries.ensures ∙ ap (list_at c.args.starts.now c.args.neighbours.now) c.wide.ensures;
+      near = c.list-w-items.ensures;
       climbing = climbing-start (lent c.args.n c.args.starts.now c.args.neighbours.now) c.args.order.now c.args.i c.requires.ordered.1 c.args.tree.now c.args.marks.now c.args.counts.now _ (omega arith) (omega arith) c.requires.counted_below.0 c.requires.counted_below.1;
       reached = λ p h. absurd (omega arith);
       low = search rules;
@@ -43,23 +43,23 @@ loop-e-init c =
     }
 
 -- what a neighbour's position is
-placed : (c : After-wide-in-loop-e) → (c.wide-in-loop-e.result < c.args.n)
-    × (get_or c.args.positions.now c.wide-in-loop-e.result 0 < c.args.i → is_row (lent c.args.n c.args.starts.now c.args.neighbours.now) c.args.order.now c.args.i (get_or c.args.positions.now c.wide-in-loop-e.result 0) ≡ true)
+placed : (c : In-loop-w) → (get_or c.list-w-items.result.now c.loop-w.w-index 0 < c.args.n)
+    × (get_or c.args.positions.now (get_or c.list-w-items.result.now c.loop-w.w-index 0) 0 < c.args.i → is_row (lent c.args.n c.args.starts.now c.args.neighbours.now) c.args.order.now c.args.i (get_or c.args.positions.now (get_or c.list-w-items.result.now c.loop-w.w-index 0) 0) ≡ true)
 placed c =
-    let lt : c.loop-e.e < length (neighbours_of (lent c.args.n c.args.starts.now c.args.neighbours.now) (get_or c.args.order.now c.args.i 0)) = omega (arith, ap length c.loop-e.invariant.near) in
-    rw (c.wide-in-loop-e.ensures, c.loop-e.invariant.near) (
-      entry_node (lent c.args.n c.args.starts.now c.args.neighbours.now) c.requires.ordered.0.checked (get_or c.args.order.now c.args.i 0) c.loop-e.e lt,
-      entry_row (lent c.args.n c.args.starts.now c.args.neighbours.now) c.args.order.now c.args.positions.now c.requires.ordered.0 c.args.i c.requires.ordered.1 c.loop-e.e lt,
+    let lt : c.loop-w.w-index < length (neighbours_of (lent c.args.n c.args.starts.now c.args.neighbours.now) (get_or c.args.order.now c.args.i 0)) = omega (arith, ap length c.loop-w.invariant.near) in
+    rw c.loop-w.invariant.near (
+      entry_node (lent c.args.n c.args.starts.now c.args.neighbours.now) c.requires.ordered.0.checked (get_or c.args.order.now c.args.i 0) c.loop-w.w-index lt,
+      entry_row (lent c.args.n c.args.starts.now c.args.neighbours.now) c.args.order.now c.args.positions.now c.requires.ordered.0 c.args.i c.requires.ordered.1 c.loop-w.w-index lt,
     )
 
-pub offset_bounds-positions-wide : goal.offset_bounds-positions-wide
-offset_bounds-positions-wide c = omega (arith, (placed (goal.at.offset_bounds-positions-wide c).After-wide-in-loop-e).0)
+pub offset_bounds-positions-w : goal.offset_bounds-positions-w
+offset_bounds-positions-w c = omega (arith, (placed (goal.at.offset_bounds-positions-w c).In-loop-w).0)
 
-pub bounds-positions-wide : goal.bounds-positions-wide
-bounds-positions-wide c = omega (arith, (placed (goal.at.bounds-positions-wide c).After-wide-in-loop-e).0)
+pub bounds-positions-w : goal.bounds-positions-w
+bounds-positions-w c = omega (arith, (placed (goal.at.bounds-positions-w c).In-loop-w).0)
 
 -- the climb from it
-able : (c : After-wide-in-loop-e) → Climbable c.args.i (get_or c.args.positions.now c.wide-in-loop-e.result 0) c.loop-e.tree c.loop-e.marks c.loop-e.counts
+able : (c : In-loop-w) → Climbable c.args.i (get_or c.args.positions.now (get_or c.list-w-items.result.now c.loop-w.w-index 0) 0) c.loop-w.tree c.loop-w.marks c.loop-w.counts
 able c =
     record {
       mesh = (lent c.args.n c.args.starts.now c.args.neighbours.now);
@@ -69,52 +69,52 @@ able c =
       room_tree = omega arith;
       room_marks = omega (arith, length-set c.args.marks.now c.args.i c.args.i);
       room_counts = omega arith;
-      climbing = c.loop-e.invariant.climbing;
+      climbing = c.loop-w.invariant.climbing;
       row = (placed c).1;
     }
 
 pub climb-requires : goal.climb-requires
-climb-requires c = able (goal.at.climb-requires c).After-wide-in-loop-e
+climb-requires c = able (goal.at.climb-requires c).In-loop-w
 
-pub loop-e-preserved : goal.loop-e-preserved
+pub loop-w-preserved : goal.loop-w-preserved
 unfolding able
-loop-e-preserved c =
-    let t = c.climb.ensures (able (goal.at.loop-e-preserved c).After-wide-in-loop-e) in
-    let entries : List ℕ = c.list-entries.result.now in
+loop-w-preserved c =
+    let t = c.climb.ensures (able (goal.at.loop-w-preserved c).In-loop-w) in
+    let entries : List ℕ = c.list-w-items.result.now in
     record {
-      near = c.loop-e.invariant.near;
+      near = c.loop-w.invariant.near;
       climbing = t.climbing;
-      reached = λ p h lt. elim (eq_or_ne p c.loop-e.e) [
+      reached = λ p h lt. elim (eq_or_ne p c.loop-w.w-index) [
         | inl e ↦
-            let q : c.wide-in-loop-e.result ≡ get_or entries p 0 = c.wide-in-loop-e.ensures ∙ ap (λ (x : ℕ). get_or entries x 0) (sym e) in
+            let q : get_or entries c.loop-w.w-index 0 ≡ get_or entries p 0 = ap (λ (x : ℕ). get_or entries x 0) (sym e) in
             rw (← q) (t.reached (rw (← q) at lt))
-        | inr e ↦ t.kept _ (c.loop-e.invariant.reached p (omega (arith, e)) lt)
+        | inr e ↦ t.kept _ (c.loop-w.invariant.reached p (omega (arith, e)) lt)
       ];
       low = search rules;
-      long_tree = c.climb.auto.tree ∙ c.loop-e.invariant.long_tree;
-      long_marks = c.climb.auto.marks ∙ c.loop-e.invariant.long_marks;
-      long_counts = c.climb.auto.counts ∙ c.loop-e.invariant.long_counts;
-      rest_tree = t.rest_tree ∙ c.loop-e.invariant.rest_tree;
-      rest_counts = t.rest_counts ∙ c.loop-e.invariant.rest_counts;
+      long_tree = c.climb.auto.tree ∙ c.loop-w.invariant.long_tree;
+      long_marks = c.climb.auto.marks ∙ c.loop-w.invariant.long_marks;
+      long_counts = c.climb.auto.counts ∙ c.loop-w.invariant.long_counts;
+      rest_tree = t.rest_tree ∙ c.loop-w.invariant.rest_tree;
+      rest_counts = t.rest_counts ∙ c.loop-w.invariant.rest_counts;
     }
 
 pub returns : goal.returns
 returns c =
     record {
       counted_below_2 = (
-        climbing-end (lent c.args.n c.args.starts.now c.args.neighbours.now) c.args.order.now c.args.i c.requires.ordered.1 c.loop-e.tree c.loop-e.marks c.loop-e.counts c.requires.ordered.0.checked.symmetric c.loop-e.invariant.climbing
-            (entries-all (lent c.args.n c.args.starts.now c.args.neighbours.now) c.args.order.now c.args.positions.now c.requires.ordered.0 c.args.i c.requires.ordered.1 c.loop-e.marks
-            (rw (← c.loop-e.invariant.near) (λ p h. c.loop-e.invariant.reached p (omega arith)))),
-        c.loop-e.invariant.climbing.unmarked,
+        climbing-end (lent c.args.n c.args.starts.now c.args.neighbours.now) c.args.order.now c.args.i c.requires.ordered.1 c.loop-w.tree c.loop-w.marks c.loop-w.counts c.requires.ordered.0.checked.symmetric c.loop-w.invariant.climbing
+            (entries-all (lent c.args.n c.args.starts.now c.args.neighbours.now) c.args.order.now c.args.positions.now c.requires.ordered.0 c.args.i c.requires.ordered.1 c.loop-w.marks
+            (rw (← c.loop-w.invariant.near) (λ p h. c.loop-w.invariant.reached p (omega arith)))),
+        c.loop-w.invariant.climbing.unmarked,
       );
-      tree_unchanged = (c.loop-e.invariant.rest_tree, c.loop-e.invariant.rest_counts);
+      tree_unchanged = (c.loop-w.invariant.rest_tree, c.loop-w.invariant.rest_counts);
     }
 
 pub shape_of-marks : goal.shape_of-marks
-shape_of-marks c = c.loop-e.invariant.long_marks ∙ length-set c.args.marks.now c.args.i c.args.i
+shape_of-marks c = c.loop-w.invariant.long_marks ∙ length-set c.args.marks.now c.args.i c.args.i
 
 pub shape_of-tree : goal.shape_of-tree
-shape_of-tree c = c.loop-e.invariant.long_tree
+shape_of-tree c = c.loop-w.invariant.long_tree
 
 pub shape_of-counts : goal.shape_of-counts
-shape_of-counts c = c.loop-e.invariant.long_counts
+shape_of-counts c = c.loop-w.invariant.long_counts

@@ -20,5 +20,5 @@ pub record Inv (m : Mesh) (order positions : List ℕ) (i : ℕ) (entries tree�
   pub rest_tree : drop m.nodes tree ≡ drop m.nodes tree₀
   pub rest_counts : drop m.nodes counts ≡ drop m.nodes counts₀
 
-abbrev pub invariant-loop-e : goal.invariant-loop-e
-invariant-loop-e l = Inv (lent l.n l.starts l.neighbours) l.order l.positions l.i l.entries l.initial.tree l.initial.marks l.initial.counts l.tree l.marks l.counts l.e
+abbrev pub invariant-loop-w : goal.invariant-loop-w
+invariant-loop-w l = Inv (lent l.n l.starts l.neighbours) l.order l.positions l.i l.w-items l.initial.tree l.initial.marks l.initial.counts l.tree l.marks l.counts l.w-index

@@ -1,56 +1,57 @@
 -- `layout::counts::sum` meets its contract: each turn adds one column, and the sums stay far below 32 and 64 bits.
 use mathlib.Core.Path.{◌≡◌, refl}
-use Prim.Native.Nat.{◌+◌, ◌*◌, ◌≤◌, ◌<◌}
+use Prim.Native.Nat.{ℕ, ◌+◌, ◌*◌, ◌≤◌, ◌<◌}
 use native.Mathlib.Omega.{arith}
 use borrow.Author.Rules.{rules}
-use lib.ListN.{length, get_or}
+use lib.ListN.{length, take, get_or}
+use lib.Seq.{take_all, get_or-take, length-take-le}
 use Rattle.plan.specs.Elimination.{multiplications}
 use Rattle.theory.proofs.Sums.{total_more}
 use Rattle.layout.proofs.TotalSlots.{work, product_few, multiplications_more}
-use Rattle.layout.proofs.counts.sum.Goals.{After-shared_slice_known-in-loop-j-1}
+use Rattle.layout.proofs.counts.sum.Goals.{In-loop-count}
 use Rattle.layout.proofs.counts.sum.Goals as goal
 
-pub loop-j-init : goal.loop-j-init
+pub loop-count-init : goal.loop-count-init
 unfolding multiplications
-loop-j-init c = record { low = search rules; slots = refl; products = refl; slots_few = search rules; products_few = search rules }
+loop-count-init c = record { low = search rules; slots = refl; products = refl; slots_few = search rules; products_few = search rules }
 
 -- it is of 16 bits, so its products are small
-few : (c : After-shared_slice_known-in-loop-j-1) → ((get_or c.args.counts.now c.loop-j.j 0) < 65536) × ((get_or c.args.counts.now c.loop-j.j 0) * ((get_or c.args.counts.now c.loop-j.j 0) + 3) ≤ 65535 * 65538) × (work (get_or c.args.counts.now c.loop-j.j 0) ≤ 2147516415)
+few : (c : In-loop-count) → let x : ℕ = get_or (take c.args.n c.args.counts.now) c.loop-count.count-index 0 in
+    (x < 65536) × (x * (x + 3) ≤ 65535 * 65538) × (work x ≤ 2147516415) × (c.loop-count.count-index < c.args.n)
 few c =
-    let h = c.type_inv.counts c.loop-j.j in
-    let t = product_few (get_or c.args.counts.now c.loop-j.j 0) (omega arith) in
-    (omega arith, t, omega arith)
-
-pub overflow_cast-c : goal.overflow_cast-c
-overflow_cast-c c = omega (arith, c.type_inv.counts c.loop-j.j)
+    let low : c.loop-count.count-index < c.args.n = omega (arith, length-take-le c.args.n c.args.counts.now (omega arith)) in
+    let e = get_or-take c.args.n c.args.counts.now c.loop-count.count-index 0 low in
+    let h = c.type_inv.counts c.loop-count.count-index in
+    let t = product_few (get_or (take c.args.n c.args.counts.now) c.loop-count.count-index 0) (omega arith) in
+    (omega arith, t, omega arith, low)
 
 pub overflow_cast-slots : goal.overflow_cast-slots
-overflow_cast-slots c = omega (arith, few (goal.at.overflow_cast-slots c).After-shared_slice_known-in-loop-j-1)
+overflow_cast-slots c = omega (arith, few (goal.at.overflow_cast-slots c).In-loop-count)
 
 pub overflow_add-slots : goal.overflow_add-slots
-overflow_add-slots c = omega (arith, few (goal.at.overflow_add-slots c).After-shared_slice_known-in-loop-j-1)
+overflow_add-slots c = omega (arith, few (goal.at.overflow_add-slots c).In-loop-count)
 
 pub overflow_add-multiplications : goal.overflow_add-multiplications
-overflow_add-multiplications c = omega (arith, few (goal.at.overflow_add-multiplications c).After-shared_slice_known-in-loop-j-1)
+overflow_add-multiplications c = omega (arith, few (goal.at.overflow_add-multiplications c).In-loop-count)
 
 pub overflow_mul-multiplications : goal.overflow_mul-multiplications
-overflow_mul-multiplications c = omega (arith, few (goal.at.overflow_mul-multiplications c).After-shared_slice_known-in-loop-j-1)
+overflow_mul-multiplications c = omega (arith, few (goal.at.overflow_mul-multiplications c).In-loop-count)
 
-pub overflow_add-multiplications-in-loop-j : goal.overflow_add-multiplications-in-loop-j
-overflow_add-multiplications-in-loop-j c = omega (arith, few (goal.at.overflow_add-multiplications-in-loop-j c).After-shared_slice_known-in-loop-j-1)
+pub overflow_add-multiplications-in-loop-count : goal.overflow_add-multiplications-in-loop-count
+overflow_add-multiplications-in-loop-count c = omega (arith, few (goal.at.overflow_add-multiplications-in-loop-count c).In-loop-count)
 
-pub loop-j-preserved : goal.loop-j-preserved
-loop-j-preserved c =
-    let h : c.loop-j.j < length c.args.counts.now = omega arith in
+pub loop-count-preserved : goal.loop-count-preserved
+loop-count-preserved c =
+    let h : c.loop-count.count-index < length (take c.args.n c.args.counts.now) = omega arith in
     record {
-      low = search rules;
-      slots = omega (arith, total_more c.args.counts.now c.loop-j.j h);
-      products = omega (arith, multiplications_more c.args.counts.now c.loop-j.j h);
-      slots_few = omega (arith, few (goal.at.loop-j-preserved c).After-shared_slice_known-in-loop-j-1);
-      products_few = omega (arith, few (goal.at.loop-j-preserved c).After-shared_slice_known-in-loop-j-1);
+      low = omega (arith, few (goal.at.loop-count-preserved c).In-loop-count);
+      slots = omega (arith, total_more (take c.args.n c.args.counts.now) c.loop-count.count-index h);
+      products = omega (arith, multiplications_more (take c.args.n c.args.counts.now) c.loop-count.count-index h);
+      slots_few = omega (arith, few (goal.at.loop-count-preserved c).In-loop-count);
+      products_few = omega (arith, few (goal.at.loop-count-preserved c).In-loop-count);
     }
 
 pub returns : goal.returns
 returns c =
-    let e : c.loop-j.j ≡ c.args.n = omega arith in
-    (rw e at c.loop-j.invariant.slots, rw e at c.loop-j.invariant.products)
+    let e = take_all c.loop-count.count-index (take c.args.n c.args.counts.now) (omega arith) in
+    (rw e at c.loop-count.invariant.slots, rw e at c.loop-count.invariant.products)

@@ -15,5 +15,5 @@ pub record Summed (n : ℕ) (counts : List ℕ) (sumSlots sumProducts j : ℕ) :
   pub slots_few : sumSlots ≤ 65535 * j
   pub products_few : sumProducts ≤ 2147516415 * j
 
-abbrev pub invariant-loop-j : goal.invariant-loop-j
-invariant-loop-j l = Summed l.n l.counts l.slots l.multiplications l.j
+abbrev pub invariant-loop-count : goal.invariant-loop-count
+invariant-loop-count l = Summed l.n (take l.n l.counts) l.slots l.multiplications l.count-index

@@ -15,4 +15,4 @@ pub record Started (n : ℕ) (counts found starts : List ℕ) (start j : ℕ) : 
   pub long : length starts ≡ length found
 
 abbrev pub invariant-loop-j : goal.invariant-loop-j
-invariant-loop-j l = Started l.n l.counts l.initial.column_starts l.column_starts l.start l.j
+invariant-loop-j l = Started l.n (take l.n l.counts) l.initial.column_starts l.column_starts l.start l.j

@@ -6,28 +6,27 @@ use borrow.Author.Rules.{rules}
 use lib.ListN.{length, get_or}
 use Rattle.theory.proofs.Orders.{order-inside}
 use Rattle.layout.proofs.Inverse.{inverted_more, inverted_all}
-use Rattle.layout.proofs.positions.invert.Goals.{After-wide-v}
+use Rattle.layout.proofs.positions.invert.Goals.{In-loop-i}
 use Rattle.layout.proofs.positions.invert.Goals as goal
 
 -- the node that gets a position is one of the order's
-inside : (c : After-wide-v) → (c.wide-v.result ≡ get_or c.args.order.now c.loop-i.i 0) × (c.wide-v.result < length c.args.order.now)
+inside : (c : In-loop-i) → get_or c.args.order.now c.loop-i.i 0 < length c.args.order.now
 inside c =
-    let h = order-inside (length c.args.order.now) c.args.order.now c.requires.0 c.loop-i.i (omega arith) in
-    (c.wide-v.ensures, omega (arith, c.wide-v.ensures))
+    order-inside (length c.args.order.now) c.args.order.now c.requires.0 c.loop-i.i (omega arith)
 
 pub loop-i-init : goal.loop-i-init
 loop-i-init c = (search rules, record { long = refl; placed = λ p h. absurd (omega arith); rest = λ v h. refl })
 
 pub offset_bounds-positions-v : goal.offset_bounds-positions-v
-offset_bounds-positions-v c = omega (arith, inside (goal.at.offset_bounds-positions-v c).After-wide-v)
+offset_bounds-positions-v c = omega (arith, inside (goal.at.offset_bounds-positions-v c).In-loop-i)
 
 pub bounds-positions-v : goal.bounds-positions-v
-bounds-positions-v c = omega (arith, inside (goal.at.bounds-positions-v c).After-wide-v, c.loop-i.invariant.1.long)
+bounds-positions-v c = omega (arith, inside (goal.at.bounds-positions-v c).In-loop-i, c.loop-i.invariant.1.long)
 
 pub loop-i-preserved : goal.loop-i-preserved
 loop-i-preserved c = (
   search rules,
-  inverted_more (length c.args.order.now) c.args.order.now c.requires.0 c.args.positions.now c.loop-i.positions c.requires.2 c.loop-i.i _ _ (omega arith) (inside (goal.at.loop-i-preserved c).After-wide-v).0 (omega arith) c.loop-i.invariant.1,
+  inverted_more (length c.args.order.now) c.args.order.now c.requires.0 c.args.positions.now c.loop-i.positions c.requires.2 c.loop-i.i _ _ (omega arith) refl (omega arith) c.loop-i.invariant.1,
 )
 
 pub returns : goal.returns

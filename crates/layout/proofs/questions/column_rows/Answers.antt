@@ -12,11 +12,11 @@ use Rattle.layout.proofs.questions.column_rows.Goals as goal
 within : (c : After-struct_known-1) → c.column_span-span.result.start + c.column_span-span.result.count ≤ length c.args.rows.now
 within c = rw c.column_span-span.ensures (span_within c.args.n c.args.column_starts.now c.args.rows.now c.args.j)
 
-pub overflow_add-e : goal.overflow_add-e
-overflow_add-e c = omega (arith, within (goal.at.overflow_add-e c).After-struct_known-1)
+pub overflow_add-result : goal.overflow_add-result
+overflow_add-result c = omega (arith, within (goal.at.overflow_add-result c).After-struct_known-1)
 
-pub offset_bounds-rows-a : goal.offset_bounds-rows-a
-offset_bounds-rows-a c = omega (arith, within (goal.at.offset_bounds-rows-a c).After-struct_known-1)
+pub offset_bounds-rows-span : goal.offset_bounds-rows-span
+offset_bounds-rows-span c = omega (arith, within (goal.at.offset_bounds-rows-span c).After-struct_known-1)
 
 pub slice_bounds-result-end : goal.slice_bounds-result-end
 slice_bounds-result-end c = omega (arith, within (goal.at.slice_bounds-result-end c).After-struct_known-1)

@@ -10,10 +10,6 @@ use Rattle.layout.proofs.Answered.{column_there, span_refused, span_found_lem}
 use Rattle.layout.proofs.questions.column_span.Goals.{Else-column_refusal-ne0}
 use Rattle.layout.proofs.questions.column_span.Goals as goal
 
--- a span by its two numbers
-abbrev span : ℕ → ℕ → Span
-span start count = record { start = start; count = count }
-
 -- the question is not refused
 answered : (c : Else-column_refusal-ne0) → column_refusal c.args.n c.args.column_starts.now c.args.rows.now c.args.j ≡ 0
 answered c = sym c.column_refusal.ensures ∙ c.if-column_refusal-ne0.false
@@ -31,8 +27,8 @@ offset_bounds-column_starts-j c = omega (arith, (there (goal.at.offset_bounds-co
 pub bounds-column_starts-j : goal.bounds-column_starts-j
 bounds-column_starts-j c = omega (arith, (there (goal.at.bounds-column_starts-j c).Else-column_refusal-ne0).1.started)
 
-pub overflow_add-j : goal.overflow_add-j
-overflow_add-j c = omega (arith, (there (goal.at.overflow_add-j c).Else-column_refusal-ne0).0)
+pub overflow_add-end : goal.overflow_add-end
+overflow_add-end c = omega (arith, (there (goal.at.overflow_add-end c).Else-column_refusal-ne0).0)
 
 pub offset_bounds-column_starts-j-2 : goal.offset_bounds-column_starts-j-2
 offset_bounds-column_starts-j-2 c = omega (arith, (there (goal.at.offset_bounds-column_starts-j-2 c).Else-column_refusal-ne0).0)
@@ -41,9 +37,8 @@ pub bounds-column_starts-j-2 : goal.bounds-column_starts-j-2
 bounds-column_starts-j-2 c = (there (goal.at.bounds-column_starts-j-2 c).Else-column_refusal-ne0).1.started
 
 pub overflow_sub-result : goal.overflow_sub-result
-overflow_sub-result c = omega (arith, c.index-end.ensures, c.index-start.ensures, (there (goal.at.overflow_sub-result c).Else-column_refusal-ne0).1.ordered)
+overflow_sub-result c = omega (arith, (there (goal.at.overflow_sub-result c).Else-column_refusal-ne0).1.ordered)
 
 pub returns : goal.returns
 returns c =
-    ap₂ span c.index-start.ensures (omega (arith, c.index-end.ensures, c.index-start.ensures))
-    ∙ sym (span_found_lem c.args.n c.args.column_starts.now c.args.rows.now c.args.j (answered (goal.at.returns c).Else-column_refusal-ne0))
+    sym (span_found_lem c.args.n c.args.column_starts.now c.args.rows.now c.args.j (answered (goal.at.returns c).Else-column_refusal-ne0))

@@ -1,12 +1,16 @@
 -- `layout::questions::slot_of_pair` meets its contract: its tests are the question's checks, and the slot is that of the later position in the
 -- earlier's column.
 use mathlib.Core.Path.{◌≡◌, sym, ◌∙◌}
+use Prim.Native.Nat.{◌≤◌}
 use native.Mathlib.Omega.{arith}
 use lib.Dec.{leb}
 use borrow.Author.Tests.{le-leb}
+use mathlib.Core.Logic.{inl, inr}
 use Rattle.plan.specs.Refusals.{first_fault}
 use Rattle.plan.specs.Questions.{layout_checks, position_outside}
 use Rattle.theory.proofs.Bools.{or_left, or_right}
+use Rattle.plan.specs.Mesh.{max_nodes}
+use Rattle.theory.proofs.Checked.{node_count}
 use Rattle.theory.proofs.Asked.{GoodLayout, good_layout}
 use Rattle.theory.proofs.SlotsAndPairs.{pair_layout, pair-outside, pair_same, pair_slot}
 use Rattle.layout.proofs.Answered.{good-within, good-ascends}
@@ -22,11 +26,10 @@ returns-then-fault-ne0 c = sym (pair_layout c.args.n c.args.column_starts.now c.
 
 pub returns-then-a-n : goal.returns-then-a-n
 unfolding position_outside
-returns-then-a-n c = sym (pair-outside c.args.n c.args.column_starts.now c.args.rows.now c.args.a c.args.b (no_layout_fault (goal.at.returns-then-a-n c).Else-fault-ne0) (or_left (leb c.args.n c.args.a) _ (le-leb _ _ c.if-a-n.true)))
-
-pub returns-then-b-n : goal.returns-then-b-n
-unfolding position_outside
-returns-then-b-n c = sym (pair-outside c.args.n c.args.column_starts.now c.args.rows.now c.args.a c.args.b (no_layout_fault (goal.at.returns-then-b-n c).Else-fault-ne0) (or_right (leb c.args.n c.args.a) _ (or_left (leb c.args.n c.args.b) _ (le-leb _ _ c.if-b-n.true))))
+returns-then-a-n c = sym (pair-outside c.args.n c.args.column_starts.now c.args.rows.now c.args.a c.args.b (no_layout_fault (goal.at.returns-then-a-n c).Else-fault-ne0) (elim c.then-a-n.either [
+  | inl a ↦ or_left (leb c.args.n c.args.a) _ (le-leb _ _ a)
+  | inr b ↦ or_right (leb c.args.n c.args.a) _ (or_left (leb c.args.n c.args.b) _ (le-leb _ _ b.1))
+]))
 
 pub returns-then-a-b : goal.returns-then-a-b
 returns-then-a-b c = sym (pair_same c.args.n c.args.column_starts.now c.args.rows.now c.args.a c.args.b (no_layout_fault (goal.at.returns-then-a-b c).Else-fault-ne0) (omega arith) (omega arith) c.if-a-b.true)
@@ -50,3 +53,13 @@ pub returns : goal.returns
 returns c =
     c.slot-2.ensures
     ∙ sym (pair_slot c.args.n c.args.column_starts.now c.args.rows.now c.args.a c.args.b (no_layout_fault (goal.at.returns c).Else-fault-ne0) (omega arith) (omega arith) c.args.a c.args.b c.if-a-b.false (omega arith) (omega arith))
+
+-- a position has 16 bits
+few : (c : Else-fault-ne0) → c.args.n ≤ max_nodes
+few c = (node_count c.args.n (good_layout c.args.n c.args.column_starts.now c.args.rows.now (no_layout_fault c)).count).1
+
+pub overflow_cast-a : goal.overflow_cast-a
+overflow_cast-a c = omega (arith, few (goal.at.overflow_cast-a c).Else-fault-ne0)
+
+pub overflow_cast-b : goal.overflow_cast-b
+overflow_cast-b c = omega (arith, few (goal.at.overflow_cast-b c).Else-fault-ne0)

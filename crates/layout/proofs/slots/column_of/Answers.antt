@@ -1,55 +1,74 @@
--- `layout::slots::column_of` meets its contract: the loop keeps a start that is not above the slot and a later one that is, until it is the next.
-use mathlib.Core.Path.{◌≡◌, sym}
+-- `layout::slots::column_of` meets its contract: the starts that are not above the slot come first, and the last of them is its column's.
+use mathlib.Core.Path.{◌≡◌, sym, ◌∙◌}
 use mathlib.Core.Logic.{inl, inr}
-use Prim.Native.Nat.{◌+◌, ◌-◌, ◌/◌, ◌≤◌, ◌<◌}
+use mathlib.Core.Bool.{true, false}
+use mathlib.Core.List.{List}
+use Prim.Native.Nat.{ℕ, ◌+◌, ◌-◌, ◌≤◌, ◌<◌}
 use native.Mathlib.Omega.{arith}
-use lib.ListN.{length, get_or}
+use lib.Dec.{leb}
+use lib.ListN.{length, take, get_or}
+use lib.Seq.{get_or-take, length-take-le}
 use borrow.Author.Rules.{rules}
+use borrow.Author.Tests.{leb-true, leb-false}
+use Rattle.plan.specs.Questions.{column_of}
 use Rattle.theory.specs.Checked.{Starts}
+use Rattle.theory.proofs.Ascending.{falls-get_or}
 use Rattle.theory.proofs.Bools.{lt_or_le}
 use Rattle.theory.proofs.Checked.{good-starts}
 use Rattle.theory.proofs.SlotsAndPairs.{column_is}
-use Rattle.layout.proofs.slots.column_of.Goals.{Start, In-loop-low}
+use Rattle.std.proofs.lemmas.List.{get_or_default}
+use Rattle.std.proofs.lemmas.List.Sorted.{IsPartitionPoint-from_clause, IsPartitionedBy-leb}
+use Rattle.layout.proofs.slots.column_of.Goals.{After-partition_point}
 use Rattle.layout.proofs.slots.column_of.Goals as goal
 
--- the starts of n columns
-starts : (c : Start) → Starts c.args.n c.args.column_starts.now
-starts c = good-starts c.args.n c.args.column_starts.now c.requires.0
+module _ (n : ℕ) (column_starts : List ℕ) (s : ℕ) (starts : Starts n column_starts) where
+  -- the starts of the n columns
+  firsts : List ℕ
+  firsts = take n column_starts
 
--- the starts of n columns
-starts_at_in_loop_low : (c : In-loop-low) → Starts c.args.n c.args.column_starts.now
-starts_at_in_loop_low c = good-starts c.args.n c.args.column_starts.now c.requires.0
+  many : length (take n column_starts) ≡ n
+  many = length-take-le n column_starts (omega (arith, starts.many))
 
-pub loop-low-init : goal.loop-low-init
-loop-low-init c =
-    let first : get_or c.args.column_starts.now 0 0 ≤ c.args.s = omega (arith, (starts (goal.at.loop-low-init c).Start).zero_first) in
-    record {
-      ordered = elim (lt_or_le 0 c.args.n) [
-        | inl some ↦ some
-        | inr none ↦ absurd (let z : c.args.n ≡ 0 = omega arith in omega (arith, first, rw z at c.requires.1))
-      ];
-      within = omega arith;
-      from = first;
-      behind = c.requires.1;
-    }
+  start_at : (k d : ℕ) → k < n → get_or (take n column_starts) k d ≡ get_or column_starts k 0
+  start_at k d lt = get_or-take n column_starts k d lt ∙ get_or_default column_starts k d 0 (omega (arith, starts.many))
 
--- the column in the middle is one of them
-inside : (c : In-loop-low) → c.loop-low.low + (c.loop-low.high - c.loop-low.low) / 2 < length c.args.column_starts.now
-inside c = omega (arith, c.loop-low.invariant.ordered, c.loop-low.invariant.within, (starts_at_in_loop_low c).many)
+  -- they do not fall
+  rises : (i j d : ℕ) → i ≤ j → j < length (take n column_starts) → get_or (take n column_starts) i d ≤ get_or (take n column_starts) j d
+  rises i j d le lt =
+      let low : j < n = omega (arith, many) in
+      omega (arith, start_at i d (omega arith), start_at j d low, falls-get_or column_starts starts.rising i j le (omega (arith, starts.many)))
 
-pub offset_bounds-column_starts-middle : goal.offset_bounds-column_starts-middle
-offset_bounds-column_starts-middle c = let lt = inside (goal.at.offset_bounds-column_starts-middle c).In-loop-low in search rules
+  -- the column before the first start above the slot holds it
+  last_below : s < get_or column_starts n 0 → (p : ℕ) → p ≤ length (take n column_starts)
+      → ((k d : ℕ) → 0 ≤ k → k < p → leb (get_or (take n column_starts) k d) s ≡ true)
+      → ((k d : ℕ) → p ≤ k → k < length (take n column_starts) → leb (get_or (take n column_starts) k d) s ≡ false)
+      → (1 ≤ p) × (p - 1 ≡ column_of n column_starts s)
+  last_below there p bound low high =
+      let some : 1 ≤ p = elim (lt_or_le 0 p) [
+        | inl lt ↦ lt
+        | inr none ↦ elim (lt_or_le 0 n) [
+          | inl lt ↦ absurd (omega (arith, leb-false _ _ (high 0 0 none (omega (arith, many))), start_at 0 0 lt, starts.zero_first))
+          | inr empty ↦ absurd (let z : n ≡ 0 = omega arith in omega (arith, starts.zero_first, rw z at there))
+        ]
+      ] in
+      let from : get_or column_starts (p - 1) 0 ≤ s = omega (arith, leb-true _ _ (low (p - 1) 0 (omega arith) (omega arith)), start_at (p - 1) 0 (omega (arith, many))) in
+      let e : p ≡ p - 1 + 1 = omega arith in
+      let behind : s < get_or column_starts p 0 = elim (lt_or_le p n) [
+        | inl lt ↦ omega (arith, leb-false _ _ (high p 0 (omega arith) (omega (arith, many))), start_at p 0 lt)
+        | inr all ↦ (let z : p ≡ n = omega (arith, many) in rw z there)
+      ] in
+      (some, sym (column_is n column_starts s starts (p - 1) (omega (arith, many), from, rw (← e) behind)))
 
-pub bounds-column_starts-middle : goal.bounds-column_starts-middle
-bounds-column_starts-middle c = inside (goal.at.bounds-column_starts-middle c).In-loop-low
+-- so it is for the place that the search finds
+found : (c : After-partition_point) → (1 ≤ c.partition_point.result) × (c.partition_point.result - 1 ≡ column_of c.args.n c.args.column_starts.now c.args.s)
+found c =
+    let starts = good-starts c.args.n c.args.column_starts.now c.requires.0 in
+    let point = IsPartitionPoint-from_clause (λ x. leb x c.args.s) _ _ c.partition_point.ensures.partitioned
+    (IsPartitionedBy-leb (λ x. x) _ c.args.s (rises c.args.n c.args.column_starts.now c.args.s starts)) (λ a r q k. search rules) in
+    last_below c.args.n c.args.column_starts.now c.args.s starts c.requires.1 c.partition_point.result c.partition_point.ensures.bound point.0 point.1
 
-pub loop-low-preserved-then-index-s : goal.loop-low-preserved-then-index-s
-loop-low-preserved-then-index-s c = record { ordered = omega arith; within = c.loop-low.invariant.within; from = omega (arith, c.if-index-s.true, c.index.ensures); behind = c.loop-low.invariant.behind }
-
-pub loop-low-preserved : goal.loop-low-preserved
-loop-low-preserved c = record { ordered = omega arith; within = omega (arith, c.loop-low.invariant.within); from = c.loop-low.invariant.from; behind = omega (arith, c.if-index-s.false, c.index.ensures) }
+pub overflow_sub-result : goal.overflow_sub-result
+overflow_sub-result c = (found c).0
 
 pub returns : goal.returns
-returns c =
-    let next : c.loop-low.high ≡ c.loop-low.low + 1 = omega (arith, c.loop-low.invariant.ordered) in
-    sym (column_is c.args.n c.args.column_starts.now c.args.s (starts (goal.at.returns c).Start) c.loop-low.low (omega (arith, c.loop-low.invariant.ordered, c.loop-low.invariant.within), c.loop-low.invariant.from, rw next at c.loop-low.invariant.behind))
+returns c = (found c).1

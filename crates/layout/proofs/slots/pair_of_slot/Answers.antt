@@ -36,11 +36,11 @@ pub bounds-column_starts-n : goal.bounds-column_starts-n
 bounds-column_starts-n c = omega (arith, (good-starts c.args.n c.args.column_starts.now (good (goal.at.bounds-column_starts-n c).Else-fault-ne0).starts).many)
 
 pub returns-then-s-slots : goal.returns-then-s-slots
-returns-then-s-slots c = sym (slot_outside_lem c.args.n c.args.column_starts.now c.args.rows.now c.args.s (clear (goal.at.returns-then-s-slots c).Else-fault-ne0) (omega (arith, c.if-s-slots.true, c.index-slots.ensures)))
+returns-then-s-slots c = sym (slot_outside_lem c.args.n c.args.column_starts.now c.args.rows.now c.args.s (clear (goal.at.returns-then-s-slots c).Else-fault-ne0) (omega (arith, c.if-s-slots.true)))
 
 -- the slot is one of those that there are
 there : (c : Else-s-slots) → c.args.s < get_or c.args.column_starts.now c.args.n 0
-there c = omega (arith, c.if-s-slots.false, c.index-slots.ensures)
+there c = omega (arith, c.if-s-slots.false)
 
 pub column_of-column-requires : goal.column_of-column-requires
 column_of-column-requires c = ((good (goal.at.column_of-column-requires c).Else-fault-ne0).starts, there (goal.at.column_of-column-requires c).Else-s-slots)

@@ -1,35 +1,43 @@
 -- `size::read_size` meets its contract: three numbers, then the line is over.
-use borrow.Author.Tests.{not-true, not-false}
-use Rattle.matrix_market.proofs.Words.{Numbers, numbers-start, numbers-next, numbers-value, numbers-none, numbers_over, numbers-behind}
-use Rattle.matrix_market.proofs.Heads.{no_size_at}
-use Rattle.matrix_market.proofs.size.read_size.Goals.{Else-not-rows, Else-not-columns}
+use mathlib.Core.Path.{◌∙◌}
+use Rattle.matrix_market.proofs.Words.{numbers-start, numbers-next, numbers-value, numbers-none, numbers_over, numbers-behind, number_none, number_some, over_none, over_some}
 use Rattle.matrix_market.proofs.size.read_size.Goals as goal
 
-pub returns-then-not-rows : goal.returns-then-not-rows
-returns-then-not-rows c = rw c.no_size.ensures (no_size_at c.args.text.now c.args.at (numbers-none c.args.text.now c.args.at c.args.at 0 (numbers-start c.args.text.now c.args.at c.requires) c.number-rows.result 2 c.number-rows.ensures (not-true _ c.if-not-rows.true)))
+pub returns-in_err-rows : goal.returns-in_err-rows
+returns-in_err-rows c = rw c.from_residual.ensures (numbers-none _ _ _ 0 (numbers-start c.args.text.now c.args.at c.requires) 2 (number_none _ _ _ c.number.ensures c.in_err-rows.was))
 
-one : (c : Else-not-rows) → Numbers c.args.text.now c.args.at c.number-rows.result.next 1
-one c = numbers-next c.args.text.now c.args.at c.args.at 0 (numbers-start c.args.text.now c.args.at c.requires) c.number-rows.result c.number-rows.ensures (not-false _ c.if-not-rows.false)
+pub returns-in_err-columns : goal.returns-in_err-columns
+returns-in_err-columns c =
+    let one = numbers-next _ _ _ 0 (numbers-start c.args.text.now c.args.at c.requires) c.in_ok-rows.rows (number_some _ _ _ _ c.number.ensures c.in_ok-rows.was) in
+    rw c.from_residual-in_err-columns.ensures (numbers-none _ _ _ 1 one 1 (number_none _ _ _ c.number-2.ensures c.in_err-columns.was))
 
-one_at_else_not_columns : (c : Else-not-columns) → Numbers c.args.text.now c.args.at c.number-rows.result.next 1
-one_at_else_not_columns c = numbers-next c.args.text.now c.args.at c.args.at 0 (numbers-start c.args.text.now c.args.at c.requires) c.number-rows.result c.number-rows.ensures (not-false _ c.if-not-rows.false)
+pub returns-in_err-pairs : goal.returns-in_err-pairs
+returns-in_err-pairs c =
+    let one = numbers-next _ _ _ 0 (numbers-start c.args.text.now c.args.at c.requires) c.in_ok-rows.rows (number_some _ _ _ _ c.number.ensures c.in_ok-rows.was) in
+    let two = numbers-next _ _ _ 1 one c.in_ok-columns.columns (number_some _ _ _ _ c.number-2.ensures c.in_ok-columns.was) in
+    rw c.from_residual-in_err-pairs.ensures (numbers-none _ _ _ 2 two 0 (number_none _ _ _ c.number-3.ensures c.in_err-pairs.was))
 
-pub returns-then-not-columns : goal.returns-then-not-columns
-returns-then-not-columns c = rw c.no_size-then-not-columns.ensures (no_size_at c.args.text.now c.args.at (numbers-none c.args.text.now c.args.at _ 1 (one (goal.at.returns-then-not-columns c).Else-not-rows) c.number-columns.result 1 c.number-columns.ensures (not-true _ c.if-not-columns.true)))
-
-two : (c : Else-not-columns) → Numbers c.args.text.now c.args.at c.number-columns.result.next 2
-two c = numbers-next c.args.text.now c.args.at _ 1 (one_at_else_not_columns c) c.number-columns.result c.number-columns.ensures (not-false _ c.if-not-columns.false)
-
-pub returns-then-not-pairs : goal.returns-then-not-pairs
-returns-then-not-pairs c = rw c.no_size-then-not-pairs.ensures (no_size_at c.args.text.now c.args.at (numbers-none c.args.text.now c.args.at _ 2 (two (goal.at.returns-then-not-pairs c).Else-not-columns) c.number-pairs.result 0 c.number-pairs.ensures (not-true _ c.if-not-pairs.true)))
+pub returns-in_err-next : goal.returns-in_err-next
+returns-in_err-next c =
+    let one = numbers-next _ _ _ 0 (numbers-start c.args.text.now c.args.at c.requires) c.in_ok-rows.rows (number_some _ _ _ _ c.number.ensures c.in_ok-rows.was) in
+    let two = numbers-next _ _ _ 1 one c.in_ok-columns.columns (number_some _ _ _ _ c.number-2.ensures c.in_ok-columns.was) in
+    let three = numbers-next _ _ _ 2 two c.in_ok-pairs.pairs (number_some _ _ _ _ c.number-3.ensures c.in_ok-pairs.was) in
+    rw c.from_residual-in_err-next.ensures (numbers_over _ _ _ 3 three ∙ over_none _ _ _ c.line_over.ensures c.in_err-next.was)
 
 pub returns : goal.returns
 returns c =
-    let three = numbers-next c.args.text.now c.args.at _ 2 (two (goal.at.returns c).Else-not-columns) c.number-pairs.result c.number-pairs.ensures (not-false _ c.if-not-pairs.false) in
+    let start = numbers-start c.args.text.now c.args.at c.requires in
+    let rows = number_some _ _ _ _ c.number.ensures c.in_ok-rows.was in
+    let columns = number_some _ _ _ _ c.number-2.ensures c.in_ok-columns.was in
+    let pairs = number_some _ _ _ _ c.number-3.ensures c.in_ok-pairs.was in
+    let one = numbers-next _ _ _ 0 start c.in_ok-rows.rows rows in
+    let two = numbers-next _ _ _ 1 one c.in_ok-columns.columns columns in
+    let three = numbers-next _ _ _ 2 two c.in_ok-pairs.pairs pairs in
+    let end = over_some _ _ _ _ c.line_over.ensures c.in_ok-next.was in
     record {
-      good = numbers_over c.args.text.now c.args.at _ 3 three c.line_over-end.result c.line_over-end.ensures;
-      rows = λ g. numbers-value c.args.text.now c.args.at c.args.at 0 (numbers-start c.args.text.now c.args.at c.requires) c.number-rows.result c.number-rows.ensures (not-false _ c.if-not-rows.false);
-      columns = λ g. (numbers-value c.args.text.now c.args.at _ 1 (one (goal.at.returns c).Else-not-rows) c.number-columns.result c.number-columns.ensures (not-false _ c.if-not-columns.false)).0;
-      pairs = λ g. numbers-value c.args.text.now c.args.at _ 2 (two (goal.at.returns c).Else-not-columns) c.number-pairs.result c.number-pairs.ensures (not-false _ c.if-not-pairs.false);
-      next = λ g. numbers-behind c.args.text.now c.args.at _ 3 three c.line_over-end.result c.line_over-end.ensures g;
+      good = numbers_over _ _ _ 3 three ∙ end.0;
+      rows = numbers-value _ _ _ 0 start c.in_ok-rows.rows rows;
+      columns = (numbers-value _ _ _ 1 one c.in_ok-columns.columns columns).0;
+      pairs = numbers-value _ _ _ 2 two c.in_ok-pairs.pairs pairs;
+      next = numbers-behind _ _ _ 3 three _ end.1;
     }

@@ -5,5 +5,5 @@ use Rattle.ndfactor.proofs.entries.ndf_factor.Goals as goal
 
 pub returns : goal.returns
 returns c =
-    let answer = ap factor_answer_of c.factor_reply.ensures in
+    let answer = ap factor_answer_of c.from.ensures in
     rw answer c.factor.ensures

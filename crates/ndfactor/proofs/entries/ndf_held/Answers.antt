@@ -4,4 +4,4 @@ use Rattle.ndfactor.specs.Replies.{ndf_held}
 use Rattle.ndfactor.proofs.entries.ndf_held.Goals as goal
 
 pub returns : goal.returns
-returns c = c.held_reply.ensures ∙ ap ndf_held c.held_at.ensures
+returns c = c.from.ensures ∙ ap ndf_held c.held_at.ensures

@@ -1,12 +1,11 @@
 -- `text::listed::put_answer` meets its contract.
-use mathlib.Core.Path.{sym, ap, subst}
+use mathlib.Core.Path.{ap, subst}
 use mathlib.Core.List.{List}
 use Prim.Native.Nat.{ℕ}
 use native.Mathlib.Omega.{arith}
 use lib.ListN.{length}
 use Rattle.plan.specs.declared.PlanAnswer.{PlanAnswer}
 use Rattle.text.specs.Lines.{answer_text, AnswerWithin}
-use Rattle.text.proofs.Puts.{put_as}
 use Rattle.text.proofs.listed.put_answer.Goals.{Start}
 use Rattle.text.proofs.listed.put_answer.Goals as goal
 
@@ -19,17 +18,17 @@ unfolding answer_text AnswerWithin
 put_plan-requires c =
     record {
       plan_within = subst (λ a. AnswerWithin a c.args.order.now c.args.sizes.now c.args.column_starts.now c.args.rows.now) c.in-Accepted.is c.requires.answer_within;
-      rows_in_bounds = omega (arith, c.requires.rows_in_bounds, ap (λ a. length (listed (goal.at.put_plan-requires c).Start a)) c.in-Accepted.is);
+      room = omega (arith, c.requires.room, ap (λ a. length (listed (goal.at.put_plan-requires c).Start a)) c.in-Accepted.is);
     }
 
-pub put_refusal-requires : goal.put_refusal-requires
+pub refusal-requires : goal.refusal-requires
 unfolding answer_text
-put_refusal-requires c = omega (arith, c.requires.rows_in_bounds, ap (λ a. length (listed (goal.at.put_refusal-requires c).Start a)) c.in-Refused.is)
+refusal-requires c = omega (arith, c.requires.room, ap (λ a. length (listed (goal.at.refusal-requires c).Start a)) c.in-Refused.is)
 
 pub returns-in-Accepted : goal.returns-in-Accepted
 unfolding answer_text
-returns-in-Accepted c = put_as (ap (listed (goal.at.returns-in-Accepted c).Start) (sym c.in-Accepted.is)) c.put_plan.ensures
+returns-in-Accepted c = rw c.in-Accepted.is c.put_plan.ensures
 
 pub returns-in-Refused : goal.returns-in-Refused
 unfolding answer_text
-returns-in-Refused c = put_as (ap (listed (goal.at.returns-in-Refused c).Start) (sym c.in-Refused.is)) c.put_refusal.ensures
+returns-in-Refused c = rw c.in-Refused.is c.refusal.ensures

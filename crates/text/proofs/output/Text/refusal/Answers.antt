@@ -1,0 +1,16 @@
+-- `text::output::Text::refusal` meets its contract.
+use mathlib.Core.Path.{ap}
+use mathlib.Core.List.{append_assoc}
+use native.Mathlib.Omega.{arith}
+use lib.ListN.{length, length-append}
+use Rattle.text.proofs.Lines.{refusal-parts, refusal-length}
+use Rattle.text.proofs.output.Text.refusal.Goals as goal
+
+pub labelled-requires : goal.labelled-requires
+labelled-requires c = omega (arith, refusal-length c.args.number)
+
+pub word-requires : goal.word-requires
+word-requires c = omega (arith, simp length-append at (ap length c.labelled.ensures), refusal-length c.args.number)
+
+pub returns : goal.returns
+returns c = rw (c.word.ensures, c.labelled.ensures, refusal-parts c.args.number) (simp append_assoc)
