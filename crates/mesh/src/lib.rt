@@ -7,10 +7,9 @@ mod lent;
 mod listed;
 mod made;
 
-ghost use Rattle.std.specs.Prelude.{◌≡◌, true, ◌≤◌, leb, ltb, length};
-ghost use Rattle.plan.specs.Lists.{exists, is_in, list_at, ascending, falls};
+ghost use Rattle.std.specs.Prelude.{◌≡◌, leb, length};
+ghost use Rattle.plan.specs.Lists.{exists, is_in, list_at, falls};
 ghost use Rattle.plan.specs.Mesh.{max_nodes, bad_node_count, bad_starts};
-ghost use Rattle.theory.specs.Counting.{count};
 ghost use Rattle.mesh.specs.Lists.{filled_with, ListWithin};
 
 pub use checked::CheckedMesh;
@@ -85,12 +84,4 @@ pub fn contains(entries: &[u16], x: u16) -> bool
         found |= *y == x;
     }
     found
-}
-
-// The number of entries of an ascending list that are less than x, and so the first place whose entry is not less. O(log length).
-pub fn lower_bound(entries: &[u16], x: usize) -> usize
-    requires { ascending entries.now ≡ true }
-    ensures { result ≡ count (λ y. ltb y x) entries.now }
-{
-    entries.partition_point(|y| usize::from(*y) < x)
 }
