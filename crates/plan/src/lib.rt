@@ -13,7 +13,7 @@ ghost use Rattle.plan.specs.Factoring.{open_report, zero_report, after_column};
 pub use refusal::Refusal;
 
 // A plan by its counts. Its lists (order, positions, sizes, parents, column starts, rows) stand in the lent buffers.
-#[derive(Clone, Copy)]
+#[derive(Clone, Copy, Debug, PartialEq, Eq)]
 pub struct Plan {
     pub nodes: u32,
     pub parts: u32,
@@ -96,21 +96,21 @@ pub enum PairAnswer {
 }
 
 // A pair of positions that has a slot: the row is the later position, the column the earlier.
-#[derive(Clone, Copy)]
+#[derive(Clone, Copy, Debug, PartialEq, Eq)]
 pub struct Pair {
     pub row: u32,
     pub column: u32,
 }
 
 // A mesh by its counts. Its starts and neighbours stand in the lent buffers.
-#[derive(Clone, Copy)]
+#[derive(Clone, Copy, Debug, PartialEq, Eq)]
 pub struct MeshCounts {
     pub nodes: u32,
     pub entries: u32,
 }
 
 // A span of the rows buffer (document 01: stretch), the answer to the question about a column: where it starts, and how many rows it has.
-#[derive(Clone, Copy)]
+#[derive(Clone, Copy, Debug, PartialEq, Eq)]
 pub struct Span {
     pub start: usize,
     pub count: usize,
@@ -185,7 +185,7 @@ pub enum HeldAnswer {
 }
 
 // The family of a refusal's number.
-#[derive(Clone, Copy)]
+#[derive(Clone, Copy, Debug, PartialEq, Eq)]
 pub enum RefusalFamily {
     Mesh,
     File,
