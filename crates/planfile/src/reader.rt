@@ -12,7 +12,7 @@ ghost use Rattle.planfile.specs.Filed.{Headed, row_counts_in};
 use coding::read16s;
 use filechecks::{header_refusal, order_and_parts_refusal, read_head};
 use layout::{buffers_too_short, invert, sum, write_starts};
-use mesh::{filled, index};
+use mesh::filled;
 use plan::{Plan, PlanAnswer};
 use rowchecks::{Encoded, not_covered, walk};
 
@@ -37,7 +37,7 @@ fn decoded_refusal(
     if fault != 0 {
         return fault;
     }
-    if index(column_starts[n]) != s {
+    if column_starts[n] as usize != s {
         return 17;
     }
     let at = end + 4 * n + 4 * p;

@@ -7,7 +7,7 @@ ghost use Rattle.plan.specs.Writing.{bad_supply, supplied_checks};
 ghost use Rattle.planfile.specs.Supplied.{listed, Exact};
 
 use filechecks::{bad_header, order_and_parts_refusal};
-use mesh::{bad_starts, index};
+use mesh::bad_starts;
 use plan::Plan;
 use rowchecks::{Lent, not_covered, walk};
 
@@ -61,7 +61,7 @@ fn contents_refusal(
     if bad_starts(n, column_starts) {
         return 17;
     }
-    if index(column_starts[n]) != rows.len() {
+    if column_starts[n] as usize != rows.len() {
         return 17;
     }
     let faults = walk(n, sizes, parents, column_starts, Lent(rows));
