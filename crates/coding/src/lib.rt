@@ -5,26 +5,12 @@ ghost use Rattle.std.specs.Prelude.{◌≡◌, ◌+◌, ◌-◌, ◌*◌, ◌≤
 ghost use Rattle.plan.specs.Lists.{written};
 ghost use Rattle.plan.specs.File.{encode16, encode32, encode16s, decode16, decode32, decode16s};
 
-// A byte as a number of 16 bits. O(1).
-fn extend8(x: u8) -> u16
-    ensures { (result ≡ x) × (result < 256) }
-{
-    x as u16
-}
-
-// A number of 16 bits as one of 32. O(1).
-fn extend16(x: u16) -> u32
-    ensures { (result ≡ x) × (result < 65536) }
-{
-    x as u32
-}
-
 // The number of 16 bits at a place. O(1).
 pub fn read16(bytes: &[u8], at: usize) -> u16
     requires { at + 2 ≤ length bytes.now }
     ensures { result ≡ decode16 bytes.now at }
 {
-    extend8(bytes[at]) + 256 * extend8(bytes[at + 1])
+    u16::from_le_bytes([bytes[at], bytes[at + 1]])
 }
 
 // The number of 32 bits at a place. O(1).
@@ -32,7 +18,7 @@ pub fn read32(bytes: &[u8], at: usize) -> u32
     requires { at + 4 ≤ length bytes.now }
     ensures { result ≡ decode32 bytes.now at }
 {
-    extend16(read16(bytes, at)) + 65536 * extend16(read16(bytes, at + 2))
+    u32::from(read16(bytes, at)) + 65536 * u32::from(read16(bytes, at + 2))
 }
 
 // Some numbers of 16 bits to the front of a buffer: the first stands at byte `at`, each `apart` bytes after the one before, and the last one's two
@@ -41,8 +27,8 @@ pub fn read16s(bytes: &[u8], at: usize, apart: usize, count: usize, numbers: &mu
     requires { (2 ≤ apart) × (at + apart * count ≤ length bytes.now + (apart - 2)) × (count ≤ length numbers.old) }
     ensures { numbers.new ≡ written (decode16s bytes.now at apart count) numbers.old }
 {
-    for k in 0..count {
-        numbers[k] = read16(bytes, at + apart * k);
+    for (k, number) in numbers[..count].iter_mut().enumerate() {
+        *number = read16(bytes, at + apart * k);
     }
 }
 
@@ -51,8 +37,9 @@ pub fn write16(x: u16, bytes: &mut [u8])
     requires { 2 ≤ length bytes.old }
     ensures { bytes.new ≡ written (encode16 x) bytes.old }
 {
-    bytes[0] = (x % 256) as u8;
-    bytes[1] = (x / 256 % 256) as u8;
+    let [low, high] = x.to_le_bytes();
+    bytes[0] = low;
+    bytes[1] = high;
 }
 
 // A number of 32 bits to the front of the bytes. O(1).
@@ -69,8 +56,8 @@ pub fn write16s(numbers: &[u16], bytes: &mut [u8])
     requires { 2 * length numbers.now ≤ length bytes.old }
     ensures { bytes.new ≡ written (encode16s numbers.now) bytes.old }
 {
-    for k in 0..numbers.len() {
+    for (k, x) in numbers.iter().enumerate() {
         let at = 2 * k;
-        write16(numbers[k], &mut bytes[at..]);
+        write16(*x, &mut bytes[at..]);
     }
 }

@@ -6,15 +6,11 @@ ghost use Rattle.plan.specs.Reading.{bad_magic, bad_version, too_few_in_version2
 ghost use Rattle.filechecks.specs.Fields.{counts_only};
 
 use coding::{read16, read32};
-use mesh::{bad_node_count, index, wide};
+use mesh::bad_node_count;
 use plan::Plan;
 
 // "the letters NDP"
-pub const N: u8 = 78;
-
-pub const D: u8 = 68;
-
-pub const P: u8 = 80;
+pub const MAGIC: [u8; 3] = *b"NDP";
 // the version without unknowns: each node has one
 const VERSION_1: u16 = 1;
 // how many bytes stand before the order there
@@ -55,7 +51,7 @@ fn read_unknowns(bytes: &[u8]) -> usize
     if read16(bytes, 3) == VERSION_1 {
         return 1;
     }
-    wide(read16(bytes, 5))
+    read16(bytes, 5) as usize
 }
 
 // What a file's first bytes say, where they are all there. O(1).
@@ -66,9 +62,9 @@ pub fn read_head(bytes: &[u8]) -> Head
     let end = head_end(bytes);
     let unknowns = read_unknowns(bytes);
     let at = end - COUNTS;
-    let nodes = index(read32(bytes, at));
-    let parts = index(read32(bytes, at + 4));
-    let slots = index(read32(bytes, at + 8));
+    let nodes = read32(bytes, at) as usize;
+    let parts = read32(bytes, at + 4) as usize;
+    let slots = read32(bytes, at + 8) as usize;
     Head {
         end,
         unknowns,
@@ -83,13 +79,7 @@ fn bad_magic(bytes: &[u8]) -> bool
     requires { 17 ≤ length bytes.now }
     ensures { result ≡ bad_magic bytes.now }
 {
-    if bytes[0] != N {
-        return true;
-    }
-    if bytes[1] != D {
-        return true;
-    }
-    bytes[2] != P
+    bytes[..3] != MAGIC[..]
 }
 
 // Check 12: the version is neither 1 nor 2. O(1).

@@ -5,6 +5,6 @@ mod header;
 mod order;
 
 pub use header::{
-    D, HEADER, Head, N, P, VERSION, bad_header, file_length, header_refusal, read_head,
+    HEADER, Head, MAGIC, VERSION, bad_header, file_length, header_refusal, read_head,
 };
 pub use order::order_and_parts_refusal;

@@ -6,7 +6,7 @@ ghost use Rattle.plan.specs.Mesh.{max_nodes};
 ghost use Rattle.plan.specs.File.{may_be_parent, bad_parts};
 ghost use Rattle.filechecks.specs.Fields.{order_and_parts, order_and_parts_checks};
 
-use mesh::{contains, filled, wide};
+use mesh::{contains, filled};
 use plan::Plan;
 
 // Check 15: the order is not each node once, as many nodes as it is long. O(4,096 + n).
@@ -16,7 +16,7 @@ fn bad_order(order: &[u16]) -> bool
 {
     let mut marks = filled(0);
     for i in 0..order.len() {
-        let v = wide(order[i]);
+        let v = order[i] as usize;
         if v >= order.len() {
             return true;
         }
@@ -34,8 +34,8 @@ fn sum_sizes(sizes: &[u16]) -> usize
     ensures { result ≡ total sizes.now }
 {
     let mut sum: usize = 0;
-    for q in 0..sizes.len() {
-        sum += wide(sizes[q]);
+    for &size in sizes {
+        sum += usize::from(size);
     }
     sum
 }
@@ -47,18 +47,18 @@ fn may_be_parent(p: usize, q: usize, r: u16) -> bool
     if r == Plan::NO_PARENT {
         return true;
     }
-    if wide(r) <= q {
+    if r as usize <= q {
         return false;
     }
-    wide(r) < p
+    (r as usize) < p
 }
 
 // Whether some part's parent is neither none nor a later part. O(p).
 fn bad_parents(parents: &[u16]) -> bool
     ensures { result ≡ exists (λ q. not (may_be_parent (length parents.now) q (get_or parents.now q 0))) (below (length parents.now)) }
 {
-    for q in 0..parents.len() {
-        if !may_be_parent(parents.len(), q, parents[q]) {
+    for (q, &r) in parents.iter().enumerate() {
+        if !may_be_parent(parents.len(), q, r) {
             return true;
         }
     }

@@ -56,55 +56,20 @@ pub fn front32<'a>(s: &'a mut [u32], k: usize) -> &'a mut [u32]
     s
 }
 
-// What entry i should be: that of `want` where it is used, `rest` elsewhere.
-fn wanted8(want: &[u8], used: usize, rest: u8, i: usize) -> u8 {
-    if i < used {
-        if i < want.len() {
-            return want[i];
-        }
-    }
-    rest
+// Whether the first entries, so many, are those of `want`, as far as it goes, and all others are `rest`.
+fn holds<T: PartialEq>(buffer: &[T], want: &[T], used: usize, rest: &T) -> bool {
+    let k = used.min(want.len()).min(buffer.len());
+    buffer[..k] == want[..k] && buffer[k..].iter().all(|x| x == rest)
 }
 
-fn wanted16(want: &[u16], used: usize, rest: u16, i: usize) -> u16 {
-    if i < used {
-        if i < want.len() {
-            return want[i];
-        }
-    }
-    rest
-}
-
-// Every entry is looked at: without an early end the compiler compares several at once.
 pub fn holds8(buffer: &[u8], want: &[u8], used: usize, rest: u8) -> bool {
-    let mut same = true;
-    for i in 0..buffer.len() {
-        same = same & (buffer[i] == wanted8(want, used, rest, i));
-    }
-    same
+    holds(buffer, want, used, &rest)
 }
 
 pub fn holds16(buffer: &[u16], want: &[u16], used: usize, rest: u16) -> bool {
-    let mut same = true;
-    for i in 0..buffer.len() {
-        same = same & (buffer[i] == wanted16(want, used, rest, i));
-    }
-    same
-}
-
-fn wanted32(want: &[u32], used: usize, rest: u32, i: usize) -> u32 {
-    if i < used {
-        if i < want.len() {
-            return want[i];
-        }
-    }
-    rest
+    holds(buffer, want, used, &rest)
 }
 
 pub fn holds32(buffer: &[u32], want: &[u32], used: usize, rest: u32) -> bool {
-    let mut same = true;
-    for i in 0..buffer.len() {
-        same = same & (buffer[i] == wanted32(want, used, rest, i));
-    }
-    same
+    holds(buffer, want, used, &rest)
 }

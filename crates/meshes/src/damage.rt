@@ -26,12 +26,8 @@ fn damage_starts(c: Case, what: usize, seed: u64) -> Case {
 
 // The node in whose list entry e stands.
 fn owner(c: Case, e: usize) -> usize {
-    for v in 0..64usize {
-        if e < start(c, v + 1) {
-            return v;
-        }
-    }
-    64
+    let mut ends = c.starts.iter().skip(1).take(64);
+    ends.position(|end| e < *end as usize).unwrap_or(64)
 }
 
 // Entries e and e + 1 in the other order.
@@ -41,26 +37,11 @@ fn swapped(c: Case, e: usize) -> Case {
     with_entry(with_entry(c, e, second), more(e), first)
 }
 
-fn pull_entry(neighbours: &mut [u16; 4096], i: usize) {
-    if i < 4095 {
-        neighbours[i] = neighbours[i + 1];
-    }
-}
-
-fn pull_start(starts: &mut [u32; 72], v: usize) {
-    if v < 72 {
-        let x = starts[v];
-        if 0 < x {
-            starts[v] = x - 1;
-        }
-    }
-}
-
 // The entries without entry e.
 fn entries_without(c: Case, e: usize) -> [u16; 4096] {
     let mut neighbours = c.neighbours;
-    for i in e..4096usize {
-        pull_entry(&mut neighbours, i);
+    if e < 4095 {
+        neighbours[e..4095].copy_from_slice(&c.neighbours[e + 1..]);
     }
     neighbours
 }
@@ -68,8 +49,8 @@ fn entries_without(c: Case, e: usize) -> [u16; 4096] {
 // The starts where v's list has an entry less.
 fn starts_without(c: Case, v: usize) -> [u32; 72] {
     let mut starts = c.starts;
-    for w in v..72usize {
-        pull_start(&mut starts, w + 1);
+    for start in starts.iter_mut().skip(more(v)) {
+        *start = start.saturating_sub(1);
     }
     starts
 }
@@ -100,19 +81,11 @@ fn damage_entry(c: Case, what: usize, seed: u64) -> Case {
     }
 }
 
-// How much more n is than `count`, or 0.
-fn beyond(n: usize, count: usize) -> usize {
-    if n < count {
-        return 0;
-    }
-    n - count
-}
-
 // A node with a list of other nodes, of about as many entries as are allowed; for some draws one of them is wrong too.
 fn damage_list(c: Case, what: usize, seed: u64) -> Case {
     let v = draw(seed, 8, 5, c.n);
     let count = Plan::NEIGHBOURS - 1 + draw(seed, 9, 5, 4) % 4;
-    let first = draw(seed, 10, 5, beyond(c.n, count));
+    let first = draw(seed, 10, 5, c.n.saturating_sub(count));
     let d = relisted(c, v, first, count);
     let e = start(d, v) % 4096 + draw(seed, 11, 5, count) % 64;
     match what {

@@ -1,13 +1,10 @@
 // Graphs of at most 64 nodes as dense matrices, and the neighbour lists that are lent for them.
 use crate::lent::{Case, least};
-use crate::numbers::more;
 
 // Puts w next to v in the matrix.
 fn put_neighbour(cells: &mut [u8; 4096], v: u8, w: u8) {
-    if v < 64 {
-        if w < 64 {
-            cells[v as usize * 64 + w as usize] = 1;
-        }
+    if v < 64 && w < 64 {
+        cells[v as usize * 64 + w as usize] = 1;
     }
 }
 
@@ -19,46 +16,18 @@ pub(crate) fn join(cells: &mut [u8; 4096], v: u8, w: u8) {
 }
 
 fn joined(cells: &[u8; 4096], v: u8, w: u8) -> bool {
-    if v < 64 {
-        if w < 64 {
-            return cells[v as usize * 64 + w as usize] == 1;
-        }
-    }
-    false
+    v < 64 && w < 64 && cells[v as usize * 64 + w as usize] == 1
 }
 
 // How many neighbours v has.
 fn degree(cells: &[u8; 4096], v: u8) -> usize {
-    let mut found = 0usize;
-    for w in 0..64u8 {
-        if joined(cells, v, w) {
-            found = more(found);
-        }
-    }
-    found
+    (0..64u8).filter(|w| joined(cells, v, *w)).count()
 }
 
 // Joins v and w where both have fewer than `most` neighbours.
 pub(crate) fn join_within(cells: &mut [u8; 4096], most: usize, v: u8, w: u8) {
-    if degree(cells, v) < most {
-        if degree(cells, w) < most {
-            join(cells, v, w);
-        }
-    }
-}
-
-// Writes a neighbour and gives where the next one goes.
-fn put_entry(neighbours: &mut [u16; 4096], at: usize, w: u8) -> usize {
-    if at < 4096 {
-        neighbours[at] = w as u16;
-        return at + 1;
-    }
-    at
-}
-
-fn put_start(starts: &mut [u32; 72], v: u8, at: usize) {
-    if v < 72 {
-        starts[v as usize] = (at % 65536) as u32;
+    if degree(cells, v) < most && degree(cells, w) < most {
+        join(cells, v, w);
     }
 }
 
@@ -66,8 +35,9 @@ fn put_start(starts: &mut [u32; 72], v: u8, at: usize) {
 fn put_list(neighbours: &mut [u16; 4096], at: usize, cells: &[u8; 4096], v: u8) -> usize {
     let mut end = at;
     for w in 0..64u8 {
-        if joined(cells, v, w) {
-            end = put_entry(neighbours, end, w);
+        if joined(cells, v, w) && end < 4096 {
+            neighbours[end] = u16::from(w);
+            end += 1;
         }
     }
     end
@@ -78,34 +48,27 @@ pub(crate) fn lists(n: u8, cells: &[u8; 4096]) -> Case {
     let mut starts = [0u32; 72];
     let mut neighbours = [0u16; 4096];
     let mut at = 0usize;
-    for v in 0..64u8 {
-        if v < n {
-            at = put_list(&mut neighbours, at, cells, v);
-            put_start(&mut starts, v + 1, at);
-        }
+    for (end, v) in starts.iter_mut().skip(1).zip(0..n) {
+        at = put_list(&mut neighbours, at, cells, v);
+        *end = (at % 65536) as u32;
     }
     Case {
         n: n as usize,
-        starts: starts,
+        starts,
         start_count: n as usize + 1,
-        neighbours: neighbours,
+        neighbours,
         entry_count: at,
         lengths: least(n),
     }
 }
 
-fn wide(edges: &[u8], i: usize) -> u8 {
-    if i < edges.len() {
-        return edges[i];
-    }
-    0
-}
-
 // The mesh of n nodes whose edges are the pairs of `edges`.
 pub fn from_edges(n: u8, edges: &[u8]) -> Case {
     let mut cells = [0u8; 4096];
-    for i in 0..edges.len() / 2 {
-        join(&mut cells, wide(edges, i * 2), wide(edges, i * 2 + 1));
+    for pair in edges.chunks_exact(2) {
+        if let [v, w] = pair {
+            join(&mut cells, *v, *w);
+        }
     }
     lists(n, &cells)
 }
@@ -113,24 +76,35 @@ pub fn from_edges(n: u8, edges: &[u8]) -> Case {
 // A star: node 0 next to so many leaves, at most 63.
 pub fn star(leaves: u8) -> Case {
     let mut cells = [0u8; 4096];
-    for w in 0..64u8 {
-        if w <= leaves {
-            join(&mut cells, 0, w);
-        }
+    for w in 1..=leaves.min(63) {
+        join(&mut cells, 0, w);
     }
     lists(leaves % 64 + 1, &cells)
 }
 
 // The pairs of five nodes.
-const PAIRS: [u8; 20] = [0, 1, 0, 2, 1, 2, 0, 3, 1, 3, 2, 3, 0, 4, 1, 4, 2, 4, 3, 4];
+const PAIRS: [(u8, u8); 10] = [
+    (0, 1),
+    (0, 2),
+    (1, 2),
+    (0, 3),
+    (1, 3),
+    (2, 3),
+    (0, 4),
+    (1, 4),
+    (2, 4),
+    (3, 4),
+];
 
 // The mesh of n nodes, at most 5, whose edges are the pairs whose bits `number` has.
 pub fn numbered(n: u8, number: u64) -> Case {
     let mut cells = [0u8; 4096];
-    for i in 0..10usize {
-        if (number >> i) % 2 == 1 {
-            join(&mut cells, wide(&PAIRS, i * 2), wide(&PAIRS, i * 2 + 1));
+    let mut bits = number;
+    for (v, w) in PAIRS {
+        if bits % 2 == 1 {
+            join(&mut cells, v, w);
         }
+        bits /= 2;
     }
     lists(n, &cells)
 }

@@ -41,17 +41,11 @@ pub struct Case {
 }
 
 pub(crate) fn start(c: Case, v: usize) -> usize {
-    if v < 72 {
-        return c.starts[v] as usize;
-    }
-    0
+    c.starts.get(v).map_or(0, |x| *x as usize)
 }
 
 pub(crate) fn entry(c: Case, e: usize) -> usize {
-    if e < 4096 {
-        return c.neighbours[e] as usize;
-    }
-    0
+    c.neighbours.get(e).map_or(0, |x| usize::from(*x))
 }
 
 pub(crate) fn with_start(mut c: Case, v: usize, x: usize) -> Case {

@@ -7,10 +7,7 @@ use std::io;
 pub fn less(x: usize) -> usize
     ensures { result ≡ x - 1 }
 {
-    if x == 0 {
-        return 0;
-    }
-    x - 1
+    x.saturating_sub(1)
 }
 
 // One more than x, where x is below 2^32.

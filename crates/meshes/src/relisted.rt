@@ -21,15 +21,8 @@ fn listed(l: NewList, i: usize) -> usize {
     w + 1
 }
 
-fn wide(x: u16) -> usize {
-    x as usize
-}
-
 fn old_entry(old: &[u16; 4096], e: usize) -> usize {
-    if e < 4096 {
-        return wide(old[e]);
-    }
-    0
+    old.get(e).map_or(0, |x| usize::from(*x))
 }
 
 // Entry e of all lists, the new one among them.
@@ -47,10 +40,9 @@ fn new_entry(old: &[u16; 4096], l: NewList, e: usize) -> usize {
 }
 
 fn new_entries(c: Case, l: NewList) -> [u16; 4096] {
-    let old = c.neighbours;
     let mut neighbours = [0u16; 4096];
-    for e in 0..4096usize {
-        neighbours[e] = (new_entry(&old, l, e) % 65536) as u16;
+    for (e, x) in neighbours.iter_mut().enumerate() {
+        *x = (new_entry(&c.neighbours, l, e) % 65536) as u16;
     }
     neighbours
 }
@@ -63,10 +55,8 @@ fn moved(l: NewList, place: usize) -> usize {
 
 fn new_starts(c: Case, l: NewList) -> [u32; 72] {
     let mut starts = c.starts;
-    for v in 0..72usize {
-        if l.v < v {
-            starts[v] = (moved(l, start(c, v)) % 4294967296) as u32;
-        }
+    for start in starts.iter_mut().skip(more(l.v)) {
+        *start = (moved(l, *start as usize) % 4294967296) as u32;
     }
     starts
 }

@@ -16,17 +16,11 @@ struct Shape {
 }
 
 fn remainder(v: u8, width: u8) -> u8 {
-    if width == 0 {
-        return 0;
-    }
-    v % width
+    v.checked_rem(width).unwrap_or(0)
 }
 
 fn quotient(v: u8, width: u8) -> u8 {
-    if width == 0 {
-        return 0;
-    }
-    v / width
+    v.checked_div(width).unwrap_or(0)
 }
 
 // Whether v + d follows v in its row of a grid, or stands below it, or, with diagonals, below and one to the right.
@@ -106,10 +100,7 @@ fn join_later(cells: &mut [u8; 4096], s: Shape, l: &[u8; 64], v: u8) {
 }
 
 fn label(l: &[u8; 64], v: u8) -> u8 {
-    if v < 64 {
-        return l[v as usize];
-    }
-    0
+    l.get(usize::from(v)).copied().unwrap_or(0)
 }
 
 fn mesh(s: Shape, l: &[u8; 64]) -> Case {

@@ -11,19 +11,21 @@ pub fn allowed_unknowns(turn: u64) -> usize
 // How many refused numbers are tried.
 pub const REFUSED_UNKNOWNS: u64 = 10;
 
-// Numbers that 28 refuses, in turn: those next to the allowed ones, some that have an allowed one in a part of their bits, and the greatest of 16,
-// 32 and 64 bits.
+// The refused numbers: those next to the allowed ones, some that have an allowed one in a part of their bits, and the greatest of 16, 32 and 64 bits.
+const REFUSED: [usize; 10] = [
+    0,
+    7,
+    257,
+    1536,
+    65535,
+    65537,
+    393216,
+    4294967295,
+    4294967298,
+    18446744073709551615,
+];
+
+// Numbers that 28 refuses, in turn.
 pub fn refused_unknowns(turn: u64) -> usize {
-    match turn % REFUSED_UNKNOWNS {
-        0 => 0,
-        1 => 7,
-        2 => 257,
-        3 => 1536,
-        4 => 65535,
-        5 => 65537,
-        6 => 393216,
-        7 => 4294967295,
-        8 => 4294967298,
-        _ => 18446744073709551615,
-    }
+    REFUSED[(turn % REFUSED_UNKNOWNS) as usize]
 }

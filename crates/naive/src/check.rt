@@ -1,80 +1,65 @@
 // Checks 1 to 7, with 26 between 6 and 7, each over the whole mesh before the next, and the matrix of a mesh that passes them.
-use crate::lists::{end, entry, falling, plus, start};
-use crate::sets::only;
+ghost use Rattle.std.specs.Prelude.{◌≡◌};
+
+use crate::lists::{ascending, end, entries, falling, nodes_in, start};
 
 // The most entries of a list.
 pub(crate) const NEIGHBOURS: usize = 26;
 
-// The checks that look at entries, in their order.
-const ENTRY_CHECKS: [u32; 5] = [4, 5, 6, 26, 7];
-
 fn bad_starts(n: usize, starts: &[u32], neighbours: &[u16]) -> bool {
-    if starts.len() == 0 {
-        return true;
-    }
-    if starts.len() - 1 != n {
-        return true;
-    }
-    if start(starts, 0) != 0 {
-        return true;
-    }
-    falling(n, starts) || start(starts, n) != neighbours.len()
+    starts.len().checked_sub(1) != Some(n)
+        || start(starts, 0) != 0
+        || falling(n, starts)
+        || start(starts, n) != neighbours.len()
 }
 
-// Whether w stands in v's list.
-fn lists(starts: &[u32], neighbours: &[u16], v: usize, w: usize) -> bool {
-    for e in start(starts, v)..end(starts, v) {
-        if entry(neighbours, e) == w {
-            return true;
-        }
-    }
-    false
-}
-
-// Whether entry e of v's list fails the check: 4, 5, 6, 26 (as many entries as a list may have stand before it) or 7.
-fn entry_fails(
-    number: u32,
+// Whether one of the first n lists fails: `fails` is told its node, or column, and its entries.
+pub(crate) fn some_list<F: Fn(usize, &[u16]) -> bool>(
     n: usize,
     starts: &[u32],
     neighbours: &[u16],
-    v: usize,
-    e: usize,
-) -> bool {
-    let w = entry(neighbours, e);
-    if number == 4 {
-        return n <= w;
-    }
-    if number == 5 {
-        return w == v;
-    }
-    if number == 6 {
-        if start(starts, v) < e {
-            return w <= entry(neighbours, e - 1);
-        }
-        return false;
-    }
-    if number == 26 {
-        return plus(start(starts, v), NEIGHBOURS) <= e;
-    }
-    !lists(starts, neighbours, w, v)
-}
-
-fn list_fails(number: u32, n: usize, starts: &[u32], neighbours: &[u16], v: usize) -> bool {
-    for e in start(starts, v)..end(starts, v) {
-        if entry_fails(number, n, starts, neighbours, v, e) {
-            return true;
-        }
-    }
-    false
-}
-
-fn mesh_fails(number: u32, n: usize, starts: &[u32], neighbours: &[u16]) -> bool {
+    fails: F,
+) -> bool
+    requires { F.IsAlwaysCallable fails }
+{
     for v in 0..n {
-        if list_fails(number, n, starts, neighbours, v) {
+        if fails(v, entries(starts, neighbours, v)) {
             return true;
         }
     }
     false
+}
+
+// Whether v stands in the list.
+fn lists(list: &[u16], v: usize) -> bool {
+    list.iter().any(|w| usize::from(*w) == v)
+}
+
+// Whether a node of v's list has a list without v.
+fn one_sided(starts: &[u32], neighbours: &[u16], v: usize, list: &[u16]) -> bool {
+    list.iter().any(|w| !lists(entries(starts, neighbours, usize::from(*w)), v))
+}
+
+// The first of the checks that look at entries that fails, or 0.
+fn lists_refusal(n: usize, starts: &[u32], neighbours: &[u16]) -> u32 {
+    if neighbours.iter().any(|w| n <= usize::from(*w)) {
+        return 4;
+    }
+    if some_list(n, starts, neighbours, |v, list| lists(list, v)) {
+        return 5;
+    }
+    if some_list(n, starts, neighbours, |_, list| !ascending(list)) {
+        return 6;
+    }
+    if some_list(n, starts, neighbours, |_, list| NEIGHBOURS < list.len()) {
+        return 26;
+    }
+    if some_list(n, starts, neighbours, |v, list| {
+        one_sided(starts, neighbours, v, list)
+    }) {
+        return 7;
+    }
+    0
 }
 
 // The first check that fails, or 0.
@@ -88,28 +73,13 @@ pub(crate) fn mesh(n: usize, starts: &[u32], neighbours: &[u16]) -> u32 {
     if 65536 < neighbours.len() {
         return 3;
     }
-    for k in 0..5usize {
-        let number = ENTRY_CHECKS[k];
-        if mesh_fails(number, n, starts, neighbours) {
-            return number;
-        }
-    }
-    0
-}
-
-// The nodes of v's list, or the rows of column v.
-pub(crate) fn list(starts: &[u32], neighbours: &[u16], v: usize) -> u64 {
-    let mut s = 0u64;
-    for e in start(starts, v)..end(starts, v) {
-        s = s | only(entry(neighbours, e));
-    }
-    s
+    lists_refusal(n, starts, neighbours)
 }
 
 pub(crate) fn matrix(starts: &[u32], neighbours: &[u16]) -> [u64; 64] {
     let mut m = [0u64; 64];
-    for v in 0..64usize {
-        m[v] = list(starts, neighbours, v);
+    for (v, row) in m.iter_mut().enumerate() {
+        *row = nodes_in(entries(starts, neighbours, v));
     }
     m
 }

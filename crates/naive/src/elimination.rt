@@ -1,5 +1,5 @@
 // The layout, by eliminating the nodes one after the other.
-use crate::sets::{has, only, row, size, wide16, without};
+use crate::sets::{has, only, row, without};
 
 #[derive(Drop)]
 pub(crate) struct Elimination {
@@ -17,76 +17,60 @@ pub(crate) fn multiplications(c: u32) -> u64 {
     0
 }
 
-// A sum of multiplications: 64 columns have at most 45,696.
-pub(crate) fn sum(a: u64, b: u64) -> u64 {
-    if a < 1000000 {
-        if b < 1000000 {
-            return a + b;
+impl Elimination {
+    // Row i in the next slot.
+    fn add_slot(&mut self, i: usize) {
+        let at = self.slots;
+        if at < 2016 {
+            self.rows[at] = (i % 64) as u16;
+            self.slots = at + 1;
         }
     }
-    0
-}
 
-// Row i in the next slot.
-fn add_slot(mut e: Elimination, i: usize) -> Elimination {
-    let at = e.slots;
-    if at < 2016 {
-        e.rows[at] = (i % 64) as u16;
-        e.slots = at + 1;
-    }
-    e
-}
-
-// The positions of the nodes of s, ascending, in the next slots.
-fn add_rows(e: Elimination, order: &[u16; 64], s: u64, n: usize) -> Elimination {
-    let mut q = e;
-    for i in 0..64usize {
-        if i < n && has(s, wide16(order[i])) {
-            q = add_slot(q, i);
+    // The positions of the nodes of s, ascending, in the next slots.
+    fn add_rows(&mut self, order: &[u16; 64], s: u64, n: usize) {
+        for (i, v) in order.iter().enumerate().take(n) {
+            if has(s, usize::from(*v)) {
+                self.add_slot(i);
+            }
         }
     }
-    q
-}
 
-// Column j, whose rows are the positions of the nodes of s.
-fn add_column(e: Elimination, order: &[u16; 64], s: u64, n: usize, j: usize) -> Elimination {
-    let mut q = add_rows(e, order, s, n);
-    if j < 64 {
-        q.column_starts[j + 1] = (q.slots % 65536) as u32;
+    // Column j, whose rows are the positions of the nodes of s.
+    fn add_column(&mut self, order: &[u16; 64], s: u64, n: usize, j: usize) {
+        self.add_rows(order, s, n);
+        if j < 64 {
+            self.column_starts[j + 1] = (self.slots % 65536) as u32;
+        }
+        let more = multiplications(s.count_ones());
+        self.multiplications = self.multiplications.saturating_add(more);
     }
-    q.multiplications = sum(q.multiplications, multiplications(size(s)));
-    q
 }
 
 // Joins the nodes of s to one another.
-fn join(m: [u64; 64], s: u64) -> [u64; 64] {
-    let mut r = m;
-    for v in 0..64usize {
+fn join(m: &mut [u64; 64], s: u64) {
+    for (v, row) in m.iter_mut().enumerate() {
         if has(s, v) {
-            r[v] = r[v] | without(s, only(v));
+            *row |= without(s, only(v));
         }
     }
-    r
 }
 
 // Eliminates the nodes by their positions.
-pub(crate) fn eliminate(m: [u64; 64], order: &[u16; 64], n: usize) -> Elimination {
+pub(crate) fn eliminate(mut m: [u64; 64], order: &[u16; 64], n: usize) -> Elimination {
     let mut e = Elimination {
         slots: 0,
         multiplications: 0,
         column_starts: [0; 65],
         rows: [0; 2016],
     };
-    let mut r = m;
     let mut gone = 0u64;
-    for j in 0..64usize {
-        if j < n {
-            let v = wide16(order[j]);
-            gone = gone | only(v);
-            let s = without(row(&r, v), gone);
-            e = add_column(e, order, s, n, j);
-            r = join(r, s);
-        }
+    for (j, v) in order.iter().enumerate().take(n) {
+        let v = usize::from(*v);
+        gone |= only(v);
+        let s = without(row(&m, v), gone);
+        e.add_column(order, s, n, j);
+        join(&mut m, s);
     }
     e
 }

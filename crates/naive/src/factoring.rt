@@ -1,11 +1,9 @@
 // The factorization of document 02's E8, over a dense matrix of floats: a plan's values are spread over it, the columns are worked through in the
 // words of the sentence, and what is left is gathered. Refusals 28 and 13 are right for every plan; the others, and what is left, for at most
 // 64 nodes, and `TOO_LARGE` stands for them beyond.
-use crate::check::list;
-use crate::elimination::sum;
 use crate::file::lent_refusal;
-use crate::lists::{end, entry, start};
-use crate::sets::{has, only, row, size, without};
+use crate::lists::{entries, nodes_in, start};
+use crate::sets::{has, only, row, without};
 
 // The greatest float that is finite.
 const GREATEST: f64 = 1.7976931348623157e308;
@@ -32,33 +30,11 @@ fn put_cell(m: &mut [f64; 4096], j: usize, i: usize, x: f64) {
     m[j % 64 * 64 + i % 64] = x;
 }
 
-// A lent value; 0 beyond the end.
-pub(crate) fn value(list: &[f64], i: usize) -> f64 {
-    if i < list.len() {
-        return list[i];
-    }
-    0.0
-}
-
-fn put_value(list: &mut [f64; 2016], e: usize, x: f64) {
-    if e < 2016 {
-        list[e] = x;
-    }
-}
-
-// The first values that are lent.
-pub(crate) fn first_diagonal(lent: &[f64]) -> [f64; 64] {
-    let mut list = [0.0; 64];
-    for i in 0..64usize {
-        list[i] = value(lent, i);
-    }
-    list
-}
-
-fn first_values(lent: &[f64]) -> [f64; 2016] {
-    let mut list = [0.0; 2016];
-    for e in 0..2016usize {
-        list[e] = value(lent, e);
+// The first values that are lent, 0 behind their end.
+pub(crate) fn first_values<const N: usize>(lent: &[f64]) -> [f64; N] {
+    let mut list = [0.0; N];
+    for (x, y) in list.iter_mut().zip(lent.iter()) {
+        *x = *y;
     }
     list
 }
@@ -71,8 +47,9 @@ fn spread_column(
     values: &[f64],
     j: usize,
 ) {
-    for e in start(column_starts, j)..end(column_starts, j) {
-        put_cell(m, j, entry(rows, e), value(values, e));
+    let column = entries(column_starts, rows, j);
+    for (i, x) in column.iter().zip(entries(column_starts, values, j)) {
+        put_cell(m, j, usize::from(*i), *x);
     }
 }
 
@@ -85,8 +62,8 @@ pub(crate) fn spread(
     values: &[f64],
 ) -> [f64; 4096] {
     let mut m = [0.0; 4096];
-    for j in 0..n {
-        put_cell(&mut m, j, j, value(diagonal, j));
+    for (j, x) in diagonal.iter().enumerate().take(n) {
+        put_cell(&mut m, j, j, *x);
         spread_column(&mut m, column_starts, rows, values, j);
     }
     m
@@ -94,10 +71,8 @@ pub(crate) fn spread(
 
 fn gather_diagonal(n: usize, m: &[f64; 4096]) -> [f64; 64] {
     let mut list = [0.0; 64];
-    for j in 0..64usize {
-        if j < n {
-            list[j] = cell(m, j, j);
-        }
+    for (j, x) in list.iter_mut().enumerate().take(n) {
+        *x = cell(m, j, j);
     }
     list
 }
@@ -110,8 +85,9 @@ fn gather_column(
     m: &[f64; 4096],
     j: usize,
 ) {
-    for e in start(column_starts, j)..end(column_starts, j) {
-        put_value(list, e, cell(m, j, entry(rows, e)));
+    let slots = list.iter_mut().skip(start(column_starts, j));
+    for (x, i) in slots.zip(entries(column_starts, rows, j)) {
+        *x = cell(m, j, usize::from(*i));
     }
 }
 
@@ -126,10 +102,8 @@ fn gather_values(n: usize, column_starts: &[u32], rows: &[u16], m: &[f64; 4096])
 // The rows of each of n columns.
 pub(crate) fn columns_of(n: usize, column_starts: &[u32], rows: &[u16]) -> [u64; 64] {
     let mut columns = [0u64; 64];
-    for j in 0..64usize {
-        if j < n {
-            columns[j] = list(column_starts, rows, j);
-        }
+    for (j, column) in columns.iter_mut().enumerate().take(n) {
+        *column = nodes_in(entries(column_starts, rows, j));
     }
     columns
 }
@@ -137,8 +111,8 @@ pub(crate) fn columns_of(n: usize, column_starts: &[u32], rows: &[u16]) -> [u64;
 // Column j's values before the division: "column values v".
 fn column_values(m: &[f64; 4096], j: usize) -> [f64; 64] {
     let mut v = [0.0; 64];
-    for i in 0..64usize {
-        v[i] = cell(m, j, i);
+    for (i, x) in v.iter_mut().enumerate() {
+        *x = cell(m, j, i);
     }
     v
 }
@@ -151,7 +125,7 @@ fn divide(m: &mut [f64; 4096], s: u64, j: usize) -> u64 {
         if has(s, i) {
             let v = cell(m, j, i);
             put_cell(m, j, i, v / d);
-            done = sum(done, 1);
+            done = done.saturating_add(1);
         }
     }
     done
@@ -165,7 +139,7 @@ fn subtract_from(m: &mut [f64; 4096], s: u64, j: usize, k: usize, v: f64) -> u64
             let product = cell(m, j, i) * v;
             let old = cell(m, k, i);
             put_cell(m, k, i, old - product);
-            done = sum(done, 1);
+            done = done.saturating_add(1);
         }
     }
     done
@@ -174,9 +148,9 @@ fn subtract_from(m: &mut [f64; 4096], s: u64, j: usize, k: usize, v: f64) -> u64
 // "For each pair of rows k ≤ i in that column, in ascending k".
 fn subtract(m: &mut [f64; 4096], s: u64, j: usize, v: &[f64; 64]) -> u64 {
     let mut done = 0u64;
-    for k in 0..64usize {
+    for (k, x) in v.iter().enumerate() {
         if has(s, k) {
-            done = sum(done, subtract_from(m, s, j, k, v[k]));
+            done = done.saturating_add(subtract_from(m, s, j, k, *x));
         }
     }
     done
@@ -186,7 +160,7 @@ fn subtract(m: &mut [f64; 4096], s: u64, j: usize, v: &[f64; 64]) -> u64 {
 fn eliminate_column(m: &mut [f64; 4096], s: u64, j: usize) -> u64 {
     let v = column_values(m, j);
     let divisions = divide(m, s, j);
-    sum(divisions, subtract(m, s, j, &v))
+    divisions.saturating_add(subtract(m, s, j, &v))
 }
 
 // 31: "a pivot that is not both finite and above zero".
@@ -204,14 +178,14 @@ struct Reached {
 // "Columns go in ascending order."
 fn eliminate(m: &mut [f64; 4096], n: usize, columns: &[u64; 64]) -> Reached {
     let mut done = 0u64;
-    for j in 0..n {
+    for (j, column) in columns.iter().enumerate().take(n) {
         if pivot_fails(cell(m, j, j)) {
             return Reached {
                 column: j,
                 operations: done,
             };
         }
-        done = sum(done, eliminate_column(m, row(columns, j), j));
+        done = done.saturating_add(eliminate_column(m, *column, j));
     }
     Reached {
         column: n,
@@ -221,44 +195,31 @@ fn eliminate(m: &mut [f64; 4096], n: usize, columns: &[u64; 64]) -> Reached {
 
 // The pivots stay on the diagonal.
 fn smallest(n: usize, m: &[f64; 4096]) -> f64 {
-    let mut d = cell(m, 0, 0);
-    for j in 0..n {
-        if cell(m, j, j) < d {
-            d = cell(m, j, j);
-        }
-    }
-    d
+    (0..n).fold(GREATEST, |d, j| d.min(cell(m, j, j)))
 }
 
 fn largest(n: usize, m: &[f64; 4096]) -> f64 {
-    let mut d = cell(m, 0, 0);
-    for j in 0..n {
-        if d < cell(m, j, j) {
-            d = cell(m, j, j);
-        }
-    }
-    d
+    (0..n).fold(0.0, |d, j| d.max(cell(m, j, j)))
 }
 
 // The pairs of two rows of s that have no slot, which no subtraction may aim at.
 fn strays_of(columns: &[u64; 64], s: u64) -> u64 {
     let mut aimed = s;
     let mut found = 0u64;
-    for k in 0..64usize {
+    for (k, column) in columns.iter().enumerate() {
         if has(s, k) {
             aimed = without(aimed, only(k));
-            found = sum(found, size(without(aimed, row(columns, k))) as u64);
+            found = found.saturating_add(u64::from(without(aimed, *column).count_ones()));
         }
     }
     found
 }
 
 fn strays(columns: &[u64; 64]) -> u64 {
-    let mut found = 0u64;
-    for j in 0..64usize {
-        found = sum(found, strays_of(columns, row(columns, j)));
-    }
-    found
+    columns.iter().fold(
+        0u64,
+        |found, s| found.saturating_add(strays_of(columns, *s)),
+    )
 }
 
 // A refusal that leaves both buffers as found.
@@ -269,7 +230,7 @@ fn refused(number: u32, diagonal: &[f64], values: &[f64]) -> NaiveFactor {
         largest: 0.0,
         operations: 0,
         strays: 0,
-        diagonal: first_diagonal(diagonal),
+        diagonal: first_values(diagonal),
         values: first_values(values),
     }
 }

@@ -2,52 +2,37 @@
 // and 28 of reading, and 28 and 13 of writing, are right for every file; the others, a plan and a file for at most 64 nodes, and `TOO_LARGE` stands
 // for them beyond.
 use crate::contents::contents;
-use crate::elimination::{multiplications, sum};
+use crate::elimination::multiplications;
 use crate::head::{
     Head, head_in, head_refusal, length, number16, numbers_fail, order_at, unknowns_fail,
 };
-use crate::lists::{end, entry, falling, plus, start, total};
-use crate::sets::wide16;
+use crate::lists::{end, falling, start, total};
 use crate::{NaivePlan, TOO_LARGE, refused};
 
 // Where the parts, the row counts and the rows stand, for n and p that pass 13.
 fn parts_at(h: Head) -> usize {
-    plus(order_at(h.version), h.n % 65536 * 2)
+    order_at(h.version).saturating_add(h.n % 65536 * 2)
 }
 
 fn parents_at(h: Head) -> usize {
-    plus(parts_at(h), 2)
+    parts_at(h).saturating_add(2)
 }
 
 fn counts_at(h: Head) -> usize {
-    plus(parts_at(h), h.p % 65536 * 4)
+    parts_at(h).saturating_add(h.p % 65536 * 4)
 }
 
 fn rows_at(h: Head) -> usize {
-    plus(counts_at(h), h.n % 65536 * 2)
+    counts_at(h).saturating_add(h.n % 65536 * 2)
 }
 
 // k numbers of two bytes, the first at `from` and each so many bytes after the one before.
-fn numbers(bytes: &[u8], from: usize, apart: usize, k: usize) -> [u16; 64] {
-    let mut list = [0u16; 64];
+fn numbers<const N: usize>(bytes: &[u8], from: usize, apart: usize, k: usize) -> [u16; N] {
+    let mut list = [0u16; N];
     let mut at = from;
-    for i in 0..64usize {
-        if i < k {
-            list[i] = number16(bytes, at);
-            at = plus(at, apart);
-        }
-    }
-    list
-}
-
-fn row_numbers(bytes: &[u8], from: usize, s: usize) -> [u16; 2016] {
-    let mut list = [0u16; 2016];
-    let mut at = from;
-    for e in 0..2016usize {
-        if e < s {
-            list[e] = number16(bytes, at);
-            at = plus(at, 2);
-        }
+    for x in list.iter_mut().take(k) {
+        *x = number16(bytes, at);
+        at = at.saturating_add(apart);
     }
     list
 }
@@ -55,63 +40,45 @@ fn row_numbers(bytes: &[u8], from: usize, s: usize) -> [u16; 2016] {
 // Column j starts behind the rows of the columns before it.
 fn starts_of(counts: &[u16; 64], n: usize) -> [u32; 65] {
     let mut starts = [0u32; 65];
-    for j in 0..64usize {
-        if j < n {
-            starts[j + 1] = (total(counts, j + 1) % 4294967296) as u32;
-        }
+    for (j, start) in starts.iter_mut().enumerate().take(n.saturating_add(1)) {
+        *start = (total(counts, j) % 4294967296) as u32;
     }
     starts
-}
-
-// The position of node v.
-fn position_of(order: &[u16; 64], v: usize) -> u16 {
-    for i in 0..64u16 {
-        if wide16(order[i as usize]) == v {
-            return i;
-        }
-    }
-    0
 }
 
 // The position of each of n nodes.
 fn positions_of(order: &[u16; 64], n: usize) -> [u16; 64] {
     let mut positions = [0u16; 64];
-    for v in 0..64usize {
-        if v < n {
-            positions[v] = position_of(order, v);
-        }
+    for (v, position) in positions.iter_mut().enumerate().take(n) {
+        *position = order.iter().position(|x| usize::from(*x) == v).unwrap_or(0) as u16;
     }
     positions
 }
 
 // The multiplications of columns with so many rows.
 fn products(counts: &[u16; 64], n: usize) -> u64 {
-    let mut m = 0u64;
-    for j in 0..64usize {
-        if j < n {
-            m = sum(m, multiplications((entry(counts, j) % 65536) as u32));
-        }
-    }
-    m
+    counts.iter().take(n).fold(0u64, |m, count| {
+        m.saturating_add(multiplications(u32::from(*count)))
+    })
 }
 
 // The first of checks 15 to 19 that fails, or 0.
 fn contents_refusal(bytes: &[u8], h: Head) -> u32 {
-    let counts = numbers(bytes, counts_at(h), 2, h.n);
+    let counts = numbers::<64>(bytes, counts_at(h), 2, h.n);
     let uneven = total(&counts, h.n) != h.s;
     let starts = starts_of(&counts, h.n);
-    let rows = row_numbers(bytes, rows_at(h), h.s);
-    let order = numbers(bytes, order_at(h.version), 2, h.n);
-    let sizes = numbers(bytes, parts_at(h), 4, h.p);
-    let parents = numbers(bytes, parents_at(h), 4, h.p);
+    let rows = numbers::<2016>(bytes, rows_at(h), 2, h.s);
+    let order = numbers::<64>(bytes, order_at(h.version), 2, h.n);
+    let sizes = numbers::<64>(bytes, parts_at(h), 4, h.p);
+    let parents = numbers::<64>(bytes, parents_at(h), 4, h.p);
     contents(h.n, h.p, &order, &sizes, &parents, uneven, &starts, &rows)
 }
 
 // The plan that stands in the bytes.
 fn plan_in(bytes: &[u8], h: Head) -> NaivePlan {
-    let order = numbers(bytes, order_at(h.version), 2, h.n);
+    let order = numbers::<64>(bytes, order_at(h.version), 2, h.n);
     let positions = positions_of(&order, h.n);
-    let counts = numbers(bytes, counts_at(h), 2, h.n);
+    let counts = numbers::<64>(bytes, counts_at(h), 2, h.n);
     NaivePlan {
         refusal: 0,
         nodes: (h.n % 65536) as u32,
@@ -124,7 +91,7 @@ fn plan_in(bytes: &[u8], h: Head) -> NaivePlan {
         sizes: numbers(bytes, parts_at(h), 4, h.p),
         parents: numbers(bytes, parents_at(h), 4, h.p),
         column_starts: starts_of(&counts, h.n),
-        rows: row_numbers(bytes, rows_at(h), h.s),
+        rows: numbers(bytes, rows_at(h), 2, h.s),
     }
 }
 
@@ -222,15 +189,10 @@ fn put_head(bytes: &mut [u8; LONGEST], h: Head) -> usize {
 
 fn put_list(bytes: &mut [u8; LONGEST], at: usize, list: &[u16], k: usize) -> usize {
     let mut next = at;
-    for i in 0..k {
-        next = put16(bytes, next, entry(list, i));
+    for x in list.iter().take(k) {
+        next = put16(bytes, next, usize::from(*x));
     }
     next
-}
-
-fn put_part(bytes: &mut [u8; LONGEST], at: usize, size: usize, parent: usize) -> usize {
-    let next = put16(bytes, at, size);
-    put16(bytes, next, parent)
 }
 
 fn put_parts(
@@ -241,26 +203,19 @@ fn put_parts(
     p: usize,
 ) -> usize {
     let mut next = at;
-    for k in 0..p {
-        next = put_part(bytes, next, entry(sizes, k), entry(parents, k));
+    for (size, parent) in sizes.iter().zip(parents.iter()).take(p) {
+        next = put16(bytes, next, usize::from(*size));
+        next = put16(bytes, next, usize::from(*parent));
     }
     next
 }
 
-// How many rows column j has.
-fn count(column_starts: &[u32], j: usize) -> usize {
-    let first = start(column_starts, j);
-    let last = end(column_starts, j);
-    if last < first {
-        return 0;
-    }
-    last - first
-}
-
+// How many rows each of n columns has.
 fn put_counts(bytes: &mut [u8; LONGEST], at: usize, column_starts: &[u32], n: usize) -> usize {
     let mut next = at;
     for j in 0..n {
-        next = put16(bytes, next, count(column_starts, j));
+        let count = end(column_starts, j).saturating_sub(start(column_starts, j));
+        next = put16(bytes, next, count);
     }
     next
 }

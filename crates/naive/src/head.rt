@@ -2,7 +2,7 @@
 // the checks that need no more of a file, 10 to 14 with 28 among them. Right for every file.
 ghost use Rattle.std.specs.Prelude.{◌≡◌, cond, ◌-◌, ◌*◌, ◌/◌, ltb};
 
-use crate::lists::plus;
+use crate::lists::item;
 
 #[derive(Clone, Copy)]
 pub(crate) struct Head {
@@ -13,25 +13,14 @@ pub(crate) struct Head {
     pub(crate) s: usize,
 }
 
-// A byte; 0 beyond the end.
-pub(crate) fn byte(bytes: &[u8], at: usize) -> u8 {
-    if at < bytes.len() {
-        return bytes[at];
-    }
-    0
-}
-
 // The number of two bytes.
 pub(crate) fn number16(bytes: &[u8], at: usize) -> u16 {
-    if at < bytes.len() {
-        return byte(bytes, at) as u16 + byte(bytes, at + 1) as u16 * 256;
-    }
-    0
+    u16::from_le_bytes([item(bytes, at), item(bytes, at.saturating_add(1))])
 }
 
 // The number of four bytes.
 fn number32(bytes: &[u8], at: usize) -> usize {
-    number16(bytes, at) as usize + number16(bytes, plus(at, 2)) as usize * 65536
+    usize::from(number16(bytes, at)) + usize::from(number16(bytes, at.saturating_add(2))) * 65536
 }
 
 // n(n − 1)/2 for n of at most 4,096, and 0 beyond.
@@ -67,36 +56,33 @@ fn n_at(version: usize) -> usize {
 
 // Where the order begins.
 pub(crate) fn order_at(version: usize) -> usize {
-    plus(n_at(version), 12)
+    n_at(version).saturating_add(12)
 }
 
 // Version 1 is taken "as one unknown".
 fn unknowns_in(bytes: &[u8], version: usize) -> usize {
     if version == 2 {
-        return number16(bytes, 5) as usize;
+        return usize::from(number16(bytes, 5));
     }
     1
 }
 
 // The head that stands in the bytes.
 pub(crate) fn head_in(bytes: &[u8]) -> Head {
-    let version = number16(bytes, 3) as usize;
+    let version = usize::from(number16(bytes, 3));
     let at = n_at(version);
     Head {
         version: version,
         unknowns: unknowns_in(bytes, version),
         n: number32(bytes, at),
-        p: number32(bytes, plus(at, 4)),
-        s: number32(bytes, plus(at, 8)),
+        p: number32(bytes, at.saturating_add(4)),
+        s: number32(bytes, at.saturating_add(8)),
     }
 }
 
 // The length of the file, for n, p and s that pass 13: 17, or in version 2 19, + 4n + 4p + 2s.
 pub(crate) fn length(h: Head) -> usize {
-    plus(
-        order_at(h.version),
-        h.n % 65536 * 4 + h.p % 65536 * 4 + h.s % 16777216 * 2,
-    )
+    order_at(h.version).saturating_add(h.n % 65536 * 4 + h.p % 65536 * 4 + h.s % 16777216 * 2)
 }
 
 // The first of 10, 11, 12, and 10 for version 2, that fails, or 0, where the reader knows the versions from 1 to `newest`.
@@ -104,10 +90,10 @@ fn version_refusal(bytes: &[u8], newest: usize) -> u32 {
     if bytes.len() < 17 {
         return 10;
     }
-    if byte(bytes, 0) != b'N' || byte(bytes, 1) != b'D' || byte(bytes, 2) != b'P' {
+    if !bytes.starts_with(b"NDP") {
         return 11;
     }
-    let version = number16(bytes, 3) as usize;
+    let version = usize::from(number16(bytes, 3));
     if version < 1 || newest < version {
         return 12;
     }

@@ -1,6 +1,5 @@
 // What the factor holds at a pair of positions, for document 02's E9: the answer about the pair, and the number that stands there. Right for every n.
-use crate::factoring::value;
-use crate::lists::start;
+use crate::lists::{item, start};
 use crate::questions::{layout_refusal, slot_of_pair};
 
 // The answer: a refusal that is not 0, a value that is held, or neither: "there is no slot". The value is 0 where none is held.
@@ -46,10 +45,10 @@ pub fn held_at(
     }
     let pair = slot_of_pair(n, column_starts, rows, a, b);
     if pair.diagonal {
-        return number(value(diagonal, a));
+        return number(item(diagonal, a));
     }
     if pair.found {
-        return number(value(values, pair.slot));
+        return number(item(values, pair.slot));
     }
     nothing(pair.refusal)
 }

@@ -2,9 +2,8 @@
 // are neighbours exactly when, in either mesh, the nodes they come from were". Right for every input.
 use crate::check;
 use crate::check::NEIGHBOURS;
-use crate::contents::times;
-use crate::lists::{end, entry, plus, start, total};
-use crate::sets::{has, only, size};
+use crate::lists::{entries, entry, times, total};
+use crate::sets::{has, only};
 use crate::text::{NaiveMesh, refused};
 
 // The most nodes of a mesh.
@@ -15,22 +14,12 @@ const CELLS: usize = NODES * 64;
 
 // Whether one of the nodes is none of n.
 fn names_none(list: &[u16], n: usize) -> bool {
-    for k in 0..list.len() {
-        if n <= entry(list, k) {
-            return true;
-        }
-    }
-    false
+    list.iter().any(|v| n <= usize::from(*v))
 }
 
 // Whether a node stands in the list twice.
 fn repeats(list: &[u16]) -> bool {
-    for k in 0..list.len() {
-        if times(list, list.len(), entry(list, k)) != 1 {
-            return true;
-        }
-    }
-    false
+    list.iter().any(|v| times(list, v) != 1)
 }
 
 // 32 where "the pairs' two lists differ in length, or a pair names a node that does not exist"; or else 33 for "a node of either mesh paired twice";
@@ -45,68 +34,36 @@ fn pairs_refusal(n1: usize, n2: usize, first: &[u16], second: &[u16]) -> u32 {
     0
 }
 
-// Where a node stands in the list, whose length is the answer where it does not.
-fn place(list: &[u16], v: usize) -> usize {
-    for k in 0..list.len() {
-        if entry(list, k) == v {
-            return k;
-        }
-    }
-    list.len()
-}
-
-// How many of the list's nodes are below v.
-fn below(list: &[u16], v: usize) -> usize {
-    let mut found = 0usize;
-    for k in 0..list.len() {
-        if entry(list, k) < v {
-            found = plus(found, 1);
-        }
-    }
-    found
-}
-
 // The number in the joined mesh of node w of the second: its partner's, or else, behind the first mesh's, its place among those without a partner.
 fn number(n1: usize, first: &[u16], second: &[u16], w: usize) -> usize {
-    let k = place(second, w);
-    if k < first.len() {
-        return entry(first, k);
+    let mut partners = first.iter().zip(second.iter());
+    match partners.find(|(_, x)| usize::from(**x) == w) {
+        Some((v, _)) => usize::from(*v),
+        None => {
+            let paired = second.iter().filter(|x| usize::from(**x) < w).count();
+            n1.saturating_add(w.saturating_sub(paired))
+        }
     }
-    let paired = below(second, w);
-    if w < paired {
-        return 0;
-    }
-    plus(n1, w - paired)
 }
 
 // The numbers of the second mesh's nodes; without nodes of a first mesh and without pairs, each node's own.
 fn numbers(n1: usize, n2: usize, first: &[u16], second: &[u16]) -> [u16; NODES] {
     let mut list = [0u16; NODES];
-    for w in 0..NODES {
-        if w < n2 {
-            list[w] = (number(n1, first, second, w) % 65536) as u16;
-        }
+    for (w, x) in list.iter_mut().enumerate().take(n2) {
+        *x = (number(n1, first, second, w) % 65536) as u16;
     }
     list
 }
 
 // Puts w next to v in the matrix.
 fn mark(m: &mut [u64; CELLS], v: usize, w: usize) {
-    if v < NODES {
-        if w < NODES {
-            let k = v * 64 + w / 64;
-            m[k] = m[k] | only(w % 64);
-        }
+    if v < NODES && w < NODES {
+        m[v * 64 + w / 64] |= only(w % 64);
     }
 }
 
 fn marked(m: &[u64; CELLS], v: usize, w: usize) -> bool {
-    if v < NODES {
-        if w < NODES {
-            return has(m[v * 64 + w / 64], w % 64);
-        }
-    }
-    false
+    v < NODES && w < NODES && has(m[v * 64 + w / 64], w % 64)
 }
 
 // Puts the numbers of the neighbours of a mesh's node u next to its own.
@@ -117,8 +74,8 @@ fn mark_list(
     neighbours: &[u16],
     u: usize,
 ) {
-    for e in start(starts, u)..end(starts, u) {
-        mark(m, entry(numbers, u), entry(numbers, entry(neighbours, e)));
+    for w in entries(starts, neighbours, u) {
+        mark(m, entry(numbers, u), entry(numbers, usize::from(*w)));
     }
 }
 
@@ -136,32 +93,19 @@ fn mark_mesh(
 
 // How many neighbours v has.
 fn degree(m: &[u64; CELLS], v: usize) -> u16 {
-    let mut found = 0u32;
-    for k in 0..64usize {
-        found = found % 8192 + size(m[v % NODES * 64 + k]) % 65;
-    }
-    (found % 65536) as u16
+    let sets = m.iter().skip(v.saturating_mul(64)).take(64);
+    sets.fold(0u16, |found, s| {
+        found.saturating_add((s.count_ones() % 65) as u16)
+    })
 }
 
 // How many neighbours each of n nodes has.
 fn degrees(m: &[u64; CELLS], n: usize) -> [u16; NODES] {
     let mut list = [0u16; NODES];
-    for v in 0..NODES {
-        if v < n {
-            list[v] = degree(m, v);
-        }
+    for (v, x) in list.iter_mut().enumerate().take(n) {
+        *x = degree(m, v);
     }
     list
-}
-
-// "A list longer than 26 entries".
-fn has_long_list(degrees: &[u16; NODES]) -> bool {
-    for v in 0..NODES {
-        if NEIGHBOURS < entry(degrees, v) {
-            return true;
-        }
-    }
-    false
 }
 
 // The first of checks 3, 26 and 8 that fails for the joined mesh of n nodes, or 0. The last two numbers are the lengths of the lent lists.
@@ -170,7 +114,8 @@ fn joined_refusal(degrees: &[u16; NODES], n: usize, starts: usize, neighbours: u
     if 65536 < entries {
         return 3;
     }
-    if has_long_list(degrees) {
+    // "a list longer than 26 entries"
+    if degrees.iter().any(|d| NEIGHBOURS < usize::from(*d)) {
         return 26;
     }
     if starts <= n || neighbours < entries {
@@ -181,31 +126,16 @@ fn joined_refusal(degrees: &[u16; NODES], n: usize, starts: usize, neighbours: u
 
 // Puts the starts of n nodes and the end: how many entries the nodes before have.
 fn put_starts(starts: &mut [u32], degrees: &[u16; NODES], n: usize) {
-    for v in 0..starts.len() {
-        if n < v {
-            return;
-        }
-        starts[v] = (total(degrees, v) % 4294967296) as u32;
+    for (v, start) in starts.iter_mut().enumerate().take(n.saturating_add(1)) {
+        *start = (total(degrees, v) % 4294967296) as u32;
     }
-}
-
-// Puts w where it is a neighbour of v, and gives where the next one goes.
-fn put_entry(neighbours: &mut [u16], at: usize, m: &[u64; CELLS], v: usize, w: usize) -> usize {
-    if !marked(m, v, w) {
-        return at;
-    }
-    if neighbours.len() <= at {
-        return at;
-    }
-    neighbours[at] = (w % 65536) as u16;
-    at + 1
 }
 
 // Puts v's neighbours, all below n and ascending, from a place on.
 fn put_list(neighbours: &mut [u16], from: usize, m: &[u64; CELLS], n: usize, v: usize) {
-    let mut at = from;
-    for w in 0..n {
-        at = put_entry(neighbours, at, m, v, w);
+    let nodes = (0..n).filter(|w| marked(m, v, *w));
+    for (neighbour, w) in neighbours.iter_mut().skip(from).zip(nodes) {
+        *neighbour = (w % 65536) as u16;
     }
 }
 
@@ -256,10 +186,7 @@ fn lent_refusal(
 
 // How many nodes the joined mesh has: no pair has two nodes of the second mesh.
 fn joined_nodes(n1: usize, n2: usize, pairs: usize) -> usize {
-    if n2 < pairs {
-        return n1;
-    }
-    plus(n1, n2 - pairs)
+    n1.saturating_add(n2.saturating_sub(pairs))
 }
 
 // What joining two meshes hands out. The lent lists are as found where it is refused, and behind what is used.

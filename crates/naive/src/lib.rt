@@ -121,7 +121,7 @@ pub fn plan(
         return refused(8);
     }
     let p = planned(unknowns, n, starts, neighbours);
-    if rows < sets::wide32(p.slots) {
+    if rows < p.slots as usize {
         return refused(9);
     }
     p

@@ -1,59 +1,57 @@
 // Entries of lent lists. An entry beyond the end is 0.
-use crate::sets::{wide16, wide32};
+use crate::sets::only;
 
-pub(crate) fn entry(list: &[u16], i: usize) -> usize {
-    if i < list.len() {
-        return wide16(list[i]);
-    }
-    0
+pub(crate) fn item<T: Copy + Default>(list: &[T], i: usize) -> T {
+    list.get(i).copied().unwrap_or_default()
 }
 
-// The same for numbers of 32 bits.
-pub(crate) fn long_entry(list: &[u32], i: usize) -> usize {
-    if i < list.len() {
-        return wide32(list[i]);
-    }
-    0
+pub(crate) fn entry(list: &[u16], i: usize) -> usize {
+    usize::from(item(list, i))
 }
 
 // Where v's list begins, or column v.
 pub(crate) fn start(starts: &[u32], v: usize) -> usize {
-    long_entry(starts, v)
+    item(starts, v) as usize
 }
 
 // Where it ends.
 pub(crate) fn end(starts: &[u32], v: usize) -> usize {
-    if v < starts.len() {
-        return start(starts, v + 1);
-    }
-    0
+    start(starts, v.saturating_add(1))
+}
+
+// The entries from one place up to, not including, another; none where there are not so many.
+pub(crate) fn between<'a, T>(list: &'a [T], first: usize, end: usize) -> &'a [T] {
+    list.get(first..end).unwrap_or(&[])
+}
+
+// What is lent for v's list, or for column v.
+pub(crate) fn entries<'a, T>(starts: &[u32], list: &'a [T], v: usize) -> &'a [T] {
+    between(list, start(starts, v), end(starts, v))
+}
+
+// The nodes in a list.
+pub(crate) fn nodes_in(list: &[u16]) -> u64 {
+    list.iter().fold(0u64, |s, v| s | only(usize::from(*v)))
 }
 
 // Whether one of the first n ends before it begins.
 pub(crate) fn falling(n: usize, starts: &[u32]) -> bool {
-    for v in 0..n {
-        if end(starts, v) < start(starts, v) {
-            return true;
-        }
-    }
-    false
+    starts.windows(2).take(n).any(|w| !w.is_sorted())
 }
 
-// A sum, exact where both numbers are below 2^32.
-pub(crate) fn plus(a: usize, b: usize) -> usize {
-    if a < 4294967296 {
-        if b < 4294967296 {
-            return a + b;
-        }
-    }
-    4294967296
+// Whether the numbers of a list are strictly ascending.
+pub(crate) fn ascending(list: &[u16]) -> bool {
+    list.iter().zip(list.iter().skip(1)).all(|(x, y)| x < y)
 }
 
 // The sum of the first k entries.
 pub(crate) fn total(list: &[u16], k: usize) -> usize {
-    let mut t = 0usize;
-    for i in 0..k {
-        t = plus(t, entry(list, i));
-    }
-    t
+    list.iter()
+        .take(k)
+        .fold(0usize, |t, x| t.saturating_add(usize::from(*x)))
+}
+
+// How often x stands in the list.
+pub(crate) fn times<T: PartialEq>(list: &[T], x: &T) -> usize {
+    list.iter().filter(|y| *y == x).count()
 }

@@ -1,5 +1,9 @@
 // From mesh to parts, each sentence by itself.
-use crate::sets::{around, has, only, row, size, smallest, without};
+use crate::lists::item;
+use crate::sets::{around, has, only, row, smallest, without};
+
+// What stands in the place of the parent of a part that has none.
+pub(crate) const NO_PARENT: u16 = 65535;
 
 // The levels from a root; `last` is the number of the last one.
 #[derive(Clone, Copy)]
@@ -8,11 +12,17 @@ struct Levels {
     last: usize,
 }
 
-fn level(l: Levels, i: usize) -> u64 {
-    if i < 64 {
-        return l.sets[i];
+impl Levels {
+    fn level(&self, i: usize) -> u64 {
+        item(&self.sets, i)
     }
-    0
+
+    // "The node count of its widest level".
+    fn widest(&self) -> u32 {
+        self.sets
+            .iter()
+            .fold(0u32, |most, s| most.max(s.count_ones()))
+    }
 }
 
 fn levels_from(m: &[u64; 64], region: u64, root: usize) -> Levels {
@@ -29,7 +39,7 @@ fn levels_from(m: &[u64; 64], region: u64, root: usize) -> Levels {
         }
         l.sets[i + 1] = next;
         l.last = i + 1;
-        seen = seen | next;
+        seen |= next;
     }
     l
 }
@@ -37,7 +47,7 @@ fn levels_from(m: &[u64; 64], region: u64, root: usize) -> Levels {
 // The nodes of s that a path inside s joins to v.
 fn component(m: &[u64; 64], s: u64, v: usize) -> u64 {
     let mut c = only(v);
-    for turn in 0..64usize {
+    for _ in 0..64usize {
         let more = c | (around(m, c) & s);
         if more == c {
             return c;
@@ -49,67 +59,51 @@ fn component(m: &[u64; 64], s: u64, v: usize) -> u64 {
 
 // How many neighbours v has in the region.
 fn degree(m: &[u64; 64], region: u64, v: usize) -> u32 {
-    size(row(m, v) & region)
+    (row(m, v) & region).count_ones()
 }
 
 // The node of s of least degree, the smallest on a tie.
 fn least_degree(m: &[u64; 64], region: u64, s: u64) -> usize {
-    let mut best = smallest(s);
-    for v in 0..64usize {
-        if has(s, v) && degree(m, region, v) < degree(m, region, best) {
-            best = v;
-        }
-    }
-    best
-}
-
-// "The node count of its widest level".
-fn widest(l: Levels) -> u32 {
-    let mut most = 0u32;
-    for i in 0..64usize {
-        let count = size(l.sets[i]);
-        if most < count {
-            most = count;
-        }
-    }
-    most
+    (0..64usize)
+        .filter(|v| has(s, *v))
+        .min_by_key(|v| degree(m, region, *v))
+        .unwrap_or(64)
 }
 
 // "A candidate replaces the root if its ℓ is greater, or if ℓ is equal and its widest level is smaller". Each is given by its levels.
-fn replaces(candidate: Levels, root: Levels) -> bool {
+fn replaces(candidate: &Levels, root: &Levels) -> bool {
     if candidate.last == root.last {
-        return widest(candidate) < widest(root);
+        return candidate.widest() < root.widest();
     }
     root.last < candidate.last
 }
 
-// The first candidate in the last of the root's levels that replaces the root, or 64 where none does.
-fn replacement(m: &[u64; 64], region: u64, l: Levels) -> usize {
-    let mut rest = level(l, l.last);
-    for turn in 0..64usize {
+// The first candidate in the last of the root's levels that replaces the root.
+fn replacement(m: &[u64; 64], region: u64, l: &Levels) -> Option<usize> {
+    let mut rest = l.level(l.last);
+    for _ in 0..64usize {
         if rest == 0 {
-            return 64;
+            return None;
         }
         let c = component(m, rest, smallest(rest));
         let v = least_degree(m, region, c);
-        if replaces(levels_from(m, region, v), l) {
-            return v;
+        if replaces(&levels_from(m, region, v), l) {
+            return Some(v);
         }
         rest = without(rest, c);
     }
-    64
+    None
 }
 
 // The pseudo-peripheral root of a region (document 01: starting root). What `replaces` compares gets better with every replacement, so no node
 // is the root twice, and as many turns as there are nodes are enough.
 fn root(m: &[u64; 64], region: u64) -> usize {
     let mut r = smallest(region);
-    for turn in 0..64usize {
-        let v = replacement(m, region, levels_from(m, region, r));
-        if v == 64 {
-            return r;
+    for _ in 0..64usize {
+        match replacement(m, region, &levels_from(m, region, r)) {
+            Some(v) => r = v,
+            None => return r,
         }
-        r = v;
     }
     r
 }
@@ -122,7 +116,7 @@ fn part_of(m: &[u64; 64], region: u64) -> u64 {
         return region;
     }
     let j = (last % 64 + 1) / 2;
-    level(l, j) & around(m, level(l, j + 1))
+    l.level(j) & around(m, l.level(j + 1))
 }
 
 // The parts and positions given so far.
@@ -136,82 +130,72 @@ pub(crate) struct Parts {
     pub(crate) parents: [u16; 64],
 }
 
-// Node v at the next position.
-fn place(mut p: Parts, v: usize) -> Parts {
-    let at = p.placed;
-    if at < 64 && v < 64 {
-        p.order[at] = v as u16;
-        p.positions[v] = at as u16;
-        p.placed = at + 1;
-    }
-    p
-}
-
-// The nodes of s at the next positions, ascending.
-fn place_all(p: Parts, s: u64) -> Parts {
-    let mut q = p;
-    for v in 0..64usize {
-        if has(s, v) {
-            q = place(q, v);
+impl Parts {
+    // Node v at the next position.
+    fn place(&mut self, v: usize) {
+        let at = self.placed;
+        if at < 64 && v < 64 {
+            self.order[at] = v as u16;
+            self.positions[v] = at as u16;
+            self.placed = at + 1;
         }
     }
-    q
-}
 
-// The next part is the parent (document 01: father) of those from `first` on that have none yet.
-fn adopt(p: Parts, first: usize) -> Parts {
-    let mut q = p;
-    let parent = (q.parts % 64) as u16;
-    for k in 0..64usize {
-        if first <= k && k < q.parts && q.parents[k] == 65535 {
-            q.parents[k] = parent;
+    // The nodes of s at the next positions, ascending.
+    fn place_all(&mut self, s: u64) {
+        for v in 0..64usize {
+            if has(s, v) {
+                self.place(v);
+            }
         }
     }
-    q
-}
 
-// One part more, of the nodes of s.
-fn add_part(p: Parts, s: u64) -> Parts {
-    let mut q = place_all(p, s);
-    let k = q.parts;
-    if k < 64 {
-        q.sizes[k] = (size(s) % 65) as u16;
-        q.parents[k] = 65535;
-        q.parts = k + 1;
+    // The next part is the parent (document 01: father) of those from `first` on that have none yet.
+    fn adopt(&mut self, first: usize) {
+        let next = (self.parts % 64) as u16;
+        for parent in self.parents.iter_mut().take(self.parts).skip(first) {
+            if *parent == NO_PARENT {
+                *parent = next;
+            }
+        }
     }
-    q
+
+    // One part more, of the nodes of s.
+    fn add_part(&mut self, s: u64) {
+        self.place_all(s);
+        let k = self.parts;
+        if k < 64 {
+            self.sizes[k] = (s.count_ones() % 65) as u16;
+            self.parents[k] = NO_PARENT;
+            self.parts = k + 1;
+        }
+    }
 }
 
 // Numbers the regions that s falls into, by smallest node: of each the regions left by its cut, then its part. `turns` is at least the number of
 // nodes of s.
-fn number(m: &[u64; 64], s: u64, turns: usize, p: Parts) -> Parts {
-    if s == 0 {
-        return p;
-    }
-    if turns < 1 {
-        return p;
+fn number(m: &[u64; 64], s: u64, turns: usize, p: &mut Parts) {
+    if s == 0 || turns == 0 {
+        return;
     }
     let region = component(m, s, smallest(s));
     let part = part_of(m, region);
     let first = p.parts;
-    let q = number(m, without(region, part), turns - 1, p);
-    let r = add_part(adopt(q, first), part);
-    number(m, without(s, region), turns - 1, r)
+    number(m, without(region, part), turns - 1, p);
+    p.adopt(first);
+    p.add_part(part);
+    number(m, without(s, region), turns - 1, p);
 }
 
 // The nodes 0 to n − 1.
 fn nodes(n: usize) -> u64 {
-    let mut s = 0u64;
-    for v in 0..64usize {
-        if v < n {
-            s = s | only(v);
-        }
-    }
-    s
+    (0..64usize)
+        .filter(|v| *v < n)
+        .fold(0u64, |s, v| s | only(v))
 }
 
 pub(crate) fn dissect(m: &[u64; 64], n: usize) -> Parts {
-    let p = Parts {
+    let mut p = Parts {
         placed: 0,
         parts: 0,
         order: [0; 64],
@@ -219,5 +203,6 @@ pub(crate) fn dissect(m: &[u64; 64], n: usize) -> Parts {
         sizes: [0; 64],
         parents: [0; 64],
     };
-    number(m, nodes(n), 64, p)
+    number(m, nodes(n), 64, &mut p);
+    p
 }

@@ -1,6 +1,6 @@
 // The questions about a pair, a slot and a column of a layout, and the companion of the last, by looking through columns and rows.
 use crate::contents::rows_fail;
-use crate::lists::{end, entry, falling, start};
+use crate::lists::{end, entries, entry, falling, start};
 
 // The answer about a pair: a refusal that is not 0, "diagonal", a slot, or none of these: "no slot".
 #[derive(Clone, Copy)]
@@ -29,16 +29,11 @@ pub struct NaiveColumn {
 
 // "starts not n + 1 long, first not 0, falling, last above the rows' length, or rows failing 17's rule"
 fn no_layout(n: usize, column_starts: &[u32], rows: &[u16]) -> bool {
-    if column_starts.len() == 0 {
-        return true;
-    }
-    if column_starts.len() - 1 != n {
-        return true;
-    }
-    if start(column_starts, 0) != 0 || falling(n, column_starts) {
-        return true;
-    }
-    rows.len() < start(column_starts, n) || rows_fail(n, column_starts, rows)
+    column_starts.len().checked_sub(1) != Some(n)
+        || start(column_starts, 0) != 0
+        || falling(n, column_starts)
+        || rows.len() < start(column_starts, n)
+        || rows_fail(n, column_starts, rows)
 }
 
 // 1, then 22.
@@ -75,31 +70,16 @@ fn nothing(refusal: u32) -> NaivePair {
 
 // The slot of row i in column j.
 fn search(column_starts: &[u32], rows: &[u16], j: usize, i: usize) -> NaivePair {
-    for e in start(column_starts, j)..end(column_starts, j) {
-        if entry(rows, e) == i {
-            return NaivePair {
-                refusal: 0,
-                diagonal: false,
-                found: true,
-                slot: e,
-            };
-        }
+    let column = entries(column_starts, rows, j);
+    match column.iter().position(|x| usize::from(*x) == i) {
+        Some(k) => NaivePair {
+            refusal: 0,
+            diagonal: false,
+            found: true,
+            slot: start(column_starts, j).saturating_add(k),
+        },
+        None => nothing(0),
     }
-    nothing(0)
-}
-
-fn greater(a: usize, b: usize) -> usize {
-    if a < b {
-        return b;
-    }
-    a
-}
-
-fn lesser(a: usize, b: usize) -> usize {
-    if a < b {
-        return a;
-    }
-    b
 }
 
 // A pair of positions, in either order.
@@ -110,7 +90,7 @@ pub fn slot_of_pair(
     a: usize,
     b: usize,
 ) -> NaivePair {
-    let number = refusal(n, column_starts, rows, greater(a, b));
+    let number = refusal(n, column_starts, rows, a.max(b));
     if number != 0 {
         return nothing(number);
     }
@@ -122,7 +102,7 @@ pub fn slot_of_pair(
             slot: 0,
         };
     }
-    search(column_starts, rows, lesser(a, b), greater(a, b))
+    search(column_starts, rows, a.min(b), a.max(b))
 }
 
 fn no_pair(refusal: u32) -> NaiveSlot {
@@ -135,12 +115,9 @@ fn no_pair(refusal: u32) -> NaiveSlot {
 
 // The column that has slot s between its start and its end, or n.
 fn column_with(n: usize, column_starts: &[u32], s: usize) -> usize {
-    for j in 0..n {
-        if start(column_starts, j) <= s && s < end(column_starts, j) {
-            return j;
-        }
-    }
-    n
+    (0..n)
+        .find(|j| start(column_starts, *j) <= s && s < end(column_starts, *j))
+        .unwrap_or(n)
 }
 
 // The pair of slot s. 27, after 1 and 22: "a slot number not below the number of slots", which is the last column start.

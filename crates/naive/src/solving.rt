@@ -1,6 +1,6 @@
 // The solution of document 02's E9, over the dense matrix of the factorization: every pair of a column and a row is looked at, in the order of the
 // sentence. Refusals 28 and 13 are right for every plan; the others, and the solution, for at most 64 nodes, and `TOO_LARGE` stands for them beyond.
-use crate::factoring::{cell, columns_of, first_diagonal, pivot_fails, spread, value};
+use crate::factoring::{cell, columns_of, first_values, pivot_fails, spread};
 use crate::file::lent_refusal;
 use crate::sets::{has, row};
 
@@ -15,7 +15,7 @@ pub struct NaiveSolution {
 fn subtract(x: &mut [f64; 64], m: &[f64; 4096], s: u64, j: usize, i: usize, k: usize, t: usize) {
     if has(s, i) {
         let product = cell(m, j, i) * x[k % 64];
-        x[t % 64] = x[t % 64] - product;
+        x[t % 64] -= product;
     }
 }
 
@@ -30,10 +30,8 @@ fn forward(x: &mut [f64; 64], m: &[f64; 4096], columns: &[u64; 64]) {
 
 // "Each entry is divided by its pivot".
 fn divide(x: &mut [f64; 64], m: &[f64; 4096], n: usize) {
-    for j in 0..64usize {
-        if j < n {
-            x[j] = x[j] / cell(m, j, j);
-        }
+    for (j, entry) in x.iter_mut().enumerate().take(n) {
+        *entry /= cell(m, j, j);
     }
 }
 
@@ -46,21 +44,11 @@ fn backward(x: &mut [f64; 64], m: &[f64; 4096], columns: &[u64; 64]) {
     }
 }
 
-// "31 for every pivot".
-fn pivots_fail(n: usize, diagonal: &[f64]) -> bool {
-    for j in 0..n {
-        if pivot_fails(value(diagonal, j)) {
-            return true;
-        }
-    }
-    false
-}
-
 // A refusal, which leaves the vector as found.
 fn unsolved(number: u32, vector: &[f64]) -> NaiveSolution {
     NaiveSolution {
         refusal: number,
-        vector: first_diagonal(vector),
+        vector: first_values(vector),
     }
 }
 
@@ -75,7 +63,7 @@ fn solved(
 ) -> NaiveSolution {
     let m = spread(n, column_starts, rows, diagonal, values);
     let columns = columns_of(n, column_starts, rows);
-    let mut x = first_diagonal(vector);
+    let mut x = first_values(vector);
     forward(&mut x, &m, &columns);
     divide(&mut x, &m, n);
     backward(&mut x, &m, &columns);
@@ -100,7 +88,7 @@ fn late_refusal(
     if diagonal.len() != n || values.len() != s || vector.len() != n {
         return 30;
     }
-    if pivots_fail(n, diagonal) {
+    if diagonal.iter().any(|d| pivot_fails(*d)) {
         return 31;
     }
     0

@@ -1,26 +1,22 @@
 // The lines of a text, their words, and the numbers that these say. A line is told by where it begins; its words are counted from 0.
-use crate::head::byte;
-use crate::lists::plus;
+use crate::lists::item;
 
-// What a word says, this or more, that is no number of 32 bits.
-pub(crate) const NO_NUMBER: usize = 4294967296;
+// The least number that is none of 32 bits.
+const NO_NUMBER: usize = 4294967296;
 
 // "A line ends at a line feed, a carriage return before it allowed"
 fn ends_line(text: &[u8], at: usize) -> bool {
-    if byte(text, at) == b'\r' {
-        return byte(text, plus(at, 1)) == b'\n';
+    if item(text, at) == b'\r' {
+        return item(text, at.saturating_add(1)) == b'\n';
     }
-    byte(text, at) == b'\n'
+    item(text, at) == b'\n'
 }
 
 // Where a line ends, so or "at the text's end".
 fn line_end(text: &[u8], line: usize) -> usize {
-    for i in line..text.len() {
-        if ends_line(text, i) {
-            return i;
-        }
-    }
-    text.len()
+    (line..text.len())
+        .find(|i| ends_line(text, *i))
+        .unwrap_or(text.len())
 }
 
 // "Spaces or tabs separate"
@@ -30,27 +26,16 @@ fn separates(x: u8) -> bool {
 
 // Whether a word of the line begins at a place of it.
 fn begins_word(text: &[u8], line: usize, at: usize) -> bool {
-    if line < at {
-        if !separates(byte(text, at - 1)) {
-            return false;
-        }
-    }
-    !separates(byte(text, at))
+    (at <= line || separates(item(text, at - 1))) && !separates(item(text, at))
 }
 
 // Where word k begins, or the line's end where there are not so many.
 pub(crate) fn word(text: &[u8], line: usize, k: usize) -> usize {
     let end = line_end(text, line);
-    let mut passed = 0usize;
-    for i in line..end {
-        if begins_word(text, line, i) {
-            if passed == k {
-                return i;
-            }
-            passed = plus(passed, 1);
-        }
-    }
-    end
+    (line..end)
+        .filter(|i| begins_word(text, line, *i))
+        .nth(k)
+        .unwrap_or(end)
 }
 
 // Whether a line has a word k.
@@ -60,78 +45,62 @@ fn has_word(text: &[u8], line: usize, k: usize) -> bool {
 
 // Whether a line after the first begins at a place, and is not empty.
 pub(crate) fn is_line(text: &[u8], at: usize) -> bool {
-    if at == 0 {
-        return false;
-    }
-    if byte(text, at - 1) != b'\n' {
-        return false;
-    }
-    has_word(text, at, 0)
+    at != 0 && item(text, at - 1) == b'\n' && has_word(text, at, 0)
 }
 
-// The place behind `next` where the banner has x there, "in any letter case"; otherwise one far behind its end.
-fn follows(next: usize, x: u8) -> usize {
-    let y = byte(b" %%matrixmarket matrix coordinate pattern symmetric", next);
-    if x == y {
-        return plus(next, 1);
+// The words of the first line, with one space before each.
+const BANNER: &[u8] = b" %%matrixmarket matrix coordinate pattern symmetric";
+
+// How much of the banner stands there with x behind it, "in any letter case", where `so_far` of it stand without x; none where it does not.
+fn follows(so_far: Option<usize>, x: u8) -> Option<usize> {
+    let next = so_far?;
+    if *BANNER.get(next)? != x.to_ascii_lowercase() {
+        return None;
     }
-    if b'a' <= y {
-        if x == y - 32 {
-            return plus(next, 1);
-        }
-    }
-    100
+    Some(next.saturating_add(1))
 }
 
 // "The first line is %%MatrixMarket matrix coordinate pattern symmetric": its words, with one space before each.
 pub(crate) fn has_banner(text: &[u8]) -> bool {
-    let mut next = 0usize;
+    let mut next = Some(0usize);
     for i in 0..line_end(text, 0) {
         if begins_word(text, 0, i) {
             next = follows(next, b' ');
         }
-        let x = byte(text, i);
+        let x = item(text, i);
         if !separates(x) {
             next = follows(next, x);
         }
     }
-    next == 51
+    next == Some(BANNER.len())
 }
 
-// The number with one more digit behind it. What is no number stays none.
-fn with_digit(x: usize, digit: u8) -> usize {
-    if x < NO_NUMBER {
-        if b'0' <= digit {
-            if digit <= b'9' {
-                return x * 10 + (digit - b'0') as usize;
-            }
+// The number with one more digit behind it, if it is one of 32 bits.
+fn with_digit(x: usize, digit: u8) -> Option<usize> {
+    if x < NO_NUMBER && digit.is_ascii_digit() {
+        let longer = x * 10 + usize::from(digit - b'0');
+        if longer < NO_NUMBER {
+            return Some(longer);
         }
     }
-    NO_NUMBER
+    None
 }
 
 // The number that word k says: "numbers are digits only", of at most 32 bits.
-pub(crate) fn number(text: &[u8], line: usize, k: usize) -> usize {
+pub(crate) fn number(text: &[u8], line: usize, k: usize) -> Option<usize> {
     let mut x = 0usize;
     for i in word(text, line, k)..line_end(text, line) {
-        let digit = byte(text, i);
+        let digit = item(text, i);
         if separates(digit) {
-            return x;
+            return Some(x);
         }
-        x = with_digit(x, digit);
+        x = with_digit(x, digit)?;
     }
-    x
+    Some(x)
 }
 
 // Whether the words of a line are so many numbers and nothing else.
 pub(crate) fn numbers_only(text: &[u8], line: usize, count: usize) -> bool {
-    for k in 0..count {
-        if !has_word(text, line, k) {
-            return false;
-        }
-        if NO_NUMBER <= number(text, line, k) {
-            return false;
-        }
-    }
-    !has_word(text, line, count)
+    (0..count).all(|k| has_word(text, line, k) && number(text, line, k).is_some())
+        && !has_word(text, line, count)
 }

@@ -12,9 +12,9 @@ ghost use Rattle.planfile.specs.Filed.{Headed, row_counts_in};
 use coding::read16s;
 use filechecks::{header_refusal, order_and_parts_refusal, read_head};
 use layout::{buffers_too_short, invert, sum, write_starts};
-use mesh::{filled, index};
+use mesh::filled;
 use plan::{Plan, PlanAnswer};
-use rowchecks::{not_covered_encoded, walk_encoded};
+use rowchecks::{Encoded, not_covered, walk};
 
 // The first refusal of checks 15 to 19, 0 for none; order, sizes, parents and column starts are those of the file. O(4,096 + slots + the first
 // rows' columns).
@@ -37,17 +37,17 @@ fn decoded_refusal(
     if fault != 0 {
         return fault;
     }
-    if index(column_starts[n]) != s {
+    if column_starts[n] as usize != s {
         return 17;
     }
     let at = end + 4 * n + 4 * p;
-    let rows = &bytes[at..];
-    let faults = walk_encoded(n, sizes, parents, column_starts, rows);
+    let rows = Encoded(&bytes[at..]);
+    let faults = walk(n, sizes, parents, column_starts, rows);
     let refusal = faults.refusal();
     if refusal != 0 {
         return refusal;
     }
-    if not_covered_encoded(n, column_starts, rows) {
+    if not_covered(n, column_starts, rows) {
         return 19;
     }
     0

@@ -7,9 +7,9 @@ ghost use Rattle.plan.specs.Writing.{bad_supply, supplied_checks};
 ghost use Rattle.planfile.specs.Supplied.{listed, Exact};
 
 use filechecks::{bad_header, order_and_parts_refusal};
-use mesh::{bad_starts, index};
+use mesh::bad_starts;
 use plan::Plan;
-use rowchecks::{not_covered, walk};
+use rowchecks::{Lent, not_covered, walk};
 
 // Check 13: the counts are out of their limits, or a slice is shorter than its count says. O(1).
 fn bad_supply(
@@ -61,15 +61,15 @@ fn contents_refusal(
     if bad_starts(n, column_starts) {
         return 17;
     }
-    if index(column_starts[n]) != rows.len() {
+    if column_starts[n] as usize != rows.len() {
         return 17;
     }
-    let faults = walk(n, sizes, parents, column_starts, rows);
+    let faults = walk(n, sizes, parents, column_starts, Lent(rows));
     let refusal = faults.refusal();
     if refusal != 0 {
         return refusal;
     }
-    if not_covered(n, column_starts, rows) {
+    if not_covered(n, column_starts, Lent(rows)) {
         return 19;
     }
     0

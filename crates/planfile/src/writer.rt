@@ -11,7 +11,7 @@ ghost use Rattle.planfile.specs.Filed.{header_of};
 
 use crate::slices::supplied_refusal;
 use coding::{write16, write16s, write32};
-use filechecks::{D, HEADER, N, P, VERSION, file_length};
+use filechecks::{HEADER, MAGIC, VERSION, file_length};
 use plan::WriteAnswer;
 
 // The mark, the version, the unknowns and the counts. O(1).
@@ -19,9 +19,7 @@ fn write_header(unknowns: usize, n: usize, p: usize, s: usize, bytes: &mut [u8])
     requires { (bad_unknowns unknowns ≡ false) × (bad_header (counts_only n p s) ≡ false) × (19 ≤ length bytes.old) }
     ensures { bytes.new ≡ written (header_of unknowns n p s) bytes.old }
 {
-    bytes[0] = N;
-    bytes[1] = D;
-    bytes[2] = P;
+    bytes[..3].copy_from_slice(&MAGIC);
     write16(VERSION, &mut bytes[3..]);
     write16(unknowns as u16, &mut bytes[5..]);
     write32(n as u32, &mut bytes[7..]);

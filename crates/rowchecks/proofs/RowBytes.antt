@@ -1,15 +1,14 @@
--- Rows that stand in bytes, two for each: how many they are, each by its place, and the bytes of one column.
+-- Rows that stand in bytes, two for each: how many they are, each by its place, and the bytes of some of them.
 use mathlib.Core.Path.{◌≡◌, sym, ap, ◌∙◌}
 use mathlib.Core.List.{List}
 use Prim.Native.Nat.{ℕ, ◌+◌, ◌-◌, ◌*◌, ◌/◌, ◌≤◌, ◌<◌}
 use native.Mathlib.Nat.{zero-add}
 use native.Mathlib.Omega.{arith}
 use lib.ListN.{length, get_or, take, drop, length-drop}
-use lib.Seq.{length-take-le, take_all, get_or-take, get_or-drop, ext_get_or}
-use Rattle.plan.specs.Lists.{segment, list_at}
+use lib.Seq.{length-take-le, get_or-take, get_or-drop, ext_get_or}
+use Rattle.plan.specs.Lists.{segment}
 use Rattle.plan.specs.File.{decode16}
 use Rattle.theory.proofs.Coding.{decode16s-length, decode16s-get_or, decode16-drop}
-use Rattle.mesh.specs.Lists.{ListWithin}
 use Rattle.rowchecks.specs.Rows.{rows_in}
 
 module _ (bytes : List ℕ) where
@@ -27,10 +26,6 @@ module _ (bytes : List ℕ) where
 
 -- ---- parts of the bytes
 
--- as many bytes are as many rows
-pub rows_as_many : (a b : List ℕ) → length a ≡ length b → length (rows_in a) ≡ length (rows_in b)
-rows_as_many a b e = omega (arith, e, rows-many a, rows-many b)
-
 -- a number of a list's front is the list's own
 decode16-take : (bytes : List ℕ) (k at : ℕ) → at + 2 ≤ k → decode16 (take k bytes) at ≡ decode16 bytes at
 unfolding decode16
@@ -42,7 +37,7 @@ module _ (bytes : List ℕ) (a e : ℕ) (le : a ≤ e) (within : e ≤ length (r
   part-long = length-take-le (2 * e - 2 * a) (drop (2 * a) bytes) (omega (arith, rows-many bytes, length-drop (2 * a) bytes)) ∙ omega arith
 
   -- and say these rows
-  part-rows : rows_in (segment bytes (2 * a) (2 * e)) ≡ segment (rows_in bytes) a e
+  pub part-rows : rows_in (segment bytes (2 * a) (2 * e)) ≡ segment (rows_in bytes) a e
   part-rows =
       let part : List ℕ = segment bytes (2 * a) (2 * e) in
       let many : length (rows_in part) ≡ e - a = omega (arith, rows-many part, part-long) in
@@ -52,21 +47,3 @@ module _ (bytes : List ℕ) (a e : ℕ) (le : a ≤ e) (within : e ≤ length (r
       row_at part k lt ∙ decode16-take (drop (2 * a) bytes) (2 * e - 2 * a) (2 * k) (omega (arith, many)) ∙ sym (decode16-drop bytes (2 * a) (2 * k))
       ∙ ap (decode16 bytes) (omega arith)
       ∙ sym (get_or-take (e - a) (drop a (rows_in bytes)) k 0 (omega (arith, many)) ∙ get_or-drop a (rows_in bytes) k 0 ∙ row_at bytes (a + k) (omega (arith, many))))
-
--- the bytes of column j
-pub column-bytes : (starts bytes : List ℕ) (j a e : ℕ) → ListWithin starts (rows_in bytes) j → a ≡ get_or starts j 0 → e ≡ get_or starts (j + 1) 0
-    → (rows_in (segment bytes (2 * a) (2 * e)) ≡ list_at starts (rows_in bytes) j)
-    × (length (segment bytes (2 * a) (2 * e)) ≡ 2 * length (list_at starts (rows_in bytes) j))
-unfolding list_at
-column-bytes starts bytes j a e w ea ee =
-    let ordered : a ≤ e = omega (arith, w.ordered) in
-    let ended : e ≤ length (rows_in bytes) = omega (arith, w.ended) in
-    let rows : rows_in (segment bytes (2 * a) (2 * e)) ≡ list_at starts (rows_in bytes) j = part-rows bytes a e ordered ended ∙ rw (ea, ee) in
-    (rows, omega (arith, part-long bytes a e ordered ended, rows-many (segment bytes (2 * a) (2 * e)), ap length rows))
-
--- the bytes behind the first row's two say the rows behind the first
-pub others-bytes : (bytes r : List ℕ) → rows_in bytes ≡ r → length bytes ≡ 2 * length r → 1 ≤ length r → rows_in (take (length bytes - 2) (drop 2 bytes)) ≡ drop 1 r
-others-bytes bytes r e many some =
-    rw many
-    (part-rows bytes 1 (length r) some (omega (arith, ap length e)) ∙ ap (λ (l : List ℕ). segment l 1 (length r)) e
-    ∙ take_all (length r - 1) (drop 1 r) (omega (arith, length-drop 1 r)))

@@ -14,4 +14,4 @@ pub record Read (bytes : List ℕ) (at apart count : ℕ) (found numbers : List 
   pub front : numbers ≡ written (decode16s bytes at apart k) found
 
 abbrev pub invariant-loop-k : goal.invariant-loop-k
-invariant-loop-k l = Read l.bytes l.at l.apart l.count l.initial.numbers l.numbers l.k
+invariant-loop-k l = Read l.bytes l.at l.apart l.count l.initial.number-items l.number-items l.k

@@ -14,5 +14,6 @@ returns c =
     let found : List ℕ = c.args.bytes.now in
     let low : ℕ = c.args.x % 256 in
     let high : ℕ = c.args.x / 256 % 256 in
-    ap (λ (buffer : List ℕ). set buffer 1 high) (written_push [] found 0 low (omega arith) (omega (arith, c.requires)))
-    ∙ written_push (low ∷ []) found 1 high (omega arith) (omega (arith, c.requires))
+    rw c.to_le_bytes.ensures
+    (ap (λ (buffer : List ℕ). set buffer 1 high) (written_push [] found 0 low (omega arith) (omega (arith, c.requires)))
+    ∙ written_push (low ∷ []) found 1 high (omega arith) (omega (arith, c.requires)))

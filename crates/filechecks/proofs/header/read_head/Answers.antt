@@ -1,5 +1,5 @@
 -- `filechecks::header::read_head` meets its contract: the counts stand in the 12 bytes before the order.
-use mathlib.Core.Path.{◌≡◌, ◌∙◌}
+use mathlib.Core.Path.{◌≡◌}
 use Prim.Native.Nat.{◌-◌}
 use native.Mathlib.Omega.{arith}
 use Rattle.plan.specs.File.{version_of, nodes_at, parse_at, parse}
@@ -15,7 +15,7 @@ unfolding parse parse_at
 returns c = (
   c.head_end-end.ensures,
   c.read_unknowns-unknowns.ensures,
-  rw (← place (goal.at.returns c).After-head_end-end) (c.index-nodes.ensures ∙ c.read32.ensures),
-  rw (← place (goal.at.returns c).After-head_end-end) (c.index-parts.ensures ∙ c.read32-2.ensures),
-  rw (← place (goal.at.returns c).After-head_end-end) (c.index-slots.ensures ∙ c.read32-3.ensures),
+  rw (← place (goal.at.returns c).After-head_end-end) c.read32-nodes.ensures,
+  rw (← place (goal.at.returns c).After-head_end-end) c.read32-parts.ensures,
+  rw (← place (goal.at.returns c).After-head_end-end) c.read32-slots.ensures,
 )

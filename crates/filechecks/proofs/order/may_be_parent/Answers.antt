@@ -8,10 +8,10 @@ pub returns-then-r-eq-NO_PARENT : goal.returns-then-r-eq-NO_PARENT
 unfolding may_be_parent
 returns-then-r-eq-NO_PARENT c = rw (eq-eqb _ _ c.if-r-eq-NO_PARENT.true)
 
-pub returns-then-wide-q : goal.returns-then-wide-q
+pub returns-then-r-q : goal.returns-then-r-q
 unfolding may_be_parent
-returns-then-wide-q c = rw (ne_eqb _ _ c.if-r-eq-NO_PARENT.false, le-ltb c.args.q c.args.r (omega (arith, c.wide.ensures, c.if-wide-q.true)))
+returns-then-r-q c = rw (ne_eqb _ _ c.if-r-eq-NO_PARENT.false, le-ltb c.args.q c.args.r (omega (arith, c.if-r-q.true)))
 
 pub returns : goal.returns
 unfolding may_be_parent
-returns c = rw (c.wide-2.ensures, ne_eqb _ _ c.if-r-eq-NO_PARENT.false, lt-ltb c.args.q c.args.r (omega (arith, c.wide.ensures, c.if-wide-q.false)))
+returns c = rw (ne_eqb _ _ c.if-r-eq-NO_PARENT.false, lt-ltb c.args.q c.args.r (omega (arith, c.if-r-q.false)))

@@ -11,5 +11,5 @@ pub record Summed (sizes : List ℕ) (sum q : ℕ) : Type 0 where
   pub whole : sum ≡ total (take q sizes)
   pub few : sum ≤ 65535 * q
 
-abbrev pub invariant-loop-q : goal.invariant-loop-q
-invariant-loop-q l = Summed l.sizes l.sum l.q
+abbrev pub invariant-loop-size : goal.invariant-loop-size
+invariant-loop-size l = Summed l.sizes l.sum l.size-index

@@ -10,7 +10,7 @@ use Rattle.filechecks.specs.Fields.{order_and_parts_checks}
 use Rattle.rowchecks.specs.Rows.{parts_and_rows, rows_in}
 use Rattle.planfile.proofs.Passing.{order_fault, fault_17, walk_fault, fault_19, all-passed}
 use Rattle.planfile.proofs.Headed.{Sizes, headed_sizes, behind, order-few, file-ordered, file-parts, starts-long, rows_apart, rows-started, file-walked, file-covered}
-use Rattle.planfile.proofs.reader.decoded_refusal.Goals.{Start, After-order_and_parts_refusal-fault, Else-fault-ne0, Else-index-s, After-refusal-refusal, Else-refusal-ne0, After-not_covered_encoded}
+use Rattle.planfile.proofs.reader.decoded_refusal.Goals.{Start, After-order_and_parts_refusal-fault, Else-fault-ne0, Else-column_starts-n, After-refusal-refusal, Else-refusal-ne0, After-not_covered}
 use Rattle.planfile.proofs.reader.decoded_refusal.Goals as goal
 
 -- its counts and its length
@@ -42,20 +42,20 @@ offset_bounds-column_starts-n c = omega (arith, (known (goal.at.offset_bounds-co
 pub bounds-column_starts-n : goal.bounds-column_starts-n
 bounds-column_starts-n c = omega (arith, starts-long _ _ _ _ _ c.requires.headed _ _ _ _ c.requires.order_value)
 
-pub returns-then-index-s : goal.returns-then-index-s
-returns-then-index-s c = sym (fault_17 (parse c.args.bytes.now) (ordered (goal.at.returns-then-index-s c).Else-fault-ne0) (rows_apart _ _ _ _ _ c.requires.headed _ _ _ _ c.requires.order_value (λ z. c.if-index-s.true (c.index.ensures ∙ z))))
+pub returns-then-column_starts-n : goal.returns-then-column_starts-n
+returns-then-column_starts-n c = sym (fault_17 (parse c.args.bytes.now) (ordered (goal.at.returns-then-column_starts-n c).Else-fault-ne0) (rows_apart _ _ _ _ _ c.requires.headed _ _ _ _ c.requires.order_value (λ z. c.if-column_starts-n.true z)))
 
 -- the last start is s
-ends : (c : Else-index-s) → get_or c.args.column_starts.now c.args.n 0 ≡ c.args.s
-ends c = sym c.index.ensures ∙ c.if-index-s.false
+ends : (c : Else-column_starts-n) → get_or c.args.column_starts.now c.args.n 0 ≡ c.args.s
+ends c = c.if-column_starts-n.false
 
 -- the last start is s
 ends_at_after_refusal_refusal : (c : After-refusal-refusal) → get_or c.args.column_starts.now c.args.n 0 ≡ c.args.s
-ends_at_after_refusal_refusal c = sym c.index.ensures ∙ c.if-index-s.false
+ends_at_after_refusal_refusal c = c.if-column_starts-n.false
 
 -- the last start is s
 ends_at_else_refusal_ne0 : (c : Else-refusal-ne0) → get_or c.args.column_starts.now c.args.n 0 ≡ c.args.s
-ends_at_else_refusal_ne0 c = sym c.index.ensures ∙ c.if-index-s.false
+ends_at_else_refusal_ne0 c = c.if-column_starts-n.false
 
 pub overflow_mul-at : goal.overflow_mul-at
 overflow_mul-at c = omega (arith, (known (goal.at.overflow_mul-at c).Start).few)
@@ -75,20 +75,20 @@ slice_bounds-rows-count c = omega (arith, (known (goal.at.slice_bounds-rows-coun
 pub slice_bounds-rows-start : goal.slice_bounds-rows-start
 slice_bounds-rows-start c = (omega (arith, (known (goal.at.slice_bounds-rows-start c).Start).long))
 
-pub walk_encoded-faults-requires : goal.walk_encoded-faults-requires
-walk_encoded-faults-requires c = (file-parts _ _ _ _ _ c.requires.headed _ _ _ _ c.requires.order_value (ordered (goal.at.walk_encoded-faults-requires c).Else-fault-ne0), rows-started _ _ _ _ _ c.requires.headed _ _ _ _ c.requires.order_value (ends (goal.at.walk_encoded-faults-requires c).Else-index-s))
+pub walk-faults-requires : goal.walk-faults-requires
+walk-faults-requires c = (file-parts _ _ _ _ _ c.requires.headed _ _ _ _ c.requires.order_value (ordered (goal.at.walk-faults-requires c).Else-fault-ne0), rows-started _ _ _ _ _ c.requires.headed _ _ _ _ c.requires.order_value (ends (goal.at.walk-faults-requires c).Else-column_starts-n))
 
 -- its answer is that of the two checks
 walk : (c : After-refusal-refusal) → first_fault (walk_checks (parse c.args.bytes.now)) ≡ c.refusal-refusal.result
 walk c =
     let own = rows-started _ _ _ _ _ c.requires.headed _ _ _ _ c.requires.order_value (ends_at_after_refusal_refusal c) in
-    sym (c.refusal-refusal.ensures ∙ answers_stay (parts_and_rows c.args.n c.args.sizes.now c.args.parents.now c.args.column_starts.now (rows_in (behind c.args.bytes.now c.args.end c.args.n c.args.p))) _ _ own.starts own.last c.walk_encoded-faults.ensures ∙ file-walked _ _ _ _ _ c.requires.headed _ _ _ _ c.requires.order_value)
+    sym (c.refusal-refusal.ensures ∙ answers_stay (parts_and_rows c.args.n c.args.sizes.now c.args.parents.now c.args.column_starts.now (rows_in (behind c.args.bytes.now c.args.end c.args.n c.args.p))) _ _ own.starts own.last c.walk-faults.ensures ∙ file-walked _ _ _ _ _ c.requires.headed _ _ _ _ c.requires.order_value)
 
 -- its answer is that of the two checks
 walk_at_else_refusal_ne0 : (c : Else-refusal-ne0) → first_fault (walk_checks (parse c.args.bytes.now)) ≡ c.refusal-refusal.result
 walk_at_else_refusal_ne0 c =
     let own = rows-started _ _ _ _ _ c.requires.headed _ _ _ _ c.requires.order_value (ends_at_else_refusal_ne0 c) in
-    sym (c.refusal-refusal.ensures ∙ answers_stay (parts_and_rows c.args.n c.args.sizes.now c.args.parents.now c.args.column_starts.now (rows_in (behind c.args.bytes.now c.args.end c.args.n c.args.p))) _ _ own.starts own.last c.walk_encoded-faults.ensures ∙ file-walked _ _ _ _ _ c.requires.headed _ _ _ _ c.requires.order_value)
+    sym (c.refusal-refusal.ensures ∙ answers_stay (parts_and_rows c.args.n c.args.sizes.now c.args.parents.now c.args.column_starts.now (rows_in (behind c.args.bytes.now c.args.end c.args.n c.args.p))) _ _ own.starts own.last c.walk-faults.ensures ∙ file-walked _ _ _ _ _ c.requires.headed _ _ _ _ c.requires.order_value)
 
 pub returns-then-refusal-ne0 : goal.returns-then-refusal-ne0
 returns-then-refusal-ne0 c =
@@ -100,19 +100,19 @@ walked : (c : Else-refusal-ne0) → first_fault (walk_checks (parse c.args.bytes
 walked c = walk_at_else_refusal_ne0 c ∙ c.if-refusal-ne0.false
 
 -- ---- 19
-pub not_covered_encoded-requires : goal.not_covered_encoded-requires
-not_covered_encoded-requires c =
+pub not_covered-requires : goal.not_covered-requires
+not_covered-requires c =
     record {
-      started = rows-started _ _ _ _ _ c.requires.headed _ _ _ _ c.requires.order_value (ends (goal.at.not_covered_encoded-requires c).Else-index-s);
-      good = sym (carried_columns (parts_and_rows c.args.n c.args.sizes.now c.args.parents.now c.args.column_starts.now (rows_in (behind c.args.bytes.now c.args.end c.args.n c.args.p))) _ _ c.walk_encoded-faults.ensures) ∙ answer-ordered _ _ (sym c.refusal-refusal.ensures ∙ c.if-refusal-ne0.false);
+      started = rows-started _ _ _ _ _ c.requires.headed _ _ _ _ c.requires.order_value (ends (goal.at.not_covered-requires c).Else-column_starts-n);
+      good = sym (carried_columns (parts_and_rows c.args.n c.args.sizes.now c.args.parents.now c.args.column_starts.now (rows_in (behind c.args.bytes.now c.args.end c.args.n c.args.p))) _ _ c.walk-faults.ensures) ∙ answer-ordered _ _ (sym c.refusal-refusal.ensures ∙ c.if-refusal-ne0.false);
     }
 
 -- check 19 is the code's
-covered : (c : After-not_covered_encoded) → not_covered (parse c.args.bytes.now) ≡ c.not_covered_encoded.result
-covered c = sym (c.not_covered_encoded.ensures ∙ file-covered _ _ _ _ _ c.requires.headed _ _ _ _ c.requires.order_value)
+covered : (c : After-not_covered) → not_covered (parse c.args.bytes.now) ≡ c.not_covered.result
+covered c = sym (c.not_covered.ensures ∙ file-covered _ _ _ _ _ c.requires.headed _ _ _ _ c.requires.order_value)
 
-pub returns-then-not_covered_encoded : goal.returns-then-not_covered_encoded
-returns-then-not_covered_encoded c = sym (fault_19 (parse c.args.bytes.now) (ordered (goal.at.returns-then-not_covered_encoded c).Else-fault-ne0) (walked (goal.at.returns-then-not_covered_encoded c).Else-refusal-ne0) (covered (goal.at.returns-then-not_covered_encoded c).After-not_covered_encoded ∙ c.if-not_covered_encoded.true))
+pub returns-then-not_covered : goal.returns-then-not_covered
+returns-then-not_covered c = sym (fault_19 (parse c.args.bytes.now) (ordered (goal.at.returns-then-not_covered c).Else-fault-ne0) (walked (goal.at.returns-then-not_covered c).Else-refusal-ne0) (covered (goal.at.returns-then-not_covered c).After-not_covered ∙ c.if-not_covered.true))
 
 pub returns : goal.returns
-returns c = sym (all-passed (parse c.args.bytes.now) (ordered (goal.at.returns c).Else-fault-ne0) (walked (goal.at.returns c).Else-refusal-ne0) (covered (goal.at.returns c).After-not_covered_encoded ∙ c.if-not_covered_encoded.false))
+returns c = sym (all-passed (parse c.args.bytes.now) (ordered (goal.at.returns c).Else-fault-ne0) (walked (goal.at.returns c).Else-refusal-ne0) (covered (goal.at.returns c).After-not_covered ∙ c.if-not_covered.false))

@@ -13,7 +13,7 @@ use Rattle.filechecks.proofs.Fields.{order_checks}
 use Rattle.rowchecks.specs.Rows.{parts_and_rows, Started}
 use Rattle.planfile.specs.Supplied.{listed}
 use Rattle.planfile.proofs.Passing.{order_fault, fault_17, walk_fault, fault_19, all-passed, starts_bad, last_bad, walk_check, covered_check, exact-few, passed-parts, passed-starts}
-use Rattle.planfile.proofs.slices.contents_refusal.Goals.{After-order_and_parts_refusal-fault, Else-fault-ne0, Else-bad_starts, Else-index-rows, After-refusal-refusal, Else-refusal-ne0, After-not_covered}
+use Rattle.planfile.proofs.slices.contents_refusal.Goals.{After-order_and_parts_refusal-fault, Else-fault-ne0, Else-bad_starts, Else-column_starts-n, After-refusal-refusal, Else-refusal-ne0, After-not_covered}
 use Rattle.planfile.proofs.slices.contents_refusal.Goals as goal
 
 order_answer : (c : After-order_and_parts_refusal-fault) → first_fault (order_and_parts_checks (listed c.args.n (length c.args.sizes.now) (length c.args.rows.now) c.args.order.now c.args.sizes.now c.args.parents.now c.args.column_starts.now c.args.rows.now)) ≡ c.order_and_parts_refusal-fault.result
@@ -44,7 +44,7 @@ rising : (c : Else-bad_starts) → let p = (listed c.args.n (length c.args.sizes
 rising c = sym c.bad_starts.ensures ∙ c.if-bad_starts.false
 
 -- they have no fault
-rising_at_else_index_rows : (c : Else-index-rows) → let p = (listed c.args.n (length c.args.sizes.now) (length c.args.rows.now) c.args.order.now c.args.sizes.now c.args.parents.now c.args.column_starts.now c.args.rows.now) in bad_starts p.nodes p.column_starts ≡ false
+rising_at_else_index_rows : (c : Else-column_starts-n) → let p = (listed c.args.n (length c.args.sizes.now) (length c.args.rows.now) c.args.order.now c.args.sizes.now c.args.parents.now c.args.column_starts.now c.args.rows.now) in bad_starts p.nodes p.column_starts ≡ false
 rising_at_else_index_rows c = sym c.bad_starts.ensures ∙ c.if-bad_starts.false
 
 -- they have no fault
@@ -55,24 +55,24 @@ rising_at_after_refusal_refusal c = sym c.bad_starts.ensures ∙ c.if-bad_starts
 rising_at_else_refusal_ne0 : (c : Else-refusal-ne0) → let p = (listed c.args.n (length c.args.sizes.now) (length c.args.rows.now) c.args.order.now c.args.sizes.now c.args.parents.now c.args.column_starts.now c.args.rows.now) in bad_starts p.nodes p.column_starts ≡ false
 rising_at_else_refusal_ne0 c = sym c.bad_starts.ensures ∙ c.if-bad_starts.false
 
-pub returns-then-index-rows : goal.returns-then-index-rows
-returns-then-index-rows c =
+pub returns-then-column_starts-n : goal.returns-then-column_starts-n
+returns-then-column_starts-n c =
     let p = (listed c.args.n (length c.args.sizes.now) (length c.args.rows.now) c.args.order.now c.args.sizes.now c.args.parents.now c.args.column_starts.now c.args.rows.now) in
-    sym (fault_17 p (ordered (goal.at.returns-then-index-rows c).Else-fault-ne0) (last_bad p (rising (goal.at.returns-then-index-rows c).Else-bad_starts) (λ z. c.if-index-rows.true (c.index.ensures ∙ z))))
+    sym (fault_17 p (ordered (goal.at.returns-then-column_starts-n c).Else-fault-ne0) (last_bad p (rising (goal.at.returns-then-column_starts-n c).Else-bad_starts) (λ z. c.if-column_starts-n.true z)))
 
 -- the last start is the number of rows
-ends : (c : Else-index-rows) → let p = (listed c.args.n (length c.args.sizes.now) (length c.args.rows.now) c.args.order.now c.args.sizes.now c.args.parents.now c.args.column_starts.now c.args.rows.now) in get_or p.column_starts p.nodes 0 ≡ p.slots
-ends c = sym c.index.ensures ∙ c.if-index-rows.false
+ends : (c : Else-column_starts-n) → let p = (listed c.args.n (length c.args.sizes.now) (length c.args.rows.now) c.args.order.now c.args.sizes.now c.args.parents.now c.args.column_starts.now c.args.rows.now) in get_or p.column_starts p.nodes 0 ≡ p.slots
+ends c = c.if-column_starts-n.false
 
 -- the last start is the number of rows
 ends_at_after_refusal_refusal : (c : After-refusal-refusal) → let p = (listed c.args.n (length c.args.sizes.now) (length c.args.rows.now) c.args.order.now c.args.sizes.now c.args.parents.now c.args.column_starts.now c.args.rows.now) in get_or p.column_starts p.nodes 0 ≡ p.slots
-ends_at_after_refusal_refusal c = sym c.index.ensures ∙ c.if-index-rows.false
+ends_at_after_refusal_refusal c = c.if-column_starts-n.false
 
 -- the last start is the number of rows
 ends_at_else_refusal_ne0 : (c : Else-refusal-ne0) → let p = (listed c.args.n (length c.args.sizes.now) (length c.args.rows.now) c.args.order.now c.args.sizes.now c.args.parents.now c.args.column_starts.now c.args.rows.now) in get_or p.column_starts p.nodes 0 ≡ p.slots
-ends_at_else_refusal_ne0 c = sym c.index.ensures ∙ c.if-index-rows.false
+ends_at_else_refusal_ne0 c = c.if-column_starts-n.false
 
-started : (c : Else-index-rows) → Started c.args.n c.args.column_starts.now c.args.rows.now
+started : (c : Else-column_starts-n) → Started c.args.n c.args.column_starts.now c.args.rows.now
 started c = passed-starts (listed c.args.n (length c.args.sizes.now) (length c.args.rows.now) c.args.order.now c.args.sizes.now c.args.parents.now c.args.column_starts.now c.args.rows.now) c.requires (rising_at_else_index_rows c) (ends c)
 
 started_at_after_refusal_refusal : (c : After-refusal-refusal) → Started c.args.n c.args.column_starts.now c.args.rows.now
@@ -82,7 +82,7 @@ started_at_else_refusal_ne0 : (c : Else-refusal-ne0) → Started c.args.n c.args
 started_at_else_refusal_ne0 c = passed-starts (listed c.args.n (length c.args.sizes.now) (length c.args.rows.now) c.args.order.now c.args.sizes.now c.args.parents.now c.args.column_starts.now c.args.rows.now) c.requires (rising_at_else_refusal_ne0 c) (ends_at_else_refusal_ne0 c)
 
 pub walk-faults-requires : goal.walk-faults-requires
-walk-faults-requires c = (passed-parts (listed c.args.n (length c.args.sizes.now) (length c.args.rows.now) c.args.order.now c.args.sizes.now c.args.parents.now c.args.column_starts.now c.args.rows.now) c.requires (ordered (goal.at.walk-faults-requires c).Else-fault-ne0), started (goal.at.walk-faults-requires c).Else-index-rows)
+walk-faults-requires c = (passed-parts (listed c.args.n (length c.args.sizes.now) (length c.args.rows.now) c.args.order.now c.args.sizes.now c.args.parents.now c.args.column_starts.now c.args.rows.now) c.requires (ordered (goal.at.walk-faults-requires c).Else-fault-ne0), started (goal.at.walk-faults-requires c).Else-column_starts-n)
 
 -- its answer is that of the two checks
 walk_answer : (c : After-refusal-refusal) → first_fault (walk_checks (listed c.args.n (length c.args.sizes.now) (length c.args.rows.now) c.args.order.now c.args.sizes.now c.args.parents.now c.args.column_starts.now c.args.rows.now)) ≡ c.refusal-refusal.result
@@ -107,7 +107,7 @@ walked c = walk_answer_at_else_refusal_ne0 c ∙ c.if-refusal-ne0.false
 
 -- ---- 19
 pub not_covered-requires : goal.not_covered-requires
-not_covered-requires c = record { started = started (goal.at.not_covered-requires c).Else-index-rows; good = sym (carried_columns (parts_and_rows c.args.n c.args.sizes.now c.args.parents.now c.args.column_starts.now c.args.rows.now) _ _ c.walk-faults.ensures) ∙ answer-ordered _ _ (sym c.refusal-refusal.ensures ∙ c.if-refusal-ne0.false) }
+not_covered-requires c = record { started = started (goal.at.not_covered-requires c).Else-column_starts-n; good = sym (carried_columns (parts_and_rows c.args.n c.args.sizes.now c.args.parents.now c.args.column_starts.now c.args.rows.now) _ _ c.walk-faults.ensures) ∙ answer-ordered _ _ (sym c.refusal-refusal.ensures ∙ c.if-refusal-ne0.false) }
 
 covered_answer : (c : After-not_covered) → not_covered (listed c.args.n (length c.args.sizes.now) (length c.args.rows.now) c.args.order.now c.args.sizes.now c.args.parents.now c.args.column_starts.now c.args.rows.now) ≡ c.not_covered.result
 covered_answer c = sym (c.not_covered.ensures ∙ covered_check (listed c.args.n (length c.args.sizes.now) (length c.args.rows.now) c.args.order.now c.args.sizes.now c.args.parents.now c.args.column_starts.now c.args.rows.now))

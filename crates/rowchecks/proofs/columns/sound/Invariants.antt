@@ -1,0 +1,9 @@
+-- `rowchecks::columns::sound` meets its contract: the rows from place k on break neither rule, and `behind` is the first of them.
+use Rattle.rowchecks.proofs.ColumnDown.{Down}
+use Rattle.rowchecks.proofs.columns.sound.Given as goal
+
+abbrev pub invariant-loop-k : goal.invariant-loop-k
+invariant-loop-k g l = Down l.n l.lows l.ends l.j (g.R.Rows.numbers l.column) l.behind l.k
+
+abbrev pub decreases-loop-k : goal.decreases-loop-k
+decreases-loop-k g l = l.k

@@ -1,7 +1,0 @@
--- `rowchecks::encoded_columns::row_count` meets its contract: there are two bytes for each row.
-use mathlib.Core.Path.{sym}
-use Rattle.rowchecks.proofs.RowBytes.{rows-many}
-use Rattle.rowchecks.proofs.encoded_columns.row_count.Goals as goal
-
-pub returns : goal.returns
-returns c = sym (rows-many c.args.column.now)

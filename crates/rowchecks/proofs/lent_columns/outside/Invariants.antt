@@ -1,6 +1,0 @@
--- `rowchecks::lent_columns::outside` meets its contract: none of the rows before place k breaks 18's rule.
-use Rattle.rowchecks.proofs.ColumnDown.{Inside}
-use Rattle.rowchecks.proofs.lent_columns.outside.Given as goal
-
-abbrev pub invariant-loop-k : goal.invariant-loop-k
-invariant-loop-k l = Inside l.n l.lows l.ends l.j l.column l.k

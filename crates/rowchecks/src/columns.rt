@@ -1,0 +1,102 @@
+// The rules of checks 17 to 19 for the rows of one column.
+ghost use Rattle.std.specs.Prelude.{◌≡◌, true, not, ◌||◌, ℕ, ◌≤◌, ◌<◌, eqb, length, get_or};
+ghost use Rattle.plan.specs.Lists.{every, is_in, same as same_lists};
+ghost use Rattle.plan.specs.File.{bad_column};
+ghost use Rattle.layout.specs.Arrays.{Marked};
+ghost use Rattle.rowchecks.specs.Rows.{outside_ranges};
+
+use crate::ranges::holds;
+use crate::rows::Rows;
+
+// Whether rows of column j break neither 17's rule nor 18's. From the last row to the first, each is to be less than the one behind it, the last less
+// than n: one comparison for both, before the row's range is looked up. O(length).
+pub(crate) fn sound<R: Rows>(n: usize, lows: &[u16], ends: &[u16], j: usize, column: R) -> bool
+    requires { (n ≤ length lows.now) × (n ≤ length ends.now) × (j < n) }
+    ensures { result ≡ not (bad_column n j (R.numbers column) || outside_ranges n lows.now ends.now j (R.numbers column)) }
+{
+    let own = lows[j];
+    let mut behind = n;
+    let mut k = column.count();
+    while k > 0 {
+        k -= 1;
+        let i = column.row(k);
+        if i >= behind {
+            return false;
+        }
+        if !holds(lows, ends, i, own) {
+            return false;
+        }
+        behind = i;
+    }
+    j < behind
+}
+
+// Whether rows of column j break 17's rule. O(length).
+pub(crate) fn bad_column<R: Rows>(n: usize, j: usize, column: R) -> bool
+    ensures { result ≡ bad_column n j (R.numbers column) }
+{
+    let mut before = j;
+    for k in 0..column.count() {
+        let i = column.row(k);
+        if i <= before {
+            return true;
+        }
+        if i >= n {
+            return true;
+        }
+        before = i;
+    }
+    false
+}
+
+// Whether rows of column j break 18's rule, in whatever order they stand; a row of n or more does. O(length).
+pub(crate) fn outside<R: Rows>(n: usize, lows: &[u16], ends: &[u16], j: usize, column: R) -> bool
+    requires { (n ≤ length lows.now) × (n ≤ length ends.now) × (j < n) }
+    ensures { result ≡ outside_ranges n lows.now ends.now j (R.numbers column) }
+{
+    for k in 0..column.count() {
+        let i = column.row(k);
+        if i >= n {
+            return true;
+        }
+        if !holds(lows, ends, i, lows[j]) {
+            return true;
+        }
+    }
+    false
+}
+
+// Whether two lists of one length are equal. Every entry is looked at, so that several can be compared at once. O(length).
+pub(crate) fn same<R: Rows>(a: R, b: R) -> bool
+    requires { length (R.numbers a) ≡ length (R.numbers b) }
+    ensures { result ≡ same_lists (R.numbers a) (R.numbers b) }
+{
+    let mut differ = false;
+    for k in 0..a.count() {
+        differ |= a.row(k) != b.row(k);
+    }
+    !differ
+}
+
+// Each of some rows gets the mark j. O(length).
+pub(crate) fn mark<R: Rows>(column: R, j: u16, marks: &mut [u16])
+    requires { (i : ℕ) → is_in i (R.numbers column) ≡ true → i < length marks.old }
+    ensures { Marked j (λ i. is_in i (R.numbers column)) marks.old marks.new }
+{
+    for k in 0..column.count() {
+        marks[column.row(k)] = j;
+    }
+}
+
+// Whether each of some rows has the mark j. O(length).
+pub(crate) fn all_marked<R: Rows>(column: R, j: u16, marks: &[u16]) -> bool
+    requires { (i : ℕ) → is_in i (R.numbers column) ≡ true → i < length marks.now }
+    ensures { result ≡ every (λ i. eqb (get_or marks.now i 0) j) (R.numbers column) }
+{
+    for k in 0..column.count() {
+        if marks[column.row(k)] != j {
+            return false;
+        }
+    }
+    true
+}

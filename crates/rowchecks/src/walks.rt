@@ -1,0 +1,103 @@
+// The walk of checks 17 and 18 over rows, and check 19.
+ghost use Rattle.std.specs.Prelude.{◌≡◌, List, [], ℕ, ◌+◌, ◌≤◌, ◌<◌, length};
+ghost use Rattle.plan.specs.Lists.{list_at};
+ghost use Rattle.plan.specs.File.{covered as covered_by, not_covered};
+ghost use Rattle.plan.specs.RowFaults.{Carried};
+ghost use Rattle.mesh.specs.Lists.{ListWithin};
+ghost use Rattle.layout.specs.Arrays.{Unmarked};
+ghost use Rattle.rowchecks.specs.Rows.{parts_and_rows, SoundParts, Started, LaidOut, Ranges};
+
+use crate::columns::{all_marked, bad_column, mark, outside, same, sound};
+use crate::faults::RowFaults;
+use crate::ranges::ranges;
+use crate::rows::Rows;
+use mesh::{NONE, filled};
+
+// Column j's rows. O(1).
+fn column_of<R: Rows>(column_starts: &[u32], rows: R, j: usize) -> R
+    requires { ListWithin column_starts.now (R.numbers rows) j }
+    ensures { R.numbers result ≡ list_at column_starts.now (R.numbers rows) j }
+{
+    rows.part(column_starts[j] as usize, column_starts[j + 1] as usize)
+}
+
+// What the walk carries behind column j, where it carried `faults` before it: exactly the faults of the columns up to j, whatever the sizes and parents
+// that the ranges stand for. A column that breaks either rule is looked at again for each of them, since its rows need not ascend. O(rows).
+fn after_column<R: Rows>(
+    faults: RowFaults,
+    n: usize,
+    lows: &[u16],
+    ends: &[u16],
+    column_starts: &[u32],
+    rows: R,
+    j: usize,
+) -> RowFaults
+    requires { Started n column_starts.now (R.numbers rows) × (j < n) × (n ≤ length lows.now) × (n ≤ length ends.now) }
+    ensures { (sizes parents : List ℕ) → Ranges n sizes parents lows.now ends.now
+        → Carried j (parts_and_rows n sizes parents column_starts.now (R.numbers rows)) faults.unordered faults.outside
+        → Carried (j + 1) (parts_and_rows n sizes parents column_starts.now (R.numbers rows)) result.unordered result.outside }
+{
+    let column = column_of(column_starts, rows, j);
+    if sound(n, lows, ends, j, column) {
+        return faults;
+    }
+    RowFaults {
+        unordered: faults.unordered | bad_column(n, j, column),
+        outside: faults.outside | outside(n, lows, ends, j, column),
+    }
+}
+
+// Checks 17, where the starts have no fault, and 18: one walk over the rows. A fault of either does not end it. O(4,096 + n + slots).
+pub fn walk<R: Rows>(
+    n: usize,
+    sizes: &[u16],
+    parents: &[u16],
+    column_starts: &[u32],
+    rows: R,
+) -> RowFaults
+    requires { SoundParts n sizes.now parents.now × Started n column_starts.now (R.numbers rows) }
+    ensures { Carried n (parts_and_rows n sizes.now parents.now column_starts.now (R.numbers rows)) result.unordered result.outside }
+{
+    let mut lows = filled(0);
+    let mut ends = filled(0);
+    ranges(n, sizes, parents, &mut lows, &mut ends);
+    let mut faults = RowFaults::none();
+    for j in 0..n {
+        faults = after_column(faults, n, &lows, &ends, column_starts, rows, j);
+    }
+    faults
+}
+
+// Whether column j keeps 19's rule: its rows behind the first are all in the first row's column. Where that column has as many rows, the two lists
+// must be the same, since both ascend; else its rows are marked, and those of column j looked up. O(both columns).
+fn covered<R: Rows>(n: usize, column_starts: &[u32], rows: R, j: usize, marks: &mut [u16]) -> bool
+    requires { LaidOut n column_starts.now (R.numbers rows) × (j < n) × (n ≤ length marks.old) × Unmarked n j marks.old }
+    ensures { (result ≡ covered_by column_starts.now (R.numbers rows) (list_at column_starts.now (R.numbers rows) j)) × Unmarked n (j + 1) marks.new }
+{
+    let column = column_of(column_starts, rows, j);
+    let count = column.count();
+    if count < 2 {
+        return true;
+    }
+    let first = column_of(column_starts, rows, column.row(0));
+    let others = column.part(1, count);
+    if first.count() == count - 1 {
+        return same(first, others);
+    }
+    mark(first, j as u16, marks);
+    all_marked(others, j as u16, marks)
+}
+
+// Check 19: a column's rows behind its first are not all in the first row's column. O(4,096 + n + slots + the first rows' columns).
+pub fn not_covered<R: Rows>(n: usize, column_starts: &[u32], rows: R) -> bool
+    requires { LaidOut n column_starts.now (R.numbers rows) }
+    ensures { result ≡ not_covered (parts_and_rows n [] [] column_starts.now (R.numbers rows)) }
+{
+    let mut marks = filled(NONE);
+    for j in 0..n {
+        if !covered(n, column_starts, rows, j, &mut marks) {
+            return true;
+        }
+    }
+    false
+}
