@@ -13,6 +13,7 @@ use Rattle.plan.specs.Lists.{is_in, ascending}
 use Rattle.plan.specs.Mesh.{max_nodes, Mesh, adjacent}
 use Rattle.plan.specs.Levels.{levels, eccentricity, components}
 use Rattle.plan.specs.Choice.{degree_in, least_degree, candidates, improves, next_root, root_from, root_of}
+use Rattle.theory.specs.Checked.{Checked}
 use Rattle.theory.proofs.Bools.{tested, clash, cond_true, cond_false, eq_or_ne}
 use Rattle.theory.proofs.Lists.{head_or-get_or, get_last_or-get_or}
 use Rattle.theory.proofs.AllLists.{all_get_d}
@@ -77,7 +78,7 @@ module _ (m : Mesh) (nodes : List ℕ) {numbers queue : List ℕ} {root last : �
     inside = λ v t. h.within.inside v (last-inside v t);
   }
 
-  module _ (standing : Standing m nodes root numbers) where
+  module _ (checked : Checked m) (standing : Standing m nodes root numbers) where
     -- where the levels stand in the numbers, a node of the last one has its number
     own-number : (v : ℕ) → is_in v (get_last_d ls []) ≡ true → get_or numbers v 0 ≡ last
     own-number v t = standing.own last v (ap (is_in v) (sym last_is) ∙ t)
@@ -86,7 +87,7 @@ module _ (m : Mesh) (nodes : List ℕ) {numbers queue : List ℕ} {root last : �
     number-own : (v : ℕ) → is_in v nodes ≡ true → get_or numbers v 0 ≡ last → is_in v (get_last_d ls []) ≡ true
     number-own v i e =
         ap (is_in v) last_is
-        ∙ sym (number-level m nodes h.within root h.checked numbers standing last v (omega (arith, last-count)) (h.within.inside v i))
+        ∙ sym (number-level m nodes h.within root checked numbers standing last v (omega (arith, last-count)) (h.within.inside v i))
         ∙ eq-eqb (get_or numbers v 0) last e
 
     module _ (kept : List ℕ) (renumbered : Renumbered (only_level last) nodes numbers kept) where
@@ -161,7 +162,6 @@ module _ (m : Mesh) (nodes : List ℕ) {numbers queue : List ℕ} {root last : �
 pub regional_over : (m : Mesh) (nodes : List ℕ) {numbers queue new after : List ℕ} → Regional m nodes numbers queue
     → Only m.nodes nodes new → m.nodes ≤ length new → length after ≡ length queue → Regional m nodes new after
 regional_over m nodes h only e f = record {
-  checked = h.checked;
   within = h.within;
   some = h.some;
   only = only;

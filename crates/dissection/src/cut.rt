@@ -1,9 +1,9 @@
 // The division of a region: George and Liu's part, and the components of what is left.
 ghost use Rattle.std.specs.Prelude.{◌≡◌, cond, [], ◌≤◌, ◌<◌, eqb, length, get_or};
 ghost use Rattle.plan.specs.Lists.{exists};
-ghost use Rattle.plan.specs.Mesh.{lent, neighbours_of};
+ghost use Rattle.plan.specs.Mesh.{neighbours_of};
 ghost use Rattle.plan.specs.Choice.{root_of};
-ghost use Rattle.theory.specs.Checked.{Checked};
+ghost use Rattle.mesh.specs.Lent.{as_lent};
 ghost use Rattle.dissection.specs.Numbers.{outside, Within, Only, NumberedBy};
 ghost use Rattle.dissection.specs.Standing.{Regional, Standing, separates_at, Parted, Divided};
 ghost use Rattle.dissection.specs.Rooted.{Rooted};
@@ -11,39 +11,30 @@ ghost use Rattle.dissection.specs.Rooted.{Rooted};
 use crate::levels::label;
 use crate::numbers::{FRESH, OUTSIDE, fill, renumber};
 use crate::root::search;
-use mesh::list;
+use mesh::CheckedMesh;
 
-// Whether node v has a neighbour with number x. n is for the contract alone. O(degree).
-fn next_to(n: usize, starts: &[u32], neighbours: &[u16], v: usize, x: u16, numbers: &[u16]) -> bool
-    requires { Checked (lent n starts.now neighbours.now) × (v < n) × (n ≤ length numbers.now) }
-    ensures { result ≡ exists (λ w. eqb (get_or numbers.now w 0) x) (neighbours_of (lent n starts.now neighbours.now) v) }
+// Whether node v has a neighbour with number x. O(degree).
+fn next_to(mesh: &CheckedMesh, v: usize, x: u16, numbers: &[u16]) -> bool
+    requires { (v < mesh.now.nodes) × (mesh.now.nodes ≤ length numbers.now) }
+    ensures { result ≡ exists (λ w. eqb (get_or numbers.now w 0) x) (neighbours_of (as_lent mesh.now) v) }
 {
-    list(starts, neighbours, v)
-        .iter()
-        .any(|&w| numbers[w as usize] == x)
+    mesh.list(v).iter().any(|&w| numbers[w as usize] == x)
 }
 
 // Whether node v has number j and a neighbour with number j + 1. O(degree).
-fn separates(
-    n: usize,
-    starts: &[u32],
-    neighbours: &[u16],
-    v: usize,
-    j: u16,
-    numbers: &[u16],
-) -> bool
-    requires { Checked (lent n starts.now neighbours.now) × (v < n) × (n ≤ length numbers.now) × (j < n) }
-    ensures { result ≡ separates_at (lent n starts.now neighbours.now) j numbers.now v }
+fn separates(mesh: &CheckedMesh, v: usize, j: u16, numbers: &[u16]) -> bool
+    requires { (v < mesh.now.nodes) × (mesh.now.nodes ≤ length numbers.now) × (j < mesh.now.nodes) }
+    ensures { result ≡ separates_at (as_lent mesh.now) j numbers.now v }
 {
-    numbers[v] == j && next_to(n, starts, neighbours, v, j + 1, numbers)
+    numbers[v] == j && next_to(mesh, v, j + 1, numbers)
 }
 
 // The number of node v where the separator has been left out. O(degree).
-fn separated(n: usize, starts: &[u32], neighbours: &[u16], v: usize, j: u16, numbers: &[u16]) -> u16
-    requires { Checked (lent n starts.now neighbours.now) × (v < n) × (n ≤ length numbers.now) × (j < n) }
-    ensures { result ≡ cond (separates_at (lent n starts.now neighbours.now) j numbers.now v) outside (get_or numbers.now v 0) }
+fn separated(mesh: &CheckedMesh, v: usize, j: u16, numbers: &[u16]) -> u16
+    requires { (v < mesh.now.nodes) × (mesh.now.nodes ≤ length numbers.now) × (j < mesh.now.nodes) }
+    ensures { result ≡ cond (separates_at (as_lent mesh.now) j numbers.now v) outside (get_or numbers.now v 0) }
 {
-    if separates(n, starts, neighbours, v, j, numbers) {
+    if separates(mesh, v, j, numbers) {
         OUTSIDE
     } else {
         numbers[v]
@@ -52,42 +43,28 @@ fn separated(n: usize, starts: &[u32], neighbours: &[u16], v: usize, j: u16, num
 
 // The nodes of the separator, those of level j that have a neighbour in level j + 1, are left out. In place: a number that changes is j, and only j
 // and j + 1 are looked for. O(length + entries of level j).
-fn separate(
-    n: usize,
-    starts: &[u32],
-    neighbours: &[u16],
-    nodes: &[u16],
-    j: u16,
-    numbers: &mut [u16],
-)
-    requires { Checked (lent n starts.now neighbours.now) × Within n nodes.now × (n ≤ length numbers.old) × (j < n) }
-    ensures { NumberedBy (λ v. cond (separates_at (lent n starts.now neighbours.now) j numbers.old v) outside (get_or numbers.old v 0)) nodes.now numbers.old numbers.new }
+fn separate(mesh: &CheckedMesh, nodes: &[u16], j: u16, numbers: &mut [u16])
+    requires { Within mesh.now.nodes nodes.now × (mesh.now.nodes ≤ length numbers.old) × (j < mesh.now.nodes) }
+    ensures { NumberedBy (λ v. cond (separates_at (as_lent mesh.now) j numbers.old v) outside (get_or numbers.old v 0)) nodes.now numbers.old numbers.new }
 {
     for &v in nodes {
         let v = v as usize;
-        numbers[v] = separated(n, starts, neighbours, v, j, numbers);
+        numbers[v] = separated(mesh, v, j, numbers);
     }
 }
 
 // A region's part is left out and its other nodes become fresh, by the levels that stand in the numbers. "If ℓ is 0 or 1 the whole region is one
 // part". O(length + entries of the cut level).
-fn choose(
-    n: usize,
-    starts: &[u32],
-    neighbours: &[u16],
-    nodes: &[u16],
-    last: u16,
-    numbers: &mut [u16],
-)
-    requires checked { Checked (lent n starts.now neighbours.now) × Within n nodes.now × (n ≤ length numbers.old) }
-    requires rooted { Rooted (lent n starts.now neighbours.now) nodes.now (root_of (lent n starts.now neighbours.now) nodes.now) last × Standing (lent n starts.now neighbours.now) nodes.now (root_of (lent n starts.now neighbours.now) nodes.now) numbers.old }
-    ensures { Parted (lent n starts.now neighbours.now) nodes.now numbers.new }
+fn choose(mesh: &CheckedMesh, nodes: &[u16], last: u16, numbers: &mut [u16])
+    requires inside { Within mesh.now.nodes nodes.now × (mesh.now.nodes ≤ length numbers.old) }
+    requires rooted { Rooted (as_lent mesh.now) nodes.now (root_of (as_lent mesh.now) nodes.now) last × Standing (as_lent mesh.now) nodes.now (root_of (as_lent mesh.now) nodes.now) numbers.old }
+    ensures { Parted (as_lent mesh.now) nodes.now numbers.new }
 {
     if last <= 1 {
         fill(nodes, OUTSIDE, numbers);
         return;
     }
-    separate(n, starts, neighbours, nodes, (last + 1) / 2, numbers);
+    separate(mesh, nodes, (last + 1) / 2, numbers);
     renumber(
         nodes,
         |x| if x == OUTSIDE { OUTSIDE } else { FRESH },
@@ -98,9 +75,7 @@ fn choose(
 // A region divided: the nodes of the regions left get the numbers 0, 1, .. of their regions, by smallest node, and those of the part the number
 // behind them, which is returned. O(candidates tried · entries of the region).
 pub(crate) fn divide(
-    n: usize,
-    starts: &[u32],
-    neighbours: &[u16],
+    mesh: &CheckedMesh,
     nodes: &[u16],
     at: u16,
     numbers: &mut [u16],
@@ -109,16 +84,12 @@ pub(crate) fn divide(
     begins: &mut [u16],
     irregular: bool,
 ) -> usize
-    requires { Regional (lent n starts.now neighbours.now) nodes.now numbers.old queue.old × Only n [] trial.old × (n ≤ length trial.old) × (n < length begins.old) × (at ≤ n) }
-    ensures { Divided (lent n starts.now neighbours.now) nodes.now at numbers.new begins.new result × Only n [] trial.new }
+    requires { Regional (as_lent mesh.now) nodes.now numbers.old queue.old × Only mesh.now.nodes [] trial.old × (mesh.now.nodes ≤ length trial.old) × (mesh.now.nodes < length begins.old) × (at ≤ mesh.now.nodes) }
+    ensures { Divided (as_lent mesh.now) nodes.now at numbers.new begins.new result × Only mesh.now.nodes [] trial.new }
 {
-    let last = search(
-        n, starts, neighbours, nodes, numbers, trial, queue, begins, irregular,
-    );
-    choose(n, starts, neighbours, nodes, last, numbers);
-    let count = label(
-        n, starts, neighbours, nodes, at, numbers, queue, begins, irregular,
-    );
+    let last = search(mesh, nodes, numbers, trial, queue, begins, irregular);
+    choose(mesh, nodes, last, numbers);
+    let count = label(mesh, nodes, at, numbers, queue, begins, irregular);
     let part = count as u16;
     renumber(nodes, |x| if x == OUTSIDE { part } else { x }, numbers);
     count

@@ -1,13 +1,13 @@
 // Levels from a root and connected components, over lent arrays. A walk goes over the fresh nodes; any other number keeps it out.
 ghost use Rattle.std.specs.Prelude.{◌≡◌, ◌⊎◌, true, cond, ℕ, ◌+◌, ◌≤◌, ◌<◌, max, eqb, length, get_or};
 ghost use Rattle.plan.specs.Lists.{exists, is_in, segment};
-ghost use Rattle.plan.specs.Mesh.{lent, adjacent};
-ghost use Rattle.theory.specs.Checked.{Checked};
+ghost use Rattle.plan.specs.Mesh.{adjacent};
+ghost use Rattle.mesh.specs.Lent.{as_lent};
 ghost use Rattle.dissection.specs.Numbers.{fresh, fresh_of, Within, Walked, Skipped, Taken, Labelled};
 ghost use Rattle.dissection.specs.Spread.{Spread, Room};
 
 use crate::numbers::{FRESH, fill};
-use mesh::list;
+use mesh::CheckedMesh;
 
 // A mesh with no longer list is a path, a tree, a grid or a regular triangulation, as a rule: the processor learns which entries are fresh.
 const REGULAR: usize = 6;
@@ -15,12 +15,10 @@ const REGULAR: usize = 6;
 const SHORT: usize = 15;
 
 // Whether nothing predicts which entries of a list are fresh: a guess by the longest list, for speed alone, on which no promise rests. O(n).
-pub(crate) fn is_irregular(n: usize, starts: &[u32], neighbours: &[u16]) -> bool
-    requires { Checked (lent n starts.now neighbours.now) }
-{
+pub(crate) fn is_irregular(mesh: &CheckedMesh) -> bool {
     let mut longest: usize = 0;
-    for v in 0..n {
-        longest = longest.max(list(starts, neighbours, v).len());
+    for v in 0..mesh.nodes {
+        longest = longest.max(mesh.list(v).len());
     }
     REGULAR < longest && longest <= SHORT
 }
@@ -101,9 +99,7 @@ fn touch(
 
 // The list of node u: each entry is touched, and the queue's new end is returned. O(degree).
 fn visit(
-    n: usize,
-    starts: &[u32],
-    neighbours: &[u16],
+    mesh: &CheckedMesh,
     u: usize,
     x: u16,
     numbers: &mut [u16],
@@ -111,12 +107,12 @@ fn visit(
     tail: usize,
     irregular: bool,
 ) -> usize
-    requires { Checked (lent n starts.now neighbours.now) × (u < n) × (x < fresh) × Room n numbers.old queue.old tail }
-    ensures { Spread n x tail numbers.old queue.old (adjacent (lent n starts.now neighbours.now) u) numbers.new queue.new result }
+    requires { (u < mesh.now.nodes) × (x < fresh) × Room mesh.now.nodes numbers.old queue.old tail }
+    ensures { Spread mesh.now.nodes x tail numbers.old queue.old (adjacent (as_lent mesh.now) u) numbers.new queue.new result }
 {
     let mut end = tail;
-    for &w in list(starts, neighbours, u) {
-        end = touch(n, w, x, numbers, queue, end, irregular);
+    for &w in mesh.list(u) {
+        end = touch(mesh.nodes, w, x, numbers, queue, end, irregular);
     }
     end
 }
@@ -124,9 +120,7 @@ fn visit(
 // The lists of the nodes that stand in the queue from place lo up to, not including, hi, are visited. The queue's new end is returned.
 // O(their entries).
 fn advance(
-    n: usize,
-    starts: &[u32],
-    neighbours: &[u16],
+    mesh: &CheckedMesh,
     x: u16,
     numbers: &mut [u16],
     queue: &mut [u16],
@@ -134,23 +128,13 @@ fn advance(
     hi: usize,
     irregular: bool,
 ) -> usize
-    requires { Checked (lent n starts.now neighbours.now) × (x < fresh) × (lo ≤ hi) × Room n numbers.old queue.old hi × ((k : ℕ) → k < hi → get_or queue.old k 0 < n) }
-    ensures { Spread n x hi numbers.old queue.old (λ v. exists (λ u. adjacent (lent n starts.now neighbours.now) u v) (segment queue.old lo hi)) numbers.new queue.new result }
+    requires { (x < fresh) × (lo ≤ hi) × Room mesh.now.nodes numbers.old queue.old hi × ((k : ℕ) → k < hi → get_or queue.old k 0 < mesh.now.nodes) }
+    ensures { Spread mesh.now.nodes x hi numbers.old queue.old (λ v. exists (λ u. adjacent (as_lent mesh.now) u v) (segment queue.old lo hi)) numbers.new queue.new result }
 {
     let mut tail = hi;
     // kept: k is a place of the queue, which the visits write behind hi while its places before hi are read
     for k in lo..hi {
-        tail = visit(
-            n,
-            starts,
-            neighbours,
-            queue[k] as usize,
-            x,
-            numbers,
-            queue,
-            tail,
-            irregular,
-        );
+        tail = visit(mesh, queue[k] as usize, x, numbers, queue, tail, irregular);
     }
     tail
 }
@@ -165,16 +149,14 @@ pub(crate) struct Reach {
 
 // Levels from a root within the fresh nodes: each node reached gets its level's number and stands in the queue. O(entries of the nodes reached).
 pub(crate) fn walk(
-    n: usize,
-    starts: &[u32],
-    neighbours: &[u16],
+    mesh: &CheckedMesh,
     root: u16,
     numbers: &mut [u16],
     queue: &mut [u16],
     irregular: bool,
 ) -> Reach
-    requires { Checked (lent n starts.now neighbours.now) × (root < n) × (get_or numbers.old root 0 ≡ fresh) × (n ≤ length numbers.old) × (n < length queue.old) }
-    ensures { Walked n (adjacent (lent n starts.now neighbours.now)) (fresh_of n numbers.old) root numbers.old numbers.new queue.new result.last result.width result.reached }
+    requires { (root < mesh.now.nodes) × (get_or numbers.old root 0 ≡ fresh) × (mesh.now.nodes ≤ length numbers.old) × (mesh.now.nodes < length queue.old) }
+    ensures { Walked mesh.now.nodes (adjacent (as_lent mesh.now)) (fresh_of mesh.now.nodes numbers.old) root numbers.old numbers.new queue.new result.last result.width result.reached }
 {
     numbers[root as usize] = 0;
     queue[0] = root;
@@ -183,17 +165,7 @@ pub(crate) fn walk(
     let mut lo: usize = 0;
     let mut hi: usize = 1;
     loop {
-        let tail = advance(
-            n,
-            starts,
-            neighbours,
-            last + 1,
-            numbers,
-            queue,
-            lo,
-            hi,
-            irregular,
-        );
+        let tail = advance(mesh, last + 1, numbers, queue, lo, hi, irregular);
         if tail <= hi {
             break;
         }
@@ -212,9 +184,7 @@ pub(crate) fn walk(
 // The component of node v, where v is fresh: its nodes get the number `count`, and the place behind them is noted. The number of components
 // so far is returned. O(entries of the nodes reached).
 fn component(
-    n: usize,
-    starts: &[u32],
-    neighbours: &[u16],
+    mesh: &CheckedMesh,
     v: u16,
     numbers: &mut [u16],
     queue: &mut [u16],
@@ -222,14 +192,14 @@ fn component(
     count: usize,
     irregular: bool,
 ) -> usize
-    requires checked { Checked (lent n starts.now neighbours.now) × (v < n) × (n ≤ length numbers.old) × (n < length queue.old) × (n < length begins.old) }
-    requires count_lt_n { (get_or numbers.old v 0 ≡ fresh → count < n) × (get_or begins.old count 0 ≤ n + n) }
-    ensures { Skipped v numbers.old numbers.new begins.old begins.new count result ⊎ Taken n (adjacent (lent n starts.now neighbours.now)) v numbers.old numbers.new begins.old begins.new count result }
+    requires bounded { (v < mesh.now.nodes) × (mesh.now.nodes ≤ length numbers.old) × (mesh.now.nodes < length queue.old) × (mesh.now.nodes < length begins.old) }
+    requires count_lt_n { (get_or numbers.old v 0 ≡ fresh → count < mesh.now.nodes) × (get_or begins.old count 0 ≤ mesh.now.nodes + mesh.now.nodes) }
+    ensures { Skipped v numbers.old numbers.new begins.old begins.new count result ⊎ Taken mesh.now.nodes (adjacent (as_lent mesh.now)) v numbers.old numbers.new begins.old begins.new count result }
 {
     if numbers[v as usize] != FRESH {
         return count;
     }
-    let reached = walk(n, starts, neighbours, v, numbers, queue, irregular).reached;
+    let reached = walk(mesh, v, numbers, queue, irregular).reached;
     fill(&queue[..reached], count as u16, numbers);
     begins[count + 1] = begins[count] + reached as u16;
     count + 1
@@ -239,9 +209,7 @@ fn component(
 // number c, the components being counted by their smallest nodes. Where they begin, standing one after the other from place `at`, is noted,
 // and their number is returned. O(length + entries of the nodes reached).
 pub(crate) fn label(
-    n: usize,
-    starts: &[u32],
-    neighbours: &[u16],
+    mesh: &CheckedMesh,
     nodes: &[u16],
     at: u16,
     numbers: &mut [u16],
@@ -249,16 +217,14 @@ pub(crate) fn label(
     begins: &mut [u16],
     irregular: bool,
 ) -> usize
-    requires checked { Checked (lent n starts.now neighbours.now) × Within n nodes.now × ((v : ℕ) → is_in v (fresh_of n numbers.old) ≡ true → is_in v nodes.now ≡ true) × ((v : ℕ) → is_in v nodes.now ≡ true → n ≤ get_or numbers.old v 0) }
-    requires at_le_n { (at ≤ n) × (n ≤ length numbers.old) × (n < length queue.old) × (n < length begins.old) }
-    ensures { Labelled n (adjacent (lent n starts.now neighbours.now)) nodes.now at numbers.old numbers.new begins.new result }
+    requires listed { Within mesh.now.nodes nodes.now × ((v : ℕ) → is_in v (fresh_of mesh.now.nodes numbers.old) ≡ true → is_in v nodes.now ≡ true) × ((v : ℕ) → is_in v nodes.now ≡ true → mesh.now.nodes ≤ get_or numbers.old v 0) }
+    requires at_le_n { (at ≤ mesh.now.nodes) × (mesh.now.nodes ≤ length numbers.old) × (mesh.now.nodes < length queue.old) × (mesh.now.nodes < length begins.old) }
+    ensures { Labelled mesh.now.nodes (adjacent (as_lent mesh.now)) nodes.now at numbers.old numbers.new begins.new result }
 {
     begins[0] = at;
     let mut count: usize = 0;
     for &v in nodes {
-        count = component(
-            n, starts, neighbours, v, numbers, queue, begins, count, irregular,
-        );
+        count = component(mesh, v, numbers, queue, begins, count, irregular);
     }
     count
 }

@@ -2,8 +2,8 @@
 ghost use Rattle.std.specs.Prelude.{◌≡◌, true, false, ◌&&◌, ◌||◌, ℕ, ◌≤◌, ◌<◌, eqb, ltb, length, take};
 ghost use mathlib.Core.List.{[], head_d};
 ghost use Rattle.plan.specs.Lists.{is_in, keep};
-ghost use Rattle.plan.specs.Mesh.{lent};
 ghost use Rattle.plan.specs.Choice.{candidates as candidates_of, improves, next_root, root_of};
+ghost use Rattle.mesh.specs.Lent.{as_lent};
 ghost use Rattle.dissection.specs.Numbers.{Only};
 ghost use Rattle.dissection.specs.Standing.{Regional, Standing};
 ghost use Rattle.dissection.specs.Rooted.{Rooted, Measured, Better};
@@ -11,6 +11,7 @@ ghost use Rattle.dissection.specs.Rooted.{Rooted, Measured, Better};
 use crate::degrees::least;
 use crate::levels::{label, walk};
 use crate::numbers::{FRESH, OUTSIDE, fill, renumber, transfer};
+use mesh::CheckedMesh;
 
 // A root with the number of its last level (document 01: ℓ) and the node count of its widest level.
 #[derive(Clone, Copy)]
@@ -31,9 +32,7 @@ fn replaces(next: Root, root: Root) -> bool
 // returned. `found` has the places where the components begin until the candidates are written over them, and `queue` their degrees at the end.
 // O(length + entries of the last level).
 fn candidates(
-    n: usize,
-    starts: &[u32],
-    neighbours: &[u16],
+    mesh: &CheckedMesh,
     nodes: &[u16],
     root: Root,
     levels: &[u16],
@@ -42,39 +41,33 @@ fn candidates(
     found: &mut [u16],
     irregular: bool,
 ) -> usize
-    requires regional { Regional (lent n starts.now neighbours.now) nodes.now trial.old queue.old × (n ≤ length levels.now) × (n < length found.old) }
-    requires rooted { Rooted (lent n starts.now neighbours.now) nodes.now root.node root.last × Standing (lent n starts.now neighbours.now) nodes.now root.node levels.now }
-    ensures { (take result found.new ≡ candidates_of (lent n starts.now neighbours.now) nodes.now root.node) × (result ≤ n) × Only n nodes.now trial.new }
+    requires regional { Regional (as_lent mesh.now) nodes.now trial.old queue.old × (mesh.now.nodes ≤ length levels.now) × (mesh.now.nodes < length found.old) }
+    requires rooted { Rooted (as_lent mesh.now) nodes.now root.node root.last × Standing (as_lent mesh.now) nodes.now root.node levels.now }
+    ensures { (take result found.new ≡ candidates_of (as_lent mesh.now) nodes.now root.node) × (result ≤ mesh.now.nodes) × Only mesh.now.nodes nodes.now trial.new }
 {
     transfer(nodes, levels, trial);
     let last = root.last;
     renumber(nodes, |x| if x == last { FRESH } else { OUTSIDE }, trial);
-    let count = label(
-        n, starts, neighbours, nodes, 0, trial, queue, found, irregular,
-    );
-    least(
-        n, starts, neighbours, nodes, levels, trial, count, found, queue,
-    );
+    let count = label(mesh, nodes, 0, trial, queue, found, irregular);
+    least(mesh, nodes, levels, trial, count, found, queue);
     count
 }
 
 // The levels from node r, which then stand in the numbers. Returned is the root r with the number of its last level and the node count of its widest.
 // O(length + entries of the region).
 fn levels_from(
-    n: usize,
-    starts: &[u32],
-    neighbours: &[u16],
+    mesh: &CheckedMesh,
     nodes: &[u16],
     r: u16,
     numbers: &mut [u16],
     queue: &mut [u16],
     irregular: bool,
 ) -> Root
-    requires { Regional (lent n starts.now neighbours.now) nodes.now numbers.old queue.old × (is_in r nodes.now ≡ true) }
-    ensures { (result.node ≡ r) × Measured (lent n starts.now neighbours.now) nodes.now r result.last result.width × Standing (lent n starts.now neighbours.now) nodes.now r numbers.new }
+    requires { Regional (as_lent mesh.now) nodes.now numbers.old queue.old × (is_in r nodes.now ≡ true) }
+    ensures { (result.node ≡ r) × Measured (as_lent mesh.now) nodes.now r result.last result.width × Standing (as_lent mesh.now) nodes.now r numbers.new }
 {
     fill(nodes, FRESH, numbers);
-    let w = walk(n, starts, neighbours, r, numbers, queue, irregular);
+    let w = walk(mesh, r, numbers, queue, irregular);
     Root {
         node: r,
         last: w.last,
@@ -85,9 +78,7 @@ fn levels_from(
 // The first of the candidates that replaces the root, whose levels then stand in the numbers; the root where there is none. The former root, which
 // the root has replaced, does not replace it, so it is not walked from. O(candidates · entries of the region).
 fn first_better(
-    n: usize,
-    starts: &[u32],
-    neighbours: &[u16],
+    mesh: &CheckedMesh,
     nodes: &[u16],
     root: Root,
     former: u16,
@@ -96,17 +87,15 @@ fn first_better(
     queue: &mut [u16],
     irregular: bool,
 ) -> Root
-    requires regional { Regional (lent n starts.now neighbours.now) nodes.now numbers.old queue.old × Measured (lent n starts.now neighbours.now) nodes.now root.node root.last root.width × (improves (lent n starts.now neighbours.now) nodes.now root.node former ≡ false) }
+    requires regional { Regional (as_lent mesh.now) nodes.now numbers.old queue.old × Measured (as_lent mesh.now) nodes.now root.node root.last root.width × (improves (as_lent mesh.now) nodes.now root.node former ≡ false) }
     requires inside { (x : ℕ) → is_in x found.now ≡ true → is_in x nodes.now ≡ true }
-    ensures { (result.node ≡ head_d (keep (improves (lent n starts.now neighbours.now) nodes.now root.node) found.now) root.node) × Better (lent n starts.now neighbours.now) nodes.now root.node result.node result.last result.width numbers.new }
+    ensures { (result.node ≡ head_d (keep (improves (as_lent mesh.now) nodes.now root.node) found.now) root.node) × Better (as_lent mesh.now) nodes.now root.node result.node result.last result.width numbers.new }
 {
     for &candidate in found {
         if candidate == former {
             continue;
         }
-        let next = levels_from(
-            n, starts, neighbours, nodes, candidate, numbers, queue, irregular,
-        );
+        let next = levels_from(mesh, nodes, candidate, numbers, queue, irregular);
         if replaces(next, root) {
             return next;
         }
@@ -117,9 +106,7 @@ fn first_better(
 // The root after one turn of the search, from one whose levels stand in `levels`; a better one's levels then stand in `trial`.
 // O(candidates · entries of the region).
 fn improve(
-    n: usize,
-    starts: &[u32],
-    neighbours: &[u16],
+    mesh: &CheckedMesh,
     nodes: &[u16],
     root: Root,
     former: u16,
@@ -129,17 +116,13 @@ fn improve(
     found: &mut [u16],
     irregular: bool,
 ) -> Root
-    requires regional { Regional (lent n starts.now neighbours.now) nodes.now trial.old queue.old × (n ≤ length levels.now) × (n < length found.old) }
-    requires measured { Measured (lent n starts.now neighbours.now) nodes.now root.node root.last root.width × Standing (lent n starts.now neighbours.now) nodes.now root.node levels.now × (improves (lent n starts.now neighbours.now) nodes.now root.node former ≡ false) }
-    ensures { (result.node ≡ next_root (lent n starts.now neighbours.now) nodes.now root.node) × Better (lent n starts.now neighbours.now) nodes.now root.node result.node result.last result.width trial.new }
+    requires regional { Regional (as_lent mesh.now) nodes.now trial.old queue.old × (mesh.now.nodes ≤ length levels.now) × (mesh.now.nodes < length found.old) }
+    requires measured { Measured (as_lent mesh.now) nodes.now root.node root.last root.width × Standing (as_lent mesh.now) nodes.now root.node levels.now × (improves (as_lent mesh.now) nodes.now root.node former ≡ false) }
+    ensures { (result.node ≡ next_root (as_lent mesh.now) nodes.now root.node) × Better (as_lent mesh.now) nodes.now root.node result.node result.last result.width trial.new }
 {
-    let count = candidates(
-        n, starts, neighbours, nodes, root, levels, trial, queue, found, irregular,
-    );
+    let count = candidates(mesh, nodes, root, levels, trial, queue, found, irregular);
     first_better(
-        n,
-        starts,
-        neighbours,
+        mesh,
         nodes,
         root,
         former,
@@ -154,9 +137,7 @@ fn improve(
 // improves on all before it. Candidates are walked from in `trial`, so that the root's own levels stay and are not walked again; in it every node is
 // outside, before and after. O(candidates tried · entries of the region).
 pub(crate) fn search(
-    n: usize,
-    starts: &[u32],
-    neighbours: &[u16],
+    mesh: &CheckedMesh,
     nodes: &[u16],
     numbers: &mut [u16],
     trial: &mut [u16],
@@ -164,16 +145,14 @@ pub(crate) fn search(
     found: &mut [u16],
     irregular: bool,
 ) -> u16
-    requires { Regional (lent n starts.now neighbours.now) nodes.now numbers.old queue.old × Only n [] trial.old × (n ≤ length trial.old) × (n < length found.old) }
-    ensures { Rooted (lent n starts.now neighbours.now) nodes.now (root_of (lent n starts.now neighbours.now) nodes.now) result × Standing (lent n starts.now neighbours.now) nodes.now (root_of (lent n starts.now neighbours.now) nodes.now) numbers.new × Only n [] trial.new }
+    requires { Regional (as_lent mesh.now) nodes.now numbers.old queue.old × Only mesh.now.nodes [] trial.old × (mesh.now.nodes ≤ length trial.old) × (mesh.now.nodes < length found.old) }
+    ensures { Rooted (as_lent mesh.now) nodes.now (root_of (as_lent mesh.now) nodes.now) result × Standing (as_lent mesh.now) nodes.now (root_of (as_lent mesh.now) nodes.now) numbers.new × Only mesh.now.nodes [] trial.new }
 {
-    let mut root = levels_from(
-        n, starts, neighbours, nodes, nodes[0], numbers, queue, irregular,
-    );
+    let mut root = levels_from(mesh, nodes, nodes[0], numbers, queue, irregular);
     let mut former = root.node;
     loop {
         let next = improve(
-            n, starts, neighbours, nodes, root, former, numbers, trial, queue, found, irregular,
+            mesh, nodes, root, former, numbers, trial, queue, found, irregular,
         );
         if next.node == root.node {
             break;

@@ -2,27 +2,27 @@
 use Prim.Native.Nat.{◌≤◌}
 use native.Mathlib.Omega.{arith}
 use borrow.Author.Rules.{rules}
-use Rattle.plan.specs.Mesh.{lent}
+use Rattle.mesh.specs.Lent.{as_lent}
 use Rattle.dissection.specs.Changes.{part_numbered}
 use Rattle.dissection.proofs.Cuts.{parted-fresh, parted-high, divided}
 use Rattle.dissection.proofs.cut.divide.Goals.{After-label-count}
 use Rattle.dissection.proofs.cut.divide.Goals as goal
 
 -- there are at most as many labels as nodes
-few : (c : After-label-count) → c.label-count.result ≤ c.args.n
+few : (c : After-label-count) → c.label-count.result ≤ c.args.mesh.now.nodes
 few c = c.label-count.ensures.few
 
 pub choose-requires : goal.choose-requires
 choose-requires c =
     record {
-      checked = (c.requires.0.checked, c.requires.0.within, omega (arith, c.requires.0.numbers_long, c.search-last.auto.numbers));
+      inside = (c.requires.0.within, omega (arith, c.requires.0.numbers_long, c.search-last.auto.numbers));
       rooted = (c.search-last.ensures.0, c.search-last.ensures.1);
     }
 
 pub label-count-requires : goal.label-count-requires
 label-count-requires c =
     record {
-      checked = (c.requires.0.checked, c.requires.0.within, λ v h. (parted-fresh (lent c.args.n c.args.starts.now c.args.neighbours.now) c.args.nodes.now c.choose.new.numbers c.choose.ensures v h).0, parted-high (lent c.args.n c.args.starts.now c.args.neighbours.now) c.args.nodes.now c.choose.new.numbers c.requires.0.checked c.choose.ensures);
+      listed = (c.requires.0.within, λ v h. (parted-fresh (as_lent c.args.mesh.now) c.args.nodes.now c.choose.new.numbers c.choose.ensures v h).0, parted-high (as_lent c.args.mesh.now) c.args.nodes.now c.choose.new.numbers c.args.mesh.now.checked c.choose.ensures);
       at_le_n = (c.requires.4, omega (arith, c.requires.0.numbers_long, c.search-last.auto.numbers, c.choose.auto.numbers), omega (arith, c.requires.0.queue_long, c.search-last.auto.queue), omega (arith, c.requires.3, c.search-last.auto.found));
     }
 
@@ -36,7 +36,7 @@ renumber-requires-clause-within c = record { ascends = c.requires.0.within.ascen
 
 pub returns : goal.returns
 returns c = (
-  divided (lent c.args.n c.args.starts.now c.args.neighbours.now) c.args.nodes.now c.args.at c.choose.new.numbers c.label-count.new.numbers c.renumber.new.numbers c.label-count.new.begins
-      c.label-count.result (omega (arith, few (goal.at.returns c).After-label-count, c.requires.0.checked.few)) c.choose.ensures c.label-count.ensures (c.renumber.ensures (part_numbered c.label-count.result) (λ x r e. search (rules, e))),
+  divided (as_lent c.args.mesh.now) c.args.nodes.now c.args.at c.choose.new.numbers c.label-count.new.numbers c.renumber.new.numbers c.label-count.new.begins
+      c.label-count.result (omega (arith, few (goal.at.returns c).After-label-count, c.args.mesh.now.checked.few)) c.choose.ensures c.label-count.ensures (c.renumber.ensures (part_numbered c.label-count.result) (λ x r e. search (rules, e))),
   c.search-last.ensures.2,
 )

@@ -4,16 +4,16 @@ use Prim.Native.Nat.{◌<◌}
 use native.Mathlib.Omega.{arith}
 use lib.ListN.{get_or}
 use borrow.Author.Rules.{rules}
-use Rattle.plan.specs.Mesh.{lent}
 use Rattle.theory.proofs.Lists.{is_in-get_or}
+use Rattle.mesh.specs.Lent.{as_lent}
 use Rattle.dissection.proofs.Renumbering.{renumbering_none, renumbering_more, renumbering_all}
 use Rattle.dissection.proofs.Cuts.{left_out_next}
 use Rattle.dissection.proofs.cut.separate.Goals.{In-loop-v}
 use Rattle.dissection.proofs.cut.separate.Goals as goal
 
 -- a node of the list is a node of the mesh
-inside : (c : In-loop-v) → get_or c.args.nodes.now c.loop-v.v-index 0 < c.args.n
-inside c = (c.requires.1.inside (get_or c.args.nodes.now c.loop-v.v-index 0) (is_in-get_or c.args.nodes.now c.loop-v.v-index 0 c.loop-v-test.true))
+inside : (c : In-loop-v) → get_or c.args.nodes.now c.loop-v.v-index 0 < c.args.mesh.now.nodes
+inside c = (c.requires.0.inside (get_or c.args.nodes.now c.loop-v.v-index 0) (is_in-get_or c.args.nodes.now c.loop-v.v-index 0 c.loop-v-test.true))
 
 pub loop-v-init : goal.loop-v-init
 loop-v-init c = renumbering_none _ _ _
@@ -29,9 +29,9 @@ bounds-numbers-v c = let lt = inside (goal.at.bounds-numbers-v c).In-loop-v in s
 
 pub loop-v-preserved : goal.loop-v-preserved
 loop-v-preserved c =
-    renumbering_more c.loop-v.invariant refl (omega arith) (λ v h. omega (arith, c.requires.1.inside v h, c.requires.2)) c.separated.result
+    renumbering_more c.loop-v.invariant refl (omega arith) (λ v h. omega (arith, c.requires.0.inside v h, c.requires.1)) c.separated.result
     (c.separated.ensures
-    ∙ left_out_next (lent c.args.n c.args.starts.now c.args.neighbours.now) c.args.j (omega (arith, c.requires.3, c.requires.0.few)) c.loop-v.invariant (omega arith) c.requires.1.ascends)
+    ∙ left_out_next (as_lent c.args.mesh.now) c.args.j (omega (arith, c.requires.2, c.args.mesh.now.checked.few)) c.loop-v.invariant (omega arith) c.requires.0.ascends)
 
 pub returns : goal.returns
 returns c = renumbering_all c.loop-v.invariant (omega arith)

@@ -2,26 +2,26 @@
 use native.Mathlib.Omega.{arith}
 use lib.ListN.{get_or}
 use borrow.Author.Rules.{rules}
-use Rattle.plan.specs.Mesh.{lent}
 use Rattle.theory.proofs.Lists.{is_in-get_or}
+use Rattle.mesh.specs.Lent.{as_lent}
 use Rattle.dissection.specs.Degrees.{degree_by}
 use Rattle.dissection.proofs.LeastDegrees.{degree_few, leading_more, leading-all}
 use Rattle.dissection.proofs.degrees.least.Goals as goal
 
 pub compare-requires : goal.compare-requires
-compare-requires c = (c.requires.0, c.requires.1.inside (get_or c.args.nodes.now c.loop-v.v-index 0) (is_in-get_or c.args.nodes.now c.loop-v.v-index 0 (omega arith)), c.requires.2, c.requires.3, search rules, search rules)
+compare-requires c = (c.requires.0.inside (get_or c.args.nodes.now c.loop-v.v-index 0) (is_in-get_or c.args.nodes.now c.loop-v.v-index 0 (omega arith)), c.requires.1, c.requires.2, search rules, search rules)
 
 pub loop-v-preserved : goal.loop-v-preserved
 loop-v-preserved c = (
   search rules,
   search rules,
   search rules,
-  leading_more (degree_by (lent c.args.n c.args.starts.now c.args.neighbours.now) c.args.region.now) c.args.nodes.now c.args.groups.now c.args.count c.loop-v.v-index c.loop-v.best c.loop-v.degrees c.compare.new.best c.compare.new.degrees
-      (omega arith) (degree_few (lent c.args.n c.args.starts.now c.args.neighbours.now) c.requires.0 c.args.region.now (get_or c.args.nodes.now c.loop-v.v-index 0)) c.loop-v.invariant.3 c.compare.ensures,
+  leading_more (degree_by (as_lent c.args.mesh.now) c.args.region.now) c.args.nodes.now c.args.groups.now c.args.count c.loop-v.v-index c.loop-v.best c.loop-v.degrees c.compare.new.best c.compare.new.degrees
+      (omega arith) (degree_few (as_lent c.args.mesh.now) c.args.mesh.now.checked c.args.region.now (get_or c.args.nodes.now c.loop-v.v-index 0)) c.loop-v.invariant.3 c.compare.ensures,
 )
 
 pub returns : goal.returns
-returns c = leading-all (degree_by (lent c.args.n c.args.starts.now c.args.neighbours.now) c.args.region.now) c.args.nodes.now c.args.groups.now c.args.count c.loop-v.v-index c.loop-v.best c.loop-v.degrees (omega arith) c.loop-v.invariant.3
+returns c = leading-all (degree_by (as_lent c.args.mesh.now) c.args.region.now) c.args.nodes.now c.args.groups.now c.args.count c.loop-v.v-index c.loop-v.best c.loop-v.degrees (omega arith) c.loop-v.invariant.3
 
 pub loop-v-init : goal.loop-v-init
 loop-v-init c = (search rules, search rules, search rules, c.clear.ensures)

@@ -2,7 +2,7 @@
 use mathlib.Core.Path.{◌≡◌}
 use Prim.Native.Nat.{◌≤◌}
 use lib.ListN.{length, take}
-use Rattle.plan.specs.Mesh.{lent}
+use Rattle.mesh.specs.Lent.{as_lent}
 use Rattle.dissection.specs.Degrees.{degree_by}
 use Rattle.dissection.proofs.LeastDegrees.{Leading}
 use Rattle.dissection.proofs.degrees.least.Given as goal
@@ -10,4 +10,4 @@ use Rattle.dissection.proofs.degrees.least.Given as goal
 abbrev pub invariant-loop-v : goal.invariant-loop-v
 invariant-loop-v l =
     (l.v-index ≤ length l.nodes) × (length l.best ≡ length l.initial.best) × (length l.degrees ≡ length l.initial.degrees)
-    × Leading (degree_by (lent l.n l.starts l.neighbours) l.region) l.groups l.count (take l.v-index l.nodes) l.best l.degrees
+    × Leading (degree_by (as_lent l.mesh) l.region) l.groups l.count (take l.v-index l.nodes) l.best l.degrees

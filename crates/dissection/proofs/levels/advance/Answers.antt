@@ -5,9 +5,10 @@ use Prim.Native.Nat.{ℕ}
 use native.Mathlib.Omega.{arith}
 use lib.ListN.{get_or}
 use Rattle.plan.specs.Lists.{exists, segment}
-use Rattle.plan.specs.Mesh.{lent, adjacent}
+use Rattle.plan.specs.Mesh.{adjacent}
 use Rattle.theory.proofs.Lists.{get_d_front}
 use Rattle.theory.proofs.Segments.{segment-none, segment_more}
+use Rattle.mesh.specs.Lent.{as_lent}
 use Rattle.dissection.proofs.Spreads.{spread_start, spread_as, spread_both}
 use Rattle.dissection.proofs.levels.advance.Goals.{In-loop-k}
 use Rattle.dissection.proofs.levels.advance.Goals as goal
@@ -15,9 +16,9 @@ use Rattle.dissection.proofs.levels.advance.Goals as goal
 pub loop-k-init : goal.loop-k-init
 loop-k-init c = (
   omega arith,
-  c.requires.2,
-  omega (arith, c.requires.3.room),
-  spread_start c.requires.3 (λ v. ap (exists (λ u. adjacent (lent c.args.n c.args.starts.now c.args.neighbours.now) u v)) (segment-none c.args.queue.now c.args.lo)),
+  c.requires.1,
+  omega (arith, c.requires.2.room),
+  spread_start c.requires.2 (λ v. ap (exists (λ u. adjacent (as_lent c.args.mesh.now) u v)) (segment-none c.args.queue.now c.args.lo)),
 )
 
 pub bounds-queue-k : goal.bounds-queue-k
@@ -28,7 +29,7 @@ same_node : (c : In-loop-k) → get_or c.loop-k.queue c.loop-k.k 0 ≡ get_or c.
 same_node c = get_d_front c.loop-k.queue c.args.queue.now c.loop-k.k c.args.hi 0 c.loop-k-test.true c.loop-k.invariant.3.kept
 
 pub visit-tail-requires : goal.visit-tail-requires
-visit-tail-requires c = (c.requires.0, omega (arith, same_node (goal.at.visit-tail-requires c).In-loop-k, c.requires.4 c.loop-k.k c.loop-k-test.true), c.requires.1, c.loop-k.invariant.3.left)
+visit-tail-requires c = (omega (arith, same_node (goal.at.visit-tail-requires c).In-loop-k, c.requires.3 c.loop-k.k c.loop-k-test.true), c.requires.0, c.loop-k.invariant.3.left)
 
 pub loop-k-preserved : goal.loop-k-preserved
 loop-k-preserved c =
@@ -37,15 +38,15 @@ loop-k-preserved c =
       omega (arith, c.loop-k-test.true),
       c.loop-k.invariant.2,
       spread_as
-          (λ v. ap (λ (w : ℕ). exists (λ u. adjacent (lent c.args.n c.args.starts.now c.args.neighbours.now) u v) (segment c.args.queue.now c.args.lo c.loop-k.k) || adjacent (lent c.args.n c.args.starts.now c.args.neighbours.now) w v) same
-          ∙ sym (segment_more (λ u. adjacent (lent c.args.n c.args.starts.now c.args.neighbours.now) u v) c.args.queue.now c.args.lo c.loop-k.k c.loop-k.invariant.0 (omega (arith, c.loop-k-test.true, c.loop-k.invariant.2, c.requires.3.queue_long))))
-          (spread_both {t = adjacent (lent c.args.n c.args.starts.now c.args.neighbours.now) (get_or c.loop-k.queue c.loop-k.k 0)} c.requires.1 c.loop-k.invariant.3 c.visit-tail.ensures),
+          (λ v. ap (λ (w : ℕ). exists (λ u. adjacent (as_lent c.args.mesh.now) u v) (segment c.args.queue.now c.args.lo c.loop-k.k) || adjacent (as_lent c.args.mesh.now) w v) same
+          ∙ sym (segment_more (λ u. adjacent (as_lent c.args.mesh.now) u v) c.args.queue.now c.args.lo c.loop-k.k c.loop-k.invariant.0 (omega (arith, c.loop-k-test.true, c.loop-k.invariant.2, c.requires.2.queue_long))))
+          (spread_both {t = adjacent (as_lent c.args.mesh.now) (get_or c.loop-k.queue c.loop-k.k 0)} c.requires.0 c.loop-k.invariant.3 c.visit-tail.ensures),
     )
 
 pub returns : goal.returns
 returns c =
     let z : c.loop-k.k ≡ c.args.hi = omega arith in
-    spread_as (λ v. ap (λ (e : ℕ). exists (λ u. adjacent (lent c.args.n c.args.starts.now c.args.neighbours.now) u v) (segment c.args.queue.now c.args.lo e)) z)
+    spread_as (λ v. ap (λ (e : ℕ). exists (λ u. adjacent (as_lent c.args.mesh.now) u v) (segment c.args.queue.now c.args.lo e)) z)
     c.loop-k.invariant.3
 
 pub shape_of-numbers : goal.shape_of-numbers

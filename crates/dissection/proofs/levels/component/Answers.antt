@@ -6,7 +6,8 @@ use native.Mathlib.Omega.{arith}
 use borrow.Author.Rules.{rules}
 use borrow.Author.Tests.{ne_eqb}
 use lib.ListN.{length, get_or}
-use Rattle.plan.specs.Mesh.{lent, adjacent}
+use Rattle.plan.specs.Mesh.{adjacent}
+use Rattle.mesh.specs.Lent.{as_lent}
 use Rattle.dissection.specs.Numbers.{fresh}
 use Rattle.dissection.proofs.Labels.{walked-inside, walked_taken}
 use Rattle.dissection.proofs.levels.component.Goals.{Else-numbers-v, After-walk-reached}
@@ -21,8 +22,8 @@ unreached_at_after_walk_r : (c : After-walk-reached) → get_or c.args.numbers.n
 unreached_at_after_walk_r c = c.if-numbers-v.false
 
 -- what bounds the numbers at hand
-bounds : (c : After-walk-reached) → (c.args.count < c.args.n) × (c.args.n ≤ 4096) × (c.args.n < length c.args.begins.now) × (get_or c.args.begins.now c.args.count 0 ≤ c.args.n + c.args.n) × (c.walk-reached.result.reached ≤ c.args.n)
-bounds c = (c.requires.count_lt_n.0 (unreached_at_after_walk_r c), c.requires.checked.0.few, c.requires.checked.4, c.requires.count_lt_n.1, c.walk-reached.ensures.few)
+bounds : (c : After-walk-reached) → (c.args.count < c.args.mesh.now.nodes) × (c.args.mesh.now.nodes ≤ 4096) × (c.args.mesh.now.nodes < length c.args.begins.now) × (get_or c.args.begins.now c.args.count 0 ≤ c.args.mesh.now.nodes + c.args.mesh.now.nodes) × (c.walk-reached.result.reached ≤ c.args.mesh.now.nodes)
+bounds c = (c.requires.count_lt_n.0 (unreached_at_after_walk_r c), c.args.mesh.now.checked.few, c.requires.bounded.3, c.requires.count_lt_n.1, c.walk-reached.ensures.few)
 
 pub returns-then-numbers-v : goal.returns-then-numbers-v
 returns-then-numbers-v c =
@@ -34,11 +35,11 @@ returns-then-numbers-v c =
     }
 
 pub walk-reached-requires : goal.walk-reached-requires
-walk-reached-requires c = (c.requires.checked.0, c.requires.checked.1, unreached (goal.at.walk-reached-requires c).Else-numbers-v, c.requires.checked.2, c.requires.checked.3)
+walk-reached-requires c = (c.requires.bounded.0, unreached (goal.at.walk-reached-requires c).Else-numbers-v, c.requires.bounded.1, c.requires.bounded.2)
 
 pub fill-requires : goal.fill-requires
 fill-requires c v m =
-    let lt : v < c.args.n = walked-inside c.walk-reached.ensures v m in
+    let lt : v < c.args.mesh.now.nodes = walked-inside c.walk-reached.ensures v m in
     search rules
 
 pub returns : goal.returns
@@ -46,13 +47,13 @@ returns c =
     let u = unreached (goal.at.returns c).Else-numbers-v in
     inr record {
       unreached = u;
-      numbers = walked_taken {edge = (adjacent (lent c.args.n c.args.starts.now c.args.neighbours.now))} c.walk-reached.ensures c.args.count c.fill.new.numbers c.requires.checked.1 u c.fill.ensures;
+      numbers = walked_taken {edge = (adjacent (as_lent c.args.mesh.now))} c.walk-reached.ensures c.args.count c.fill.new.numbers c.requires.bounded.0 u c.fill.ensures;
       begins = rw c.walk-reached.ensures.many;
       total = refl;
     }
 
 pub bounds-numbers-v : goal.bounds-numbers-v
-bounds-numbers-v c = omega (arith, c.requires.checked)
+bounds-numbers-v c = omega (arith, c.requires.bounded)
 
 pub overflow_cast-count : goal.overflow_cast-count
 overflow_cast-count c = omega (arith, bounds (goal.at.overflow_cast-count c).After-walk-reached)

@@ -10,8 +10,8 @@ use Rattle.dissection.proofs.levels.label.Goals.{Start, At-loop-v}
 use Rattle.dissection.proofs.levels.label.Goals as goal
 
 -- what is asked of the nodes and the numbers
-asked : (c : Start) → Labelable c.args.n c.args.nodes.now c.args.numbers.now
-asked c = record { small = omega (arith, c.requires.checked.0.few); within = c.requires.checked.1; whole = c.requires.checked.2; unlabelled = c.requires.checked.3 }
+asked : (c : Start) → Labelable c.args.mesh.now.nodes c.args.nodes.now c.args.numbers.now
+asked c = record { small = omega (arith, c.args.mesh.now.checked.few); within = c.requires.listed.0; whole = c.requires.listed.1; unlabelled = c.requires.listed.2 }
 
 -- there is room for as many places as at the start
 long : (c : At-loop-v) → length c.loop-v.begins ≡ length c.args.begins.now
@@ -24,9 +24,8 @@ pub component-count-requires : goal.component-count-requires
 component-count-requires c =
     let lt : c.loop-v.v-index < length c.args.nodes.now = omega arith in
     record {
-      checked = (
-        c.requires.checked.0,
-        c.requires.checked.1.inside (get_or c.args.nodes.now c.loop-v.v-index 0) (is_in-get_or c.args.nodes.now c.loop-v.v-index 0 lt),
+      bounded = (
+        c.requires.listed.0.inside (get_or c.args.nodes.now c.loop-v.v-index 0) (is_in-get_or c.args.nodes.now c.loop-v.v-index 0 lt),
         search rules,
         search rules,
         omega (arith, long (goal.at.component-count-requires c).At-loop-v),

@@ -1,7 +1,8 @@
 -- `dissection::levels::label` meets its contract: the loop finds one component after the other.
 use mathlib.Core.Path.{◌≡◌}
 use lib.ListN.{length}
-use Rattle.plan.specs.Mesh.{lent, adjacent}
+use Rattle.plan.specs.Mesh.{adjacent}
+use Rattle.mesh.specs.Lent.{as_lent}
 use Rattle.dissection.proofs.Labels.{Labelling}
 use Rattle.dissection.proofs.levels.label.Given as goal
 
@@ -10,4 +11,4 @@ invariant-loop-v l =
     (length l.numbers ≡ length l.initial.numbers)
     × (length l.queue ≡ length l.initial.queue)
     × (length l.begins ≡ length l.initial.begins)
-    × Labelling l.n (adjacent (lent l.n l.starts l.neighbours)) l.nodes l.at l.initial.numbers l.v-index l.numbers l.begins l.count
+    × Labelling l.mesh.nodes (adjacent (as_lent l.mesh)) l.nodes l.at l.initial.numbers l.v-index l.numbers l.begins l.count

@@ -4,7 +4,7 @@ use mathlib.Core.Path.{refl}
 use Prim.Native.Nat.{◌≤◌}
 use native.Mathlib.Omega.{arith}
 use borrow.Author.Rules.{rules}
-use Rattle.plan.specs.Mesh.{lent}
+use Rattle.mesh.specs.Lent.{as_lent}
 use Rattle.dissection.specs.Numbers.{Renumbered}
 use Rattle.dissection.specs.Changes.{only_level}
 use Rattle.dissection.specs.Standing.{Regional, Standing}
@@ -15,12 +15,12 @@ use Rattle.dissection.proofs.root.candidates.Goals.{After-transfer, After-renumb
 use Rattle.dissection.proofs.root.candidates.Goals as goal
 
 -- the root's levels stand there
-standing : (c : After-transfer) → Standing (lent c.args.n c.args.starts.now c.args.neighbours.now) c.args.nodes.now c.args.root.node c.transfer.new.numbers
-standing c = standing_transferred (lent c.args.n c.args.starts.now c.args.neighbours.now) c.args.nodes.now c.args.levels.now c.args.trial.now c.transfer.new.numbers c.requires.rooted.0.inside c.requires.rooted.1 c.requires.regional.0.only c.transfer.ensures
+standing : (c : After-transfer) → Standing (as_lent c.args.mesh.now) c.args.nodes.now c.args.root.node c.transfer.new.numbers
+standing c = standing_transferred (as_lent c.args.mesh.now) c.args.nodes.now c.args.levels.now c.args.trial.now c.transfer.new.numbers c.requires.rooted.0.inside c.requires.rooted.1 c.requires.regional.0.only c.transfer.ensures
 
 -- so it is a region over them
-regional : (c : After-transfer) → Regional (lent c.args.n c.args.starts.now c.args.neighbours.now) c.args.nodes.now c.transfer.new.numbers c.args.queue.now
-regional c = regional_again (lent c.args.n c.args.starts.now c.args.neighbours.now) c.args.nodes.now c.requires.regional.0 (standing c).only c.transfer.auto.numbers refl
+regional : (c : After-transfer) → Regional (as_lent c.args.mesh.now) c.args.nodes.now c.transfer.new.numbers c.args.queue.now
+regional c = regional_again (as_lent c.args.mesh.now) c.args.nodes.now c.requires.regional.0 (standing c).only c.transfer.auto.numbers refl
 
 pub transfer-requires : goal.transfer-requires
 transfer-requires c v t =
@@ -40,18 +40,17 @@ pub label-count-requires : goal.label-count-requires
 label-count-requires c =
     let h = regional (goal.at.label-count-requires c).After-transfer in
     record {
-      checked = (h.checked, h.within, fresh-inside (lent c.args.n c.args.starts.now c.args.neighbours.now) c.args.nodes.now h c.requires.rooted.0 (standing (goal.at.label-count-requires c).After-transfer) c.renumber.new.numbers (only_last (goal.at.label-count-requires c).After-renumber), level-high c.args.root.last c.args.n c.args.nodes.now c.transfer.new.numbers c.renumber.new.numbers h.checked.few (only_last (goal.at.label-count-requires c).After-renumber));
+      listed = (h.within, fresh-inside (as_lent c.args.mesh.now) c.args.nodes.now h c.requires.rooted.0 c.args.mesh.now.checked (standing (goal.at.label-count-requires c).After-transfer) c.renumber.new.numbers (only_last (goal.at.label-count-requires c).After-renumber), level-high c.args.root.last c.args.mesh.now.nodes c.args.nodes.now c.transfer.new.numbers c.renumber.new.numbers c.args.mesh.now.checked.few (only_last (goal.at.label-count-requires c).After-renumber));
       at_le_n = (omega arith, omega (arith, h.numbers_long, c.renumber.auto.numbers), h.queue_long, c.requires.regional.2);
     }
 
 -- there are at most n candidates
-few : (c : After-label-count) → c.label-count.result ≤ c.args.n
+few : (c : After-label-count) → c.label-count.result ≤ c.args.mesh.now.nodes
 few c = c.label-count.ensures.few
 
 pub least-requires : goal.least-requires
 least-requires c =
     let h = regional (goal.at.least-requires c).After-transfer in (
-      h.checked,
       h.within,
       c.requires.regional.1,
       omega (arith, h.numbers_long, c.renumber.auto.numbers, c.label-count.auto.numbers),
@@ -62,9 +61,9 @@ least-requires c =
 pub returns : goal.returns
 returns c =
     let h = regional (goal.at.returns c).After-transfer in (
-      candidates-found (lent c.args.n c.args.starts.now c.args.neighbours.now) c.args.nodes.now h c.requires.rooted.0 (standing (goal.at.returns c).After-transfer) c.renumber.new.numbers (only_last (goal.at.returns c).After-renumber) c.label-count.ensures
-          (degree_by (lent c.args.n c.args.starts.now c.args.neighbours.now) c.args.levels.now) (degree_in_lem (lent c.args.n c.args.starts.now c.args.neighbours.now) c.args.nodes.now h.within c.args.root.node h.checked c.args.levels.now c.requires.rooted.1)
+      candidates-found (as_lent c.args.mesh.now) c.args.nodes.now h c.requires.rooted.0 c.args.mesh.now.checked (standing (goal.at.returns c).After-transfer) c.renumber.new.numbers (only_last (goal.at.returns c).After-renumber) c.label-count.ensures
+          (degree_by (as_lent c.args.mesh.now) c.args.levels.now) (degree_in_lem (as_lent c.args.mesh.now) c.args.nodes.now h.within c.args.root.node c.args.mesh.now.checked c.args.levels.now c.requires.rooted.1)
           c.least.new.best c.least.new.degrees (omega (arith, few (goal.at.returns c).After-label-count, c.least.auto.best, c.label-count.auto.begins, c.requires.regional.2)) c.least.ensures,
       few (goal.at.returns c).After-label-count,
-      candidates-only (lent c.args.n c.args.starts.now c.args.neighbours.now) c.args.nodes.now h c.requires.rooted.0 (standing (goal.at.returns c).After-transfer) c.renumber.new.numbers (only_last (goal.at.returns c).After-renumber) c.label-count.ensures,
+      candidates-only (as_lent c.args.mesh.now) c.args.nodes.now h c.requires.rooted.0 c.args.mesh.now.checked (standing (goal.at.returns c).After-transfer) c.renumber.new.numbers (only_last (goal.at.returns c).After-renumber) c.label-count.ensures,
     )

@@ -2,10 +2,10 @@
 use mathlib.Core.Path.{◌≡◌, refl, sym, ap, ◌∙◌}
 use native.Mathlib.Omega.{arith}
 use lib.ListN.{length, get_or}
-use Rattle.plan.specs.Mesh.{lent}
 use Rattle.plan.specs.Choice.{improves}
 use Rattle.theory.proofs.Lists.{is_in-get_or}
 use Rattle.theory.proofs.Scans.{scan_miss, scan_hit, scan_none}
+use Rattle.mesh.specs.Lent.{as_lent}
 use Rattle.dissection.proofs.Roots.{regional_again, better_walked, better_same, improves_is}
 use Rattle.dissection.proofs.root.first_better.Goals as goal
 
@@ -19,15 +19,15 @@ loop-candidate-preserved-then-candidate-former c = (
   c.loop-candidate.invariant.0,
   c.loop-candidate.invariant.1,
   c.loop-candidate.invariant.2,
-  scan_miss (improves (lent c.args.n c.args.starts.now c.args.neighbours.now) c.args.nodes.now c.args.root.node) c.args.found.now c.loop-candidate.candidate-index (omega arith) c.loop-candidate.invariant.3 (ap (improves (lent c.args.n c.args.starts.now c.args.neighbours.now) c.args.nodes.now c.args.root.node) c.if-candidate-former.true ∙ c.requires.regional.2),
+  scan_miss (improves (as_lent c.args.mesh.now) c.args.nodes.now c.args.root.node) c.args.found.now c.loop-candidate.candidate-index (omega arith) c.loop-candidate.invariant.3 (ap (improves (as_lent c.args.mesh.now) c.args.nodes.now c.args.root.node) c.if-candidate-former.true ∙ c.requires.regional.2),
 )
 
 pub returns-then-replaces : goal.returns-then-replaces
 returns-then-replaces c = (
   c.levels_from-next.ensures.0
-      ∙ sym (scan_hit (improves (lent c.args.n c.args.starts.now c.args.neighbours.now) c.args.nodes.now c.args.root.node) c.args.found.now c.loop-candidate.candidate-index c.args.root.node (omega arith) c.loop-candidate.invariant.3
-      (improves_is (lent c.args.n c.args.starts.now c.args.neighbours.now) c.args.nodes.now c.requires.regional.1 c.levels_from-next.ensures.1 ∙ sym c.replaces.ensures ∙ c.if-replaces.true)),
-  better_walked (lent c.args.n c.args.starts.now c.args.neighbours.now) c.args.nodes.now c.levels_from-next.ensures.0 c.levels_from-next.ensures.1 c.levels_from-next.ensures.2,
+      ∙ sym (scan_hit (improves (as_lent c.args.mesh.now) c.args.nodes.now c.args.root.node) c.args.found.now c.loop-candidate.candidate-index c.args.root.node (omega arith) c.loop-candidate.invariant.3
+      (improves_is (as_lent c.args.mesh.now) c.args.nodes.now c.requires.regional.1 c.levels_from-next.ensures.1 ∙ sym c.replaces.ensures ∙ c.if-replaces.true)),
+  better_walked (as_lent c.args.mesh.now) c.args.nodes.now c.levels_from-next.ensures.0 c.levels_from-next.ensures.1 c.levels_from-next.ensures.2,
 )
 
 pub loop-candidate-preserved : goal.loop-candidate-preserved
@@ -36,15 +36,15 @@ loop-candidate-preserved c =
     let after : length c.levels_from-next.new.queue ≡ length c.loop-candidate.queue = c.queue-1.given in (
       new ∙ c.loop-candidate.invariant.0,
       after ∙ c.loop-candidate.invariant.1,
-      regional_again (lent c.args.n c.args.starts.now c.args.neighbours.now) c.args.nodes.now c.loop-candidate.invariant.2 c.levels_from-next.ensures.2.only new after,
-      scan_miss (improves (lent c.args.n c.args.starts.now c.args.neighbours.now) c.args.nodes.now c.args.root.node) c.args.found.now c.loop-candidate.candidate-index (omega arith) c.loop-candidate.invariant.3
-          (improves_is (lent c.args.n c.args.starts.now c.args.neighbours.now) c.args.nodes.now c.requires.regional.1 c.levels_from-next.ensures.1 ∙ sym c.replaces.ensures ∙ c.if-replaces.false),
+      regional_again (as_lent c.args.mesh.now) c.args.nodes.now c.loop-candidate.invariant.2 c.levels_from-next.ensures.2.only new after,
+      scan_miss (improves (as_lent c.args.mesh.now) c.args.nodes.now c.args.root.node) c.args.found.now c.loop-candidate.candidate-index (omega arith) c.loop-candidate.invariant.3
+          (improves_is (as_lent c.args.mesh.now) c.args.nodes.now c.requires.regional.1 c.levels_from-next.ensures.1 ∙ sym c.replaces.ensures ∙ c.if-replaces.false),
     )
 
 pub returns : goal.returns
 returns c = (
-  sym (scan_none (improves (lent c.args.n c.args.starts.now c.args.neighbours.now) c.args.nodes.now c.args.root.node) c.args.found.now c.loop-candidate.candidate-index c.args.root.node (omega arith) c.loop-candidate.invariant.3),
-  better_same (lent c.args.n c.args.starts.now c.args.neighbours.now) c.args.nodes.now c.requires.regional.1 c.loop-candidate.invariant.2.only,
+  sym (scan_none (improves (as_lent c.args.mesh.now) c.args.nodes.now c.args.root.node) c.args.found.now c.loop-candidate.candidate-index c.args.root.node (omega arith) c.loop-candidate.invariant.3),
+  better_same (as_lent c.args.mesh.now) c.args.nodes.now c.requires.regional.1 c.loop-candidate.invariant.2.only,
 )
 
 pub loop-candidate-init : goal.loop-candidate-init

@@ -2,12 +2,12 @@
 use mathlib.Core.Path.{◌≡◌}
 use lib.ListN.{length, drop}
 use Rattle.plan.specs.Lists.{keep}
-use Rattle.plan.specs.Mesh.{lent}
 use Rattle.plan.specs.Choice.{improves}
+use Rattle.mesh.specs.Lent.{as_lent}
 use Rattle.dissection.specs.Standing.{Regional}
 use Rattle.dissection.proofs.root.first_better.Given as goal
 
 abbrev pub invariant-loop-candidate : goal.invariant-loop-candidate
 invariant-loop-candidate l =
-    (length l.numbers ≡ length l.initial.numbers) × (length l.queue ≡ length l.initial.queue) × Regional (lent l.n l.starts l.neighbours) l.nodes l.numbers l.queue
-    × (keep (improves (lent l.n l.starts l.neighbours) l.nodes l.root.node) l.found ≡ keep (improves (lent l.n l.starts l.neighbours) l.nodes l.root.node) (drop l.candidate-index l.found))
+    (length l.numbers ≡ length l.initial.numbers) × (length l.queue ≡ length l.initial.queue) × Regional (as_lent l.mesh) l.nodes l.numbers l.queue
+    × (keep (improves (as_lent l.mesh) l.nodes l.root.node) l.found ≡ keep (improves (as_lent l.mesh) l.nodes l.root.node) (drop l.candidate-index l.found))

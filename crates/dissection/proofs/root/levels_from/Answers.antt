@@ -4,8 +4,8 @@ use native.Mathlib.Omega.{arith}
 use lib.ListN.{get_or}
 use borrow.Author.Rules.{rules}
 use Rattle.plan.specs.Lists.{is_in}
-use Rattle.plan.specs.Mesh.{lent}
 use Rattle.theory.proofs.Bools.{cond_true}
+use Rattle.mesh.specs.Lent.{as_lent}
 use Rattle.dissection.specs.Numbers.{fresh}
 use Rattle.dissection.proofs.Standing.{walk_measured, walk_standing}
 use Rattle.dissection.proofs.root.levels_from.Goals as goal
@@ -15,7 +15,6 @@ fill-requires c v t = omega (arith, c.requires.0.within.inside v t, c.requires.0
 
 pub walk-w-requires : goal.walk-w-requires
 walk-w-requires c = (
-  c.requires.0.checked,
   c.requires.0.within.inside c.args.r c.requires.1,
   c.fill.ensures c.args.r ∙ cond_true (is_in c.args.r c.args.nodes.now) fresh (get_or c.args.numbers.now c.args.r 0) c.requires.1,
   search rules,
@@ -25,6 +24,6 @@ walk-w-requires c = (
 pub returns : goal.returns
 returns c = (
   refl,
-  walk_measured (lent c.args.n c.args.starts.now c.args.neighbours.now) c.args.nodes.now c.requires.0 c.requires.1 c.walk-w.ensures c.fill.ensures,
-  walk_standing (lent c.args.n c.args.starts.now c.args.neighbours.now) c.args.nodes.now c.requires.0 c.requires.1 c.walk-w.ensures c.fill.ensures,
+  walk_measured (as_lent c.args.mesh.now) c.args.nodes.now c.requires.0 c.requires.1 c.walk-w.ensures c.fill.ensures,
+  walk_standing (as_lent c.args.mesh.now) c.args.nodes.now c.requires.0 c.requires.1 c.walk-w.ensures c.fill.ensures,
 )

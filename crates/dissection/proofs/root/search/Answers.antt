@@ -3,10 +3,10 @@ use mathlib.Core.Path.{◌≡◌, refl, ap, subst, ◌∙◌}
 use Prim.Native.Nat.{ℕ, ◌≤◌}
 use native.Mathlib.Omega.{arith}
 use lib.ListN.{length}
-use Rattle.plan.specs.Mesh.{lent}
 use Rattle.plan.specs.Choice.{root_of}
 use Rattle.theory.proofs.Lists.{is_in-get_or}
 use Rattle.theory.proofs.RootSearch.{improves_itself}
+use Rattle.mesh.specs.Lent.{as_lent}
 use Rattle.dissection.specs.Standing.{Standing}
 use Rattle.dissection.specs.Rooted.{Rooted}
 use Rattle.dissection.proofs.Roots.{regional_over, regional_again, standing_transferred, found_from, found_first, found-next, found_fewer, found_back, found-last}
@@ -15,7 +15,7 @@ use Rattle.dissection.proofs.root.search.Goals.{After-improve-next, Then-next-ro
 use Rattle.dissection.proofs.root.search.Goals as goal
 
 -- have a place for each node
-trial_long : (c : After-improve-next) → c.args.n ≤ length c.improve-next.new.trial
+trial_long : (c : After-improve-next) → c.args.mesh.now.nodes ≤ length c.improve-next.new.trial
 trial_long c = omega (arith, c.improve-next.auto.trial, c.loop-root.invariant.1, c.requires.2)
 
 pub levels_from-root-requires : goal.levels_from-root-requires
@@ -28,19 +28,19 @@ loop-root-init c = (
   refl,
   refl,
   record {
-    regional = regional_again (lent c.args.n c.args.starts.now c.args.neighbours.now) c.args.nodes.now c.requires.0 c.levels_from-root.ensures.2.only c.levels_from-root.auto.numbers c.levels_from-root.auto.queue;
+    regional = regional_again (as_lent c.args.mesh.now) c.args.nodes.now c.requires.0 c.levels_from-root.ensures.2.only c.levels_from-root.auto.numbers c.levels_from-root.auto.queue;
     tried = λ v lt o. c.requires.1 v lt refl;
     measured = rw c.levels_from-root.ensures.0 c.levels_from-root.ensures.1;
     standing = rw c.levels_from-root.ensures.0 c.levels_from-root.ensures.2;
-    behind = improves_itself (lent c.args.n c.args.starts.now c.args.neighbours.now) c.args.nodes.now c.levels_from-root.result.node;
-    found = ap (found_from (lent c.args.n c.args.starts.now c.args.neighbours.now) c.args.nodes.now) c.levels_from-root.ensures.0 ∙ found_first (lent c.args.n c.args.starts.now c.args.neighbours.now) c.args.nodes.now;
+    behind = improves_itself (as_lent c.args.mesh.now) c.args.nodes.now c.levels_from-root.result.node;
+    found = ap (found_from (as_lent c.args.mesh.now) c.args.nodes.now) c.levels_from-root.ensures.0 ∙ found_first (as_lent c.args.mesh.now) c.args.nodes.now;
   },
 )
 
 pub improve-next-requires : goal.improve-next-requires
 improve-next-requires c =
     record {
-      regional = (regional_over (lent c.args.n c.args.starts.now c.args.neighbours.now) c.args.nodes.now c.loop-root.invariant.4.regional c.loop-root.invariant.4.tried (omega (arith, c.loop-root.invariant.1, c.requires.2)) refl, c.loop-root.invariant.4.regional.numbers_long, omega (arith, c.loop-root.invariant.3, c.requires.3));
+      regional = (regional_over (as_lent c.args.mesh.now) c.args.nodes.now c.loop-root.invariant.4.regional c.loop-root.invariant.4.tried (omega (arith, c.loop-root.invariant.1, c.requires.2)) refl, c.loop-root.invariant.4.regional.numbers_long, omega (arith, c.loop-root.invariant.3, c.requires.3));
       measured = (c.loop-root.invariant.4.measured, c.loop-root.invariant.4.standing, c.loop-root.invariant.4.behind);
     }
 
@@ -50,28 +50,28 @@ transfer-requires c v h =
     (omega (arith, lt, trial_long (goal.at.transfer-requires c).After-improve-next), omega (arith, lt, c.loop-root.invariant.4.regional.numbers_long))
 
 pub loop-root-smaller : goal.loop-root-smaller
-loop-root-smaller c = found_fewer (lent c.args.n c.args.starts.now c.args.neighbours.now) c.args.nodes.now c.improve-next.ensures.0 c.loop-root.invariant.4.measured.rooted.inside c.if-next-root.false
+loop-root-smaller c = found_fewer (as_lent c.args.mesh.now) c.args.nodes.now c.improve-next.ensures.0 c.loop-root.invariant.4.measured.rooted.inside c.if-next-root.false
 
 pub loop-root-preserved : goal.loop-root-preserved
 loop-root-preserved c =
-    let standing = standing_transferred (lent c.args.n c.args.starts.now c.args.neighbours.now) c.args.nodes.now c.improve-next.new.trial c.loop-root.numbers c.transfer.new.numbers c.improve-next.ensures.1.measured.rooted.inside (c.improve-next.ensures.1.standing c.if-next-root.false) c.loop-root.invariant.4.regional.only c.transfer.ensures in (
+    let standing = standing_transferred (as_lent c.args.mesh.now) c.args.nodes.now c.improve-next.new.trial c.loop-root.numbers c.transfer.new.numbers c.improve-next.ensures.1.measured.rooted.inside (c.improve-next.ensures.1.standing c.if-next-root.false) c.loop-root.invariant.4.regional.only c.transfer.ensures in (
       c.transfer.auto.numbers ∙ c.loop-root.invariant.0,
       c.improve-next.auto.trial ∙ c.loop-root.invariant.1,
       c.improve-next.auto.queue ∙ c.loop-root.invariant.2,
       c.improve-next.auto.found ∙ c.loop-root.invariant.3,
       record {
-        regional = regional_again (lent c.args.n c.args.starts.now c.args.neighbours.now) c.args.nodes.now c.loop-root.invariant.4.regional standing.only c.transfer.auto.numbers c.improve-next.auto.queue;
+        regional = regional_again (as_lent c.args.mesh.now) c.args.nodes.now c.loop-root.invariant.4.regional standing.only c.transfer.auto.numbers c.improve-next.auto.queue;
         tried = c.improve-next.ensures.1.only;
         measured = c.improve-next.ensures.1.measured;
         standing = standing;
-        behind = found_back (lent c.args.n c.args.starts.now c.args.neighbours.now) c.args.nodes.now c.improve-next.ensures.0 c.if-next-root.false;
-        found = found-next (lent c.args.n c.args.starts.now c.args.neighbours.now) c.args.nodes.now c.improve-next.ensures.0 c.loop-root.invariant.4.measured.rooted.inside c.if-next-root.false ∙ c.loop-root.invariant.4.found;
+        behind = found_back (as_lent c.args.mesh.now) c.args.nodes.now c.improve-next.ensures.0 c.if-next-root.false;
+        found = found-next (as_lent c.args.mesh.now) c.args.nodes.now c.improve-next.ensures.0 c.loop-root.invariant.4.measured.rooted.inside c.if-next-root.false ∙ c.loop-root.invariant.4.found;
       },
     )
 
 -- the root that stays is the region's
-ended : (c : Then-next-root) → c.loop-root.root.node ≡ root_of (lent c.args.n c.args.starts.now c.args.neighbours.now) c.args.nodes.now
-ended c = found-last (lent c.args.n c.args.starts.now c.args.neighbours.now) c.args.nodes.now c.improve-next.ensures.0 c.if-next-root.true ∙ c.loop-root.invariant.4.found
+ended : (c : Then-next-root) → c.loop-root.root.node ≡ root_of (as_lent c.args.mesh.now) c.args.nodes.now
+ended c = found-last (as_lent c.args.mesh.now) c.args.nodes.now c.improve-next.ensures.0 c.if-next-root.true ∙ c.loop-root.invariant.4.found
 
 pub fill-requires : goal.fill-requires
 fill-requires c v h = omega (arith, c.loop-root.invariant.4.regional.within.inside v h, trial_long (goal.at.fill-requires c).After-improve-next)
@@ -91,7 +91,7 @@ shape_of-found c = omega (arith, c.improve-next.auto.found, c.loop-root.invarian
 pub returns : goal.returns
 returns c =
     let same = ended (goal.at.returns c).Then-next-root in (
-      subst (λ (r : ℕ). Rooted (lent c.args.n c.args.starts.now c.args.neighbours.now) c.args.nodes.now r c.loop-root.root.last) same c.loop-root.invariant.4.measured.rooted,
-      subst (λ (r : ℕ). Standing (lent c.args.n c.args.starts.now c.args.neighbours.now) c.args.nodes.now r c.loop-root.numbers) same c.loop-root.invariant.4.standing,
-      all-outside {n = c.args.n} {nodes = c.args.nodes.now} {region = c.args.nodes.now} c.improve-next.new.trial c.fill.new.numbers refl c.improve-next.ensures.1.only c.fill.ensures,
+      subst (λ (r : ℕ). Rooted (as_lent c.args.mesh.now) c.args.nodes.now r c.loop-root.root.last) same c.loop-root.invariant.4.measured.rooted,
+      subst (λ (r : ℕ). Standing (as_lent c.args.mesh.now) c.args.nodes.now r c.loop-root.numbers) same c.loop-root.invariant.4.standing,
+      all-outside {n = c.args.mesh.now.nodes} {nodes = c.args.nodes.now} {region = c.args.nodes.now} c.improve-next.new.trial c.fill.new.numbers refl c.improve-next.ensures.1.only c.fill.ensures,
     )

@@ -4,9 +4,10 @@ use mathlib.Core.Bool.{false}
 use mathlib.Core.List.{List}
 use Prim.Native.Nat.{ℕ}
 use lib.ListN.{length}
-use Rattle.plan.specs.Mesh.{Mesh, lent}
+use Rattle.plan.specs.Mesh.{Mesh}
 use Rattle.plan.specs.Choice.{improves, root_of}
 use Rattle.theory.proofs.RootSearch.{improvers}
+use Rattle.mesh.specs.Lent.{as_lent}
 use Rattle.dissection.specs.Numbers.{Only}
 use Rattle.dissection.specs.Standing.{Regional, Standing}
 use Rattle.dissection.specs.Rooted.{Measured}
@@ -25,7 +26,7 @@ pub record Searched (m : Mesh) (nodes numbers trial queue : List ℕ) (root last
 abbrev pub invariant-loop-root : goal.invariant-loop-root
 invariant-loop-root l =
     (length l.numbers ≡ length l.initial.numbers) × (length l.trial ≡ length l.initial.trial) × (length l.queue ≡ length l.initial.queue) × (length l.found ≡ length l.initial.found)
-    × Searched (lent l.n l.starts l.neighbours) l.nodes l.numbers l.trial l.queue l.root.node l.root.last l.root.width l.former
+    × Searched (as_lent l.mesh) l.nodes l.numbers l.trial l.queue l.root.node l.root.last l.root.width l.former
 
 abbrev pub decreases-loop-root : goal.decreases-loop-root
-decreases-loop-root l = improvers (lent l.n l.starts l.neighbours) l.nodes l.root.node
+decreases-loop-root l = improvers (as_lent l.mesh) l.nodes l.root.node
