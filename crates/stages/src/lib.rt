@@ -8,7 +8,7 @@ ghost use Rattle.plan.specs.Dissection.{parts};
 ghost use Rattle.plan.specs.Planning.{dissection_of};
 
 use dissection::dissect;
-use mesh::check;
+use mesh::LentMesh;
 
 // Checks 1 to 7 and 26, then the dissection: the number of parts, 0 where a check refuses. O(n + 26 · entries + dissection).
 #[unsafe(no_mangle)]
@@ -16,8 +16,13 @@ pub extern "C" fn stage_order(n: usize, starts: &[u32], neighbours: &[u16]) -> u
     ensures { result ≡ cond (eqb (first_fault (mesh_checks (lent n starts.now neighbours.now))) 0)
         (length (parts (dissection_of (lent n starts.now neighbours.now)))) 0 }
 {
-    if check(n, starts, neighbours) != 0 {
+    let lent = LentMesh {
+        nodes: n,
+        starts,
+        neighbours,
+    };
+    let Ok(mesh) = lent.check() else {
         return 0;
-    }
-    dissect(n, starts, neighbours).parts
+    };
+    dissect(&mesh).parts
 }
