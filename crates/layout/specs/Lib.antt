@@ -1,2 +1,3 @@
 pub mod Arrays
 pub mod Climbing
+pub mod Layouts

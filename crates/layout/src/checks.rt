@@ -1,12 +1,15 @@
 // Checks that several entry points make: 8, of the lent results, 17's rule of a column's rows, and 22, of a layout, alone and behind 1.
-ghost use Rattle.std.specs.Prelude.{◌≡◌, false, ◌≤◌, length, get_or};
-ghost use Rattle.plan.specs.Refusals.{first_fault};
+ghost use Rattle.std.specs.Prelude.{◌≡◌, false, ◌≤◌, length, get_or, IfOk};
+ghost use Rattle.plan.specs.Refusals.{fault_of, first_fault};
 ghost use Rattle.plan.specs.Mesh.{bad_starts};
 ghost use Rattle.plan.specs.Planning.{buffers_too_short, lengths};
 ghost use Rattle.plan.specs.File.{bad_column, bad_columns};
 ghost use Rattle.plan.specs.Questions.{bad_layout, layout_checks};
+ghost use Rattle.layout.specs.Layouts.{LaidOut};
 
+use crate::checked::CheckedLayout;
 use mesh::{bad_node_count, bad_starts, list};
+use plan::Refusal;
 
 // Check 8: a lent result other than the rows is too short. O(1).
 #[tactic(auto, unfolding(plan::specs::Planning::buffers_too_short))]
@@ -52,6 +55,7 @@ fn bad_columns(n: usize, column_starts: &[u32], rows: &[u16]) -> bool
 }
 
 // Check 22: the starts are not those of n columns, the last is above the rows' length, or a column breaks 17's rule. O(n + slots).
+#[tactic(auto, unfolding(plan::specs::Questions::bad_layout))]
 fn bad_layout(n: usize, column_starts: &[u32], rows: &[u16]) -> bool
     ensures { result ≡ bad_layout n column_starts.now rows.now }
 {
@@ -61,15 +65,25 @@ fn bad_layout(n: usize, column_starts: &[u32], rows: &[u16]) -> bool
     rows.len() < column_starts[n] as usize || bad_columns(n, column_starts, rows)
 }
 
-// The first refusal of checks 1 and 22, 0 for none. O(n + slots).
-pub(crate) fn layout_refusal(n: usize, column_starts: &[u32], rows: &[u16]) -> u32
-    ensures { result ≡ first_fault (layout_checks n column_starts.now rows.now) }
+// Checks 1 and 22, and the layout that has passed them. O(n + slots).
+#[tactic(auto, unfolding(plan::specs::Refusals::first_fault, plan::specs::Questions::layout_checks))]
+pub(crate) fn check_layout<'a>(
+    n: usize,
+    column_starts: &'a [u32],
+    rows: &'a [u16],
+) -> Result<CheckedLayout<'a>, Refusal>
+    ensures fault { fault_of result ≡ first_fault (layout_checks n column_starts.now rows.now) }
+    ensures passed { IfOk result (λ layout. LaidOut layout n column_starts.now rows.now) }
 {
     if bad_node_count(n) {
-        return 1;
+        return Err(Refusal::NodeCount);
     }
     if bad_layout(n, column_starts, rows) {
-        return 22;
+        return Err(Refusal::Layout);
     }
-    0
+    Ok(CheckedLayout {
+        n,
+        column_starts,
+        rows,
+    })
 }

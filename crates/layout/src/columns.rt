@@ -2,12 +2,14 @@
 ghost use Rattle.std.specs.Prelude.{◌≡◌, true, cond, ℕ, ◌+◌, ◌≤◌, ◌<◌, eqb, length, take, set, get_or};
 ghost use mathlib.Core.List.{flatten};
 ghost use Rattle.plan.specs.Lists.{written, is_in, list_at};
-ghost use Rattle.plan.specs.Mesh.{max_nodes, lent};
+ghost use Rattle.plan.specs.Mesh.{max_nodes};
 ghost use Rattle.plan.specs.Elimination.{columns, starts_of};
 ghost use Rattle.mesh.specs.Lists.{none, ListWithin};
+ghost use Rattle.mesh.specs.Lent.{as_lent};
 ghost use Rattle.layout.specs.Arrays.{Ordered, Tree, Rising, Children, Marked, Unmarked, neighbour_position, child_row, marked_below, Meets, rows_before};
 
-use mesh::{NONE, filled, list};
+use crate::ordered::OrderedMesh;
+use mesh::{CheckedMesh, NONE, filled, list};
 
 // Column c is put before the children of its parent, where it has one. `n` is for the contract alone. O(1).
 fn link(n: usize, c: usize, tree: &[u16], first: &mut [u16], next: &mut [u16])
@@ -33,21 +35,13 @@ fn link_children(n: usize, tree: &[u16], first: &mut [u16], next: &mut [u16])
     }
 }
 
-// The positions of the neighbours of the node at position j get the mark j. `n` is for the contract alone. O(degree).
-fn mark_neighbours(
-    n: usize,
-    starts: &[u32],
-    neighbours: &[u16],
-    order: &[u16],
-    positions: &[u16],
-    j: usize,
-    marks: &mut [u16],
-)
-    requires { Ordered (lent n starts.now neighbours.now) order.now positions.now × (j < n) × (n ≤ length marks.old) }
-    ensures { Marked j (neighbour_position (lent n starts.now neighbours.now) order.now positions.now j) marks.old marks.new }
+// The positions of the neighbours of the node at position j get the mark j. O(degree).
+fn mark_neighbours(ordered: &OrderedMesh, j: usize, marks: &mut [u16])
+    requires { (j < ordered.now.mesh.nodes) × (ordered.now.mesh.nodes ≤ length marks.old) }
+    ensures { Marked j (neighbour_position (as_lent ordered.now.mesh) ordered.now.order.now ordered.now.positions.now j) marks.old marks.new }
 {
-    for &w in list(starts, neighbours, order[j] as usize) {
-        marks[positions[w as usize] as usize] = j as u16;
+    for &w in ordered.neighbours(j) {
+        marks[ordered.positions[w as usize] as usize] = j as u16;
     }
 }
 
@@ -111,11 +105,7 @@ fn write_column(n: usize, j: u16, count: usize, tree: &[u16], marks: &[u16], row
 // Column j: its later neighbours and the rows of its children, marked and written at the column's start.
 // O(degree + rows of the children + the way to the last row).
 fn add_column(
-    n: usize,
-    starts: &[u32],
-    neighbours: &[u16],
-    order: &[u16],
-    positions: &[u16],
+    ordered: &OrderedMesh,
     tree: &[u16],
     first: &[u16],
     next: &[u16],
@@ -124,12 +114,13 @@ fn add_column(
     marks: &mut [u16],
     rows: &mut [u16],
 )
-    requires ordered { Ordered (lent n starts.now neighbours.now) order.now positions.now × (n ≤ length tree.now) × Tree (lent n starts.now neighbours.now) order.now tree.now × Children n tree.now n first.now next.now }
-    requires column_starts_value { (take (n + 1) column_starts.now ≡ starts_of (columns (lent n starts.now neighbours.now) order.now)) × (length (flatten (columns (lent n starts.now neighbours.now) order.now)) ≤ length rows.old) × (j < n) }
-    requires n_in_bounds { (n ≤ length marks.old) × Unmarked n j marks.old × (rows.old ≡ written (rows_before (lent n starts.now neighbours.now) order.now j) rows.old) }
-    ensures { Unmarked n (j + 1) marks.new × (rows.new ≡ written (rows_before (lent n starts.now neighbours.now) order.now (j + 1)) rows.old) }
+    requires tree { (ordered.now.mesh.nodes ≤ length tree.now) × Tree (as_lent ordered.now.mesh) ordered.now.order.now tree.now × Children ordered.now.mesh.nodes tree.now ordered.now.mesh.nodes first.now next.now }
+    requires starts { (take (ordered.now.mesh.nodes + 1) column_starts.now ≡ starts_of (columns (as_lent ordered.now.mesh) ordered.now.order.now)) × (length (flatten (columns (as_lent ordered.now.mesh) ordered.now.order.now)) ≤ length rows.old) × (j < ordered.now.mesh.nodes) }
+    requires before { (ordered.now.mesh.nodes ≤ length marks.old) × Unmarked ordered.now.mesh.nodes j marks.old × (rows.old ≡ written (rows_before (as_lent ordered.now.mesh) ordered.now.order.now j) rows.old) }
+    ensures { Unmarked ordered.now.mesh.nodes (j + 1) marks.new × (rows.new ≡ written (rows_before (as_lent ordered.now.mesh) ordered.now.order.now (j + 1)) rows.old) }
 {
-    mark_neighbours(n, starts, neighbours, order, positions, j, marks);
+    let n = ordered.mesh.nodes;
+    mark_neighbours(ordered, j, marks);
     mark_children(n, tree, column_starts, rows, first, next, j, marks);
     let a = column_starts[j] as usize;
     let e = column_starts[j + 1] as usize;
@@ -138,30 +129,29 @@ fn add_column(
 
 // The rows of all columns. O(4,096 + slots + entries + the ways up the tree).
 pub fn write_columns(
-    n: usize,
-    starts: &[u32],
-    neighbours: &[u16],
+    mesh: &CheckedMesh,
     order: &[u16],
     positions: &[u16],
     tree: &[u16],
     column_starts: &[u32],
     rows: &mut [u16],
 )
-    requires ordered { Ordered (lent n starts.now neighbours.now) order.now positions.now × (n ≤ length tree.now) × Tree (lent n starts.now neighbours.now) order.now tree.now }
-    requires column_starts_value { (take (n + 1) column_starts.now ≡ starts_of (columns (lent n starts.now neighbours.now) order.now)) × (length (flatten (columns (lent n starts.now neighbours.now) order.now)) ≤ length rows.old) }
-    ensures { rows.new ≡ written (flatten (columns (lent n starts.now neighbours.now) order.now)) rows.old }
+    requires ordered { Ordered (as_lent mesh.now) order.now positions.now × (mesh.now.nodes ≤ length tree.now) × Tree (as_lent mesh.now) order.now tree.now }
+    requires column_starts_value { (take (mesh.now.nodes + 1) column_starts.now ≡ starts_of (columns (as_lent mesh.now) order.now)) × (length (flatten (columns (as_lent mesh.now) order.now)) ≤ length rows.old) }
+    ensures { rows.new ≡ written (flatten (columns (as_lent mesh.now) order.now)) rows.old }
 {
+    let ordered = OrderedMesh {
+        mesh: *mesh,
+        order,
+        positions,
+    };
     let mut first = filled(NONE);
     let mut next = filled(NONE);
     let mut marks = filled(NONE);
-    link_children(n, tree, &mut first, &mut next);
-    for j in 0..n {
+    link_children(mesh.nodes, tree, &mut first, &mut next);
+    for j in 0..mesh.nodes {
         add_column(
-            n,
-            starts,
-            neighbours,
-            order,
-            positions,
+            &ordered,
             tree,
             &first,
             &next,

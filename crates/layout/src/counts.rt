@@ -2,13 +2,15 @@
 // The columns that have a row are those met by climbing from its earlier neighbours.
 ghost use Rattle.std.specs.Prelude.{◌≡◌, cond, map, ◌+◌, ◌≤◌, ◌<◌, eqb, length, take, drop};
 ghost use Rattle.plan.specs.Lists.{total, running_sums, written};
-ghost use Rattle.plan.specs.Mesh.{max_nodes, lent};
+ghost use Rattle.plan.specs.Mesh.{max_nodes};
 ghost use Rattle.plan.specs.Elimination.{columns, multiplications};
 ghost use Rattle.mesh.specs.Lists.{none};
+ghost use Rattle.mesh.specs.Lent.{as_lent};
 ghost use Rattle.layout.specs.Arrays.{Ordered, CountedBelow, tree_of, Unmarked};
 ghost use Rattle.layout.specs.Climbing.{Climbable, Climbed};
 
-use mesh::{NONE, filled, list};
+use crate::ordered::OrderedMesh;
+use mesh::{CheckedMesh, NONE, filled};
 
 // A column's parent once row i has touched it: i, unless an earlier row did. O(1).
 fn parent_of(parent: u16, i: u16) -> u16
@@ -36,50 +38,47 @@ fn climb(i: u16, start: u16, tree: &mut [u16], marks: &mut [u16], counts: &mut [
     }
 }
 
-// Row i: up from each of its earlier neighbours. `n` is for the contract alone. O(columns that have row i + degree).
+// Row i: up from each of its earlier neighbours. O(columns that have row i + degree).
 fn count_row(
-    n: usize,
-    starts: &[u32],
-    neighbours: &[u16],
-    order: &[u16],
-    positions: &[u16],
+    ordered: &OrderedMesh,
     i: usize,
     tree: &mut [u16],
     marks: &mut [u16],
     counts: &mut [u16],
 )
-    requires ordered { Ordered (lent n starts.now neighbours.now) order.now positions.now × (i < n) × (n ≤ length tree.old) × (n ≤ length marks.old) × (n ≤ length counts.old) }
-    requires counted_below { CountedBelow (lent n starts.now neighbours.now) order.now i tree.old counts.old × Unmarked n i marks.old }
-    ensures counted_below_2 { CountedBelow (lent n starts.now neighbours.now) order.now (i + 1) tree.new counts.new × Unmarked n (i + 1) marks.new }
-    ensures tree_unchanged { (drop n tree.new ≡ drop n tree.old) × (drop n counts.new ≡ drop n counts.old) }
+    requires inside { (i < ordered.now.mesh.nodes) × (ordered.now.mesh.nodes ≤ length tree.old) × (ordered.now.mesh.nodes ≤ length marks.old) × (ordered.now.mesh.nodes ≤ length counts.old) }
+    requires counted { CountedBelow (as_lent ordered.now.mesh) ordered.now.order.now i tree.old counts.old × Unmarked ordered.now.mesh.nodes i marks.old }
+    ensures counted { CountedBelow (as_lent ordered.now.mesh) ordered.now.order.now (i + 1) tree.new counts.new × Unmarked ordered.now.mesh.nodes (i + 1) marks.new }
+    ensures rest { (drop ordered.now.mesh.nodes tree.new ≡ drop ordered.now.mesh.nodes tree.old) × (drop ordered.now.mesh.nodes counts.new ≡ drop ordered.now.mesh.nodes counts.old) }
 {
     marks[i] = i as u16;
-    for &w in list(starts, neighbours, order[i] as usize) {
-        climb(i as u16, positions[w as usize], tree, marks, counts);
+    for &w in ordered.neighbours(i) {
+        climb(i as u16, ordered.positions[w as usize], tree, marks, counts);
     }
 }
 
 // The elimination tree and the number of rows of each column. O(4,096 + slots + entries).
 pub fn count_rows(
-    n: usize,
-    starts: &[u32],
-    neighbours: &[u16],
+    mesh: &CheckedMesh,
     order: &[u16],
     positions: &[u16],
     tree: &mut [u16],
     counts: &mut [u16],
 )
-    requires { Ordered (lent n starts.now neighbours.now) order.now positions.now × (n ≤ length tree.old) × (n ≤ length counts.old) }
-    ensures tree_after { tree.new ≡ written (tree_of (lent n starts.now neighbours.now) order.now) tree.old }
-    ensures counts_after { counts.new ≡ written (map length (columns (lent n starts.now neighbours.now) order.now)) counts.old }
+    requires { Ordered (as_lent mesh.now) order.now positions.now × (mesh.now.nodes ≤ length tree.old) × (mesh.now.nodes ≤ length counts.old) }
+    ensures tree_after { tree.new ≡ written (tree_of (as_lent mesh.now) order.now) tree.old }
+    ensures counts_after { counts.new ≡ written (map length (columns (as_lent mesh.now) order.now)) counts.old }
 {
+    let ordered = OrderedMesh {
+        mesh: *mesh,
+        order,
+        positions,
+    };
     let mut marks = filled(NONE);
-    tree[..n].fill(NONE);
-    counts[..n].fill(0);
-    for i in 0..n {
-        count_row(
-            n, starts, neighbours, order, positions, i, tree, &mut marks, counts,
-        );
+    tree[..mesh.nodes].fill(NONE);
+    counts[..mesh.nodes].fill(0);
+    for i in 0..mesh.nodes {
+        count_row(&ordered, i, tree, &mut marks, counts);
     }
 }
 

@@ -2,9 +2,11 @@
 // With it are the questions over a layout, and the checks that several entry points share.
 #![tactic(auto)]
 
+mod checked;
 mod checks;
 mod columns;
 mod counts;
+mod ordered;
 mod positions;
 mod questions;
 mod slots;

@@ -6,7 +6,8 @@ use Prim.Native.Nat.{ℕ, ◌+◌, ◌-◌, ◌*◌, ◌^◌, ◌≤◌, ◌<◌
 use native.Mathlib.Omega.{arith}
 use lib.ListN.{length, take, drop, get_or, length-take, length-drop}
 use Rattle.plan.specs.Lists.{is_in, list_at, written}
-use Rattle.plan.specs.Mesh.{max_nodes, lent}
+use Rattle.plan.specs.Mesh.{max_nodes}
+use Rattle.mesh.specs.Lent.{as_lent}
 use Rattle.plan.specs.Elimination.{column}
 use Rattle.theory.specs.Rows.{is_row}
 use Rattle.theory.proofs.EliminationTree.{row_range}
@@ -18,37 +19,37 @@ use Rattle.layout.proofs.columns.add_column.Goals.{Start, After-mark_children}
 use Rattle.layout.proofs.columns.add_column.Goals as goal
 
 -- the columns before j are found in the rows
-listed : (c : Start) → Listed (lent c.args.n c.args.starts.now c.args.neighbours.now) c.args.order.now c.args.column_starts.now c.args.rows.now c.args.j
-listed c c' lt = column-found (lent c.args.n c.args.starts.now c.args.neighbours.now) c.args.order.now c.args.column_starts.now c.requires.column_starts_value.0 c.args.rows.now c.args.j c' (omega arith) lt c.requires.n_in_bounds.2
+listed : (c : Start) → Listed (as_lent c.args.ordered.now.mesh) c.args.ordered.now.order.now c.args.column_starts.now c.args.rows.now c.args.j
+listed c c' lt = column-found (as_lent c.args.ordered.now.mesh) c.args.ordered.now.order.now c.args.column_starts.now c.requires.starts.0 c.args.rows.now c.args.j c' (omega arith) lt c.requires.before.2
 
 -- the columns before j are found in the rows
-listed_at_after_mark_children : (c : After-mark_children) → Listed (lent c.args.n c.args.starts.now c.args.neighbours.now) c.args.order.now c.args.column_starts.now c.args.rows.now c.args.j
-listed_at_after_mark_children c c' lt = column-found (lent c.args.n c.args.starts.now c.args.neighbours.now) c.args.order.now c.args.column_starts.now c.requires.column_starts_value.0 c.args.rows.now c.args.j c' (omega arith) lt c.requires.n_in_bounds.2
+listed_at_after_mark_children : (c : After-mark_children) → Listed (as_lent c.args.ordered.now.mesh) c.args.ordered.now.order.now c.args.column_starts.now c.args.rows.now c.args.j
+listed_at_after_mark_children c c' lt = column-found (as_lent c.args.ordered.now.mesh) c.args.ordered.now.order.now c.args.column_starts.now c.requires.starts.0 c.args.rows.now c.args.j c' (omega arith) lt c.requires.before.2
 
 -- where column j starts and ends
 bounds : (c : Start) → let a : ℕ = get_or c.args.column_starts.now c.args.j 0 in
     let e : ℕ = get_or c.args.column_starts.now (c.args.j + 1) 0 in
-    (c.args.n ≤ max_nodes) × (c.args.n < length c.args.column_starts.now) × (a ≡ length (rows_before (lent c.args.n c.args.starts.now c.args.neighbours.now) c.args.order.now c.args.j)) × (e ≡ a + length (column (lent c.args.n c.args.starts.now c.args.neighbours.now) c.args.order.now c.args.j)) × (e ≤ length c.args.rows.now)
+    (c.args.ordered.now.mesh.nodes ≤ max_nodes) × (c.args.ordered.now.mesh.nodes < length c.args.column_starts.now) × (a ≡ length (rows_before (as_lent c.args.ordered.now.mesh) c.args.ordered.now.order.now c.args.j)) × (e ≡ a + length (column (as_lent c.args.ordered.now.mesh) c.args.ordered.now.order.now c.args.j)) × (e ≤ length c.args.rows.now)
 bounds c =
-    let m = (lent c.args.n c.args.starts.now c.args.neighbours.now) in (
-      c.requires.ordered.0.checked.few,
-      starts-long m c.args.order.now c.args.column_starts.now c.requires.column_starts_value.0,
-      start_at m c.args.order.now c.args.column_starts.now c.requires.column_starts_value.0 c.args.j (omega arith),
-      start-next m c.args.order.now c.args.column_starts.now c.requires.column_starts_value.0 c.args.j c.requires.column_starts_value.2,
-      (column-within m c.args.order.now c.args.column_starts.now c.requires.column_starts_value.0 c.args.rows.now c.requires.column_starts_value.1 c.args.j c.requires.column_starts_value.2).ended,
+    let m = (as_lent c.args.ordered.now.mesh) in (
+      c.args.ordered.now.ordered.checked.few,
+      starts-long m c.args.ordered.now.order.now c.args.column_starts.now c.requires.starts.0,
+      start_at m c.args.ordered.now.order.now c.args.column_starts.now c.requires.starts.0 c.args.j (omega arith),
+      start-next m c.args.ordered.now.order.now c.args.column_starts.now c.requires.starts.0 c.args.j c.requires.starts.2,
+      (column-within m c.args.ordered.now.order.now c.args.column_starts.now c.requires.starts.0 c.args.rows.now c.requires.starts.1 c.args.j c.requires.starts.2).ended,
     )
 
 -- where column j starts and ends
 bounds_at_after_mark_children : (c : After-mark_children) → let a : ℕ = get_or c.args.column_starts.now c.args.j 0 in
     let e : ℕ = get_or c.args.column_starts.now (c.args.j + 1) 0 in
-    (c.args.n ≤ max_nodes) × (c.args.n < length c.args.column_starts.now) × (a ≡ length (rows_before (lent c.args.n c.args.starts.now c.args.neighbours.now) c.args.order.now c.args.j)) × (e ≡ a + length (column (lent c.args.n c.args.starts.now c.args.neighbours.now) c.args.order.now c.args.j)) × (e ≤ length c.args.rows.now)
+    (c.args.ordered.now.mesh.nodes ≤ max_nodes) × (c.args.ordered.now.mesh.nodes < length c.args.column_starts.now) × (a ≡ length (rows_before (as_lent c.args.ordered.now.mesh) c.args.ordered.now.order.now c.args.j)) × (e ≡ a + length (column (as_lent c.args.ordered.now.mesh) c.args.ordered.now.order.now c.args.j)) × (e ≤ length c.args.rows.now)
 bounds_at_after_mark_children c =
-    let m = (lent c.args.n c.args.starts.now c.args.neighbours.now) in (
-      c.requires.ordered.0.checked.few,
-      starts-long m c.args.order.now c.args.column_starts.now c.requires.column_starts_value.0,
-      start_at m c.args.order.now c.args.column_starts.now c.requires.column_starts_value.0 c.args.j (omega arith),
-      start-next m c.args.order.now c.args.column_starts.now c.requires.column_starts_value.0 c.args.j c.requires.column_starts_value.2,
-      (column-within m c.args.order.now c.args.column_starts.now c.requires.column_starts_value.0 c.args.rows.now c.requires.column_starts_value.1 c.args.j c.requires.column_starts_value.2).ended,
+    let m = (as_lent c.args.ordered.now.mesh) in (
+      c.args.ordered.now.ordered.checked.few,
+      starts-long m c.args.ordered.now.order.now c.args.column_starts.now c.requires.starts.0,
+      start_at m c.args.ordered.now.order.now c.args.column_starts.now c.requires.starts.0 c.args.j (omega arith),
+      start-next m c.args.ordered.now.order.now c.args.column_starts.now c.requires.starts.0 c.args.j c.requires.starts.2,
+      (column-within m c.args.ordered.now.order.now c.args.column_starts.now c.requires.starts.0 c.args.rows.now c.requires.starts.1 c.args.j c.requires.starts.2).ended,
     )
 
 -- the rows take no more than the memory there is
@@ -56,49 +57,49 @@ room : (c : Start) → length c.args.rows.now * 2 < 2 ^ 63
 room c = omega arith
 
 -- with both, the column is marked
-marking : (c : After-mark_children) → Marking (lent c.args.n c.args.starts.now c.args.neighbours.now) c.args.order.now c.args.positions.now c.args.tree.now c.args.column_starts.now c.args.rows.now c.args.j c.args.marks.now c.mark_neighbours.new.marks c.mark_children.new.marks
+marking : (c : After-mark_children) → Marking (as_lent c.args.ordered.now.mesh) c.args.ordered.now.order.now c.args.ordered.now.positions.now c.args.tree.now c.args.column_starts.now c.args.rows.now c.args.j c.args.marks.now c.mark_neighbours.new.marks c.mark_children.new.marks
 marking c =
     record {
-      ordered = c.requires.ordered.0;
-      parents = c.requires.ordered.2;
+      ordered = c.args.ordered.now.ordered;
+      parents = c.requires.tree.1;
       few = omega (arith, (bounds_at_after_mark_children c).0);
-      inside = c.requires.column_starts_value.2;
+      inside = c.requires.starts.2;
       listed = listed_at_after_mark_children c;
-      clear = c.requires.n_in_bounds.1;
+      clear = c.requires.before.1;
       neighbours = c.mark_neighbours.ensures;
       children = c.mark_children.ensures;
     }
 
 -- a row of a child is a position
-inside : (c : Start) (k : ℕ) → k < c.args.n → get_or c.args.tree.now k 0 ≡ c.args.j → (i : ℕ) → is_in i (list_at c.args.column_starts.now c.args.rows.now k) ≡ true → i < c.args.n
+inside : (c : Start) (k : ℕ) → k < c.args.ordered.now.mesh.nodes → get_or c.args.tree.now k 0 ≡ c.args.j → (i : ℕ) → is_in i (list_at c.args.column_starts.now c.args.rows.now k) ≡ true → i < c.args.ordered.now.mesh.nodes
 unfolding is_row
 inside c k lk e i h =
-    let f = child_column (lent c.args.n c.args.starts.now c.args.neighbours.now) c.args.order.now c.args.tree.now c.requires.ordered.2 (omega (arith, (bounds c).0)) c.args.j c.requires.column_starts_value.2 k lk e in
-    (row_range (lent c.args.n c.args.starts.now c.args.neighbours.now) c.args.order.now i k (ap (is_in i) (sym (listed c k f.1)) ∙ h)).1
+    let f = child_column (as_lent c.args.ordered.now.mesh) c.args.ordered.now.order.now c.args.tree.now c.requires.tree.1 (omega (arith, (bounds c).0)) c.args.j c.requires.starts.2 k lk e in
+    (row_range (as_lent c.args.ordered.now.mesh) c.args.ordered.now.order.now i k (ap (is_in i) (sym (listed c k f.1)) ∙ h)).1
 
 pub mark_children-requires : goal.mark_children-requires
 mark_children-requires c =
     record {
-      n_le_max_nodes = ((bounds (goal.at.mark_children-requires c).Start).0, c.requires.ordered.3, c.requires.column_starts_value.2);
+      n_le_max_nodes = ((bounds (goal.at.mark_children-requires c).Start).0, c.requires.tree.2, c.requires.starts.2);
       by_index = λ k lk e. (
-        column-within (lent c.args.n c.args.starts.now c.args.neighbours.now) c.args.order.now c.args.column_starts.now c.requires.column_starts_value.0 c.args.rows.now c.requires.column_starts_value.1 k lk,
-        λ i h. omega (arith, inside (goal.at.mark_children-requires c).Start k lk e i h, c.requires.n_in_bounds.0, c.mark_neighbours.auto.marks),
+        column-within (as_lent c.args.ordered.now.mesh) c.args.ordered.now.order.now c.args.column_starts.now c.requires.starts.0 c.args.rows.now c.requires.starts.1 k lk,
+        λ i h. omega (arith, inside (goal.at.mark_children-requires c).Start k lk e i h, c.requires.before.0, c.mark_neighbours.auto.marks),
       );
     }
 
 pub write_column-requires : goal.write_column-requires
 write_column-requires c =
     let b = bounds (goal.at.write_column-requires c).Start in
-    let count : get_or c.args.column_starts.now (c.args.j + 1) 0 - get_or c.args.column_starts.now c.args.j 0 ≡ length (column (lent c.args.n c.args.starts.now c.args.neighbours.now) c.args.order.now c.args.j) = omega (arith, b) in record {
-      n_le_max_nodes = (b.0, c.requires.column_starts_value.2, c.requires.ordered.1, omega (arith, c.requires.n_in_bounds.0, c.mark_children.auto.marks, c.mark_neighbours.auto.marks), marked_meets (marking (goal.at.write_column-requires c).After-mark_children));
+    let count : get_or c.args.column_starts.now (c.args.j + 1) 0 - get_or c.args.column_starts.now c.args.j 0 ≡ length (column (as_lent c.args.ordered.now.mesh) c.args.ordered.now.order.now c.args.j) = omega (arith, b) in record {
+      n_le_max_nodes = (b.0, c.requires.starts.2, c.requires.tree.0, omega (arith, c.requires.before.0, c.mark_children.auto.marks, c.mark_neighbours.auto.marks), marked_meets (marking (goal.at.write_column-requires c).After-mark_children));
       count_value = (count ∙ sym (ap length (marked_column (marking (goal.at.write_column-requires c).After-mark_children))), simp (length-take, length-drop) (omega (arith, b, count)));
     }
 
 pub returns : goal.returns
 returns c = (
   still_unmarked (marking (goal.at.returns c).After-mark_children),
-  rw (rows_more (lent c.args.n c.args.starts.now c.args.neighbours.now) c.args.order.now c.args.j)
-      (written_grow c.args.rows.now c.args.rows.now (rows_before (lent c.args.n c.args.starts.now c.args.neighbours.now) c.args.order.now c.args.j) (column (lent c.args.n c.args.starts.now c.args.neighbours.now) c.args.order.now c.args.j) c.write_column.new.rows (get_or c.args.column_starts.now c.args.j 0) c.requires.n_in_bounds.2
+  rw (rows_more (as_lent c.args.ordered.now.mesh) c.args.ordered.now.order.now c.args.j)
+      (written_grow c.args.rows.now c.args.rows.now (rows_before (as_lent c.args.ordered.now.mesh) c.args.ordered.now.order.now c.args.j) (column (as_lent c.args.ordered.now.mesh) c.args.ordered.now.order.now c.args.j) c.write_column.new.rows (get_or c.args.column_starts.now c.args.j 0) c.requires.before.2
       (bounds (goal.at.returns c).Start).2 (c.write_column.ensures ∙ ap (λ (l : List ℕ). written l (take (length c.args.rows.now - get_or c.args.column_starts.now c.args.j 0) (drop (get_or c.args.column_starts.now c.args.j 0) c.args.rows.now))) (marked_column (marking (goal.at.returns c).After-mark_children)))),
 )
 
@@ -112,7 +113,7 @@ pub bounds-column_starts-j-2 : goal.bounds-column_starts-j-2
 bounds-column_starts-j-2 c = let b = bounds (goal.at.bounds-column_starts-j-2 c).Start in omega arith
 
 pub overflow_cast-j : goal.overflow_cast-j
-overflow_cast-j c = omega (arith, (bounds (goal.at.overflow_cast-j c).Start).0, c.requires.column_starts_value.2)
+overflow_cast-j c = omega (arith, (bounds (goal.at.overflow_cast-j c).Start).0, c.requires.starts.2)
 
 pub overflow_sub-e : goal.overflow_sub-e
 overflow_sub-e c = let b = bounds (goal.at.overflow_sub-e c).Start in omega (arith)

@@ -7,4 +7,4 @@ use Rattle.layout.specs.Arrays.{Marked}
 use Rattle.layout.proofs.columns.mark_neighbours.Given as goal
 
 abbrev pub invariant-loop-w : goal.invariant-loop-w
-invariant-loop-w l = (length l.marks ≡ length l.initial.marks) × Marked l.j (λ i. exists (λ w. eqb i (get_or l.positions w 0)) (take l.w-index l.w-items)) l.initial.marks l.marks
+invariant-loop-w l = (length l.marks ≡ length l.initial.marks) × Marked l.j (λ i. exists (λ w. eqb i (get_or l.ordered.positions.now w 0)) (take l.w-index l.w-items)) l.initial.marks l.marks

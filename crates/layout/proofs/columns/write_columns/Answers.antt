@@ -6,7 +6,7 @@ use native.Mathlib.Omega.{arith}
 use borrow.Author.Rules.{rules}
 use lib.ListN.{get_or}
 use Rattle.plan.specs.Lists.{written}
-use Rattle.plan.specs.Mesh.{lent}
+use Rattle.mesh.specs.Lent.{as_lent}
 use Rattle.plan.specs.Elimination.{column}
 use Rattle.mesh.specs.Lists.{none}
 use Rattle.mesh.proofs.Lists.{filled_at}
@@ -22,7 +22,7 @@ link_children-requires c =
       n_le_max_nodes = (
         c.requires.ordered.0.checked.few,
         c.requires.ordered.1,
-        tree-rising (lent c.args.n c.args.starts.now c.args.neighbours.now) c.args.order.now c.args.tree.now c.requires.ordered.2,
+        tree-rising (as_lent c.args.mesh.now) c.args.order.now c.args.tree.now c.requires.ordered.2,
         omega (arith, c.requires.ordered.0.checked.few, c.filled-first.ensures.1),
         omega (arith, c.requires.ordered.0.checked.few, c.filled-next.ensures.1),
       );
@@ -31,24 +31,24 @@ link_children-requires c =
 
 pub loop-j-init : goal.loop-j-init
 loop-j-init c =
-    let clear : (i : ℕ) → i < c.args.n → get_or c.filled-marks.result i 0 ≡ none = λ i l. ap (λ (m : List ℕ). get_or m i 0) c.filled-marks.ensures.0 ∙ filled_at none i (omega (arith, c.requires.ordered.0.checked.few)) in
-    (omega arith, refl, c.filled-marks.ensures.1, λ i r li le lr e. omega (arith, c.requires.ordered.0.checked.few, clear i li), rw (rows_none (lent c.args.n c.args.starts.now c.args.neighbours.now) c.args.order.now))
+    let clear : (i : ℕ) → i < c.args.mesh.now.nodes → get_or c.filled-marks.result i 0 ≡ none = λ i l. ap (λ (m : List ℕ). get_or m i 0) c.filled-marks.ensures.0 ∙ filled_at none i (omega (arith, c.requires.ordered.0.checked.few)) in
+    (omega arith, refl, c.filled-marks.ensures.1, λ i r li le lr e. omega (arith, c.requires.ordered.0.checked.few, clear i li), rw (rows_none (as_lent c.args.mesh.now) c.args.order.now))
 
 pub add_column-requires : goal.add_column-requires
 add_column-requires c =
-    let lt : c.loop-j.j < c.args.n = omega arith in record {
-      ordered = (c.requires.ordered.0, c.requires.ordered.1, c.requires.ordered.2, c.link_children.ensures);
-      column_starts_value = (c.requires.column_starts_value.0, omega (arith, c.requires.column_starts_value.1, c.loop-j.invariant.1), lt);
-      n_in_bounds = (
+    let lt : c.loop-j.j < c.args.mesh.now.nodes = omega arith in record {
+      tree = (c.requires.ordered.1, c.requires.ordered.2, c.link_children.ensures);
+      starts = (c.requires.column_starts_value.0, omega (arith, c.requires.column_starts_value.1, c.loop-j.invariant.1), lt);
+      before = (
         omega (arith, c.loop-j.invariant.2, c.requires.ordered.0.checked.few),
         c.loop-j.invariant.3,
-        c.loop-j.invariant.4 ∙ sym (ap (written (rows_before (lent c.args.n c.args.starts.now c.args.neighbours.now) c.args.order.now c.loop-j.j)) c.loop-j.invariant.4 ∙ written_again (rows_before (lent c.args.n c.args.starts.now c.args.neighbours.now) c.args.order.now c.loop-j.j) c.args.rows.now),
+        c.loop-j.invariant.4 ∙ sym (ap (written (rows_before (as_lent c.args.mesh.now) c.args.order.now c.loop-j.j)) c.loop-j.invariant.4 ∙ written_again (rows_before (as_lent c.args.mesh.now) c.args.order.now c.loop-j.j) c.args.rows.now),
       );
     }
 
 pub loop-j-preserved : goal.loop-j-preserved
 loop-j-preserved c =
-    let m = (lent c.args.n c.args.starts.now c.args.neighbours.now) in
+    let m = (as_lent c.args.mesh.now) in
     let j : ℕ = c.loop-j.j in (
       search rules,
       c.add_column.auto.rows ∙ c.loop-j.invariant.1,
@@ -61,5 +61,5 @@ loop-j-preserved c =
 
 pub returns : goal.returns
 returns c =
-    let e : c.loop-j.j ≡ c.args.n = omega arith in
-    c.loop-j.invariant.4 ∙ ap (λ (x : List ℕ). written x c.args.rows.now) (ap (rows_before (lent c.args.n c.args.starts.now c.args.neighbours.now) c.args.order.now) e ∙ rows_all (lent c.args.n c.args.starts.now c.args.neighbours.now) c.args.order.now)
+    let e : c.loop-j.j ≡ c.args.mesh.now.nodes = omega arith in
+    c.loop-j.invariant.4 ∙ ap (λ (x : List ℕ). written x c.args.rows.now) (ap (rows_before (as_lent c.args.mesh.now) c.args.order.now) e ∙ rows_all (as_lent c.args.mesh.now) c.args.order.now)

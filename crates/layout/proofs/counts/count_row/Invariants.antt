@@ -4,7 +4,8 @@ use mathlib.Core.Path.{◌≡◌}
 use mathlib.Core.List.{List}
 use Prim.Native.Nat.{ℕ, ◌≤◌, ◌<◌}
 use lib.ListN.{length, drop, get_or}
-use Rattle.plan.specs.Mesh.{Mesh, lent, neighbours_of}
+use Rattle.plan.specs.Mesh.{Mesh, neighbours_of}
+use Rattle.mesh.specs.Lent.{as_lent}
 use Rattle.layout.specs.Climbing.{Climbing}
 use Rattle.layout.proofs.counts.count_row.Given as goal
 
@@ -21,4 +22,4 @@ pub record Inv (m : Mesh) (order positions : List ℕ) (i : ℕ) (entries tree�
   pub rest_counts : drop m.nodes counts ≡ drop m.nodes counts₀
 
 abbrev pub invariant-loop-w : goal.invariant-loop-w
-invariant-loop-w l = Inv (lent l.n l.starts l.neighbours) l.order l.positions l.i l.w-items l.initial.tree l.initial.marks l.initial.counts l.tree l.marks l.counts l.w-index
+invariant-loop-w l = Inv (as_lent l.ordered.mesh) l.ordered.order.now l.ordered.positions.now l.i l.w-items l.initial.tree l.initial.marks l.initial.counts l.tree l.marks l.counts l.w-index

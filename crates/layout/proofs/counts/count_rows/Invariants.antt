@@ -3,7 +3,8 @@ use mathlib.Core.Path.{◌≡◌}
 use mathlib.Core.List.{List}
 use Prim.Native.Nat.{ℕ, ◌≤◌}
 use lib.ListN.{length, drop}
-use Rattle.plan.specs.Mesh.{max_nodes, Mesh, lent}
+use Rattle.plan.specs.Mesh.{max_nodes, Mesh}
+use Rattle.mesh.specs.Lent.{as_lent}
 use Rattle.layout.specs.Arrays.{Unmarked, CountedBelow}
 use Rattle.layout.proofs.counts.count_rows.Given as goal
 
@@ -19,4 +20,4 @@ pub record Inv (m : Mesh) (order tree₀ counts₀ tree counts marks : List ℕ)
   pub rest_counts : drop m.nodes counts ≡ drop m.nodes counts₀
 
 abbrev pub invariant-loop-i : goal.invariant-loop-i
-invariant-loop-i l = Inv (lent l.n l.starts l.neighbours) l.order l.initial.tree l.initial.counts l.tree l.counts l.marks l.i
+invariant-loop-i l = Inv (as_lent l.mesh) l.order l.initial.tree l.initial.counts l.tree l.counts l.marks l.i

@@ -1,5 +1,5 @@
 -- `layout::counts::sum` meets its contract: each turn adds one column, and the sums stay far below 32 and 64 bits.
-use mathlib.Core.Path.{◌≡◌, refl}
+use mathlib.Core.Path.{refl}
 use Prim.Native.Nat.{ℕ, ◌+◌, ◌*◌, ◌≤◌, ◌<◌}
 use native.Mathlib.Omega.{arith}
 use borrow.Author.Rules.{rules}

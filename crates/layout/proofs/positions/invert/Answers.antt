@@ -1,5 +1,5 @@
 -- `layout::positions::invert` meets its contract: each turn gives one more node its position.
-use mathlib.Core.Path.{◌≡◌, refl}
+use mathlib.Core.Path.{refl}
 use Prim.Native.Nat.{◌<◌}
 use native.Mathlib.Omega.{arith}
 use borrow.Author.Rules.{rules}

@@ -1,4 +1,4 @@
--- `layout::slots::column_of` meets its contract: the starts that are not above the slot come first, and the last of them is its column's.
+-- `layout::checked::CheckedLayout::column_of` meets its contract: the starts that are not above the slot come first, and the last of them is its column's.
 use mathlib.Core.Path.{◌≡◌, sym, ◌∙◌}
 use mathlib.Core.Logic.{inl, inr}
 use mathlib.Core.Bool.{true, false}
@@ -15,11 +15,12 @@ use Rattle.theory.specs.Checked.{Starts}
 use Rattle.theory.proofs.Ascending.{falls-get_or}
 use Rattle.theory.proofs.Bools.{lt_or_le}
 use Rattle.theory.proofs.Checked.{good-starts}
+use Rattle.layout.proofs.Answered.{known-good}
 use Rattle.theory.proofs.SlotsAndPairs.{column_is}
 use Rattle.std.proofs.lemmas.List.{get_or_default}
 use Rattle.std.proofs.lemmas.List.Sorted.{IsPartitionPoint-from_clause, IsPartitionedBy-leb}
-use Rattle.layout.proofs.slots.column_of.Goals.{After-partition_point}
-use Rattle.layout.proofs.slots.column_of.Goals as goal
+use Rattle.layout.proofs.checked.CheckedLayout.column_of.Goals.{After-partition_point}
+use Rattle.layout.proofs.checked.CheckedLayout.column_of.Goals as goal
 
 module _ (n : ℕ) (column_starts : List ℕ) (s : ℕ) (starts : Starts n column_starts) where
   -- the starts of the n columns
@@ -60,12 +61,12 @@ module _ (n : ℕ) (column_starts : List ℕ) (s : ℕ) (starts : Starts n colum
       (some, sym (column_is n column_starts s starts (p - 1) (omega (arith, many), from, rw (← e) behind)))
 
 -- so it is for the place that the search finds
-found : (c : After-partition_point) → (1 ≤ c.partition_point.result) × (c.partition_point.result - 1 ≡ column_of c.args.n c.args.column_starts.now c.args.s)
+found : (c : After-partition_point) → (1 ≤ c.partition_point.result) × (c.partition_point.result - 1 ≡ column_of c.args.self.now.n c.args.self.now.column_starts.now c.args.s)
 found c =
-    let starts = good-starts c.args.n c.args.column_starts.now c.requires.0 in
+    let starts = good-starts c.args.self.now.n c.args.self.now.column_starts.now (known-good c.args.self.now).starts in
     let point = IsPartitionPoint-from_clause (λ x. leb x c.args.s) _ _ c.partition_point.ensures.partitioned
-    (IsPartitionedBy-leb (λ x. x) _ c.args.s (rises c.args.n c.args.column_starts.now c.args.s starts)) (λ a r q k. search rules) in
-    last_below c.args.n c.args.column_starts.now c.args.s starts c.requires.1 c.partition_point.result c.partition_point.ensures.bound point.0 point.1
+    (IsPartitionedBy-leb (λ x. x) _ c.args.s (rises c.args.self.now.n c.args.self.now.column_starts.now c.args.s starts)) (λ a r q k. search rules) in
+    last_below c.args.self.now.n c.args.self.now.column_starts.now c.args.s starts c.requires c.partition_point.result c.partition_point.ensures.bound point.0 point.1
 
 pub overflow_sub-result : goal.overflow_sub-result
 overflow_sub-result c = (found c).0
