@@ -11,6 +11,7 @@ ghost use Rattle.dissection.specs.Rooted.{Rooted};
 use crate::levels::label;
 use crate::numbers::{FRESH, OUTSIDE, fill, renumber};
 use crate::root::search;
+use crate::touch::Touch;
 use mesh::CheckedMesh;
 
 // Whether node v has a neighbour with number x. O(degree).
@@ -74,7 +75,7 @@ fn choose(mesh: &CheckedMesh, nodes: &[u16], last: u16, numbers: &mut [u16])
 
 // A region divided: the nodes of the regions left get the numbers 0, 1, .. of their regions, by smallest node, and those of the part the number
 // behind them, which is returned. O(candidates tried · entries of the region).
-pub(crate) fn divide(
+pub(crate) fn divide<T: Touch>(
     mesh: &CheckedMesh,
     nodes: &[u16],
     at: u16,
@@ -82,14 +83,13 @@ pub(crate) fn divide(
     trial: &mut [u16],
     queue: &mut [u16],
     begins: &mut [u16],
-    irregular: bool,
 ) -> usize
     requires { Regional (as_lent mesh.now) nodes.now numbers.old queue.old × Only mesh.now.nodes [] trial.old × (mesh.now.nodes ≤ length trial.old) × (mesh.now.nodes < length begins.old) × (at ≤ mesh.now.nodes) }
     ensures { Divided (as_lent mesh.now) nodes.now at numbers.new begins.new result × Only mesh.now.nodes [] trial.new }
 {
-    let last = search(mesh, nodes, numbers, trial, queue, begins, irregular);
+    let last = search::<T>(mesh, nodes, numbers, trial, queue, begins);
     choose(mesh, nodes, last, numbers);
-    let count = label(mesh, nodes, at, numbers, queue, begins, irregular);
+    let count = label::<T>(mesh, nodes, at, numbers, queue, begins);
     let part = count as u16;
     renumber(nodes, |x| if x == OUTSIDE { part } else { x }, numbers);
     count

@@ -7,126 +7,37 @@ ghost use Rattle.dissection.specs.Numbers.{fresh, fresh_of, Within, Walked, Skip
 ghost use Rattle.dissection.specs.Spread.{Spread, Room};
 
 use crate::numbers::{FRESH, fill};
+use crate::touch::Touch;
 use mesh::CheckedMesh;
 
-// A mesh with no longer list is a path, a tree, a grid or a regular triangulation, as a rule: the processor learns which entries are fresh.
-const REGULAR: usize = 6;
-// Of longer lists nearly all entries are reached already, and the processor learns that.
-const SHORT: usize = 15;
-
-// Whether nothing predicts which entries of a list are fresh: a guess by the longest list, for speed alone, on which no promise rests. O(n).
-pub(crate) fn is_irregular(mesh: &CheckedMesh) -> bool {
-    let mut longest: usize = 0;
-    for v in 0..mesh.nodes {
-        longest = longest.max(mesh.list(v).len());
-    }
-    REGULAR < longest && longest <= SHORT
-}
-
-// The number of a node that is touched: x where it was fresh, else its own. O(1).
-fn taken(old: u16, x: u16) -> u16
-    ensures { result ≡ cond (eqb old fresh) x old }
-{
-    if old == FRESH { x } else { old }
-}
-
-// How many places a node with this number takes in the queue: one where it is fresh, none elsewhere. O(1).
-fn places(old: u16) -> usize
-    ensures { (result ≡ cond (eqb old fresh) 1 0) × (result ≤ 1) }
-{
-    usize::from(old == FRESH)
-}
-
-// One entry, where nothing predicts whether a node is fresh: node w gets number x and a place in the queue if it is. Nothing is jumped over: the place
-// behind the queue's end is written either way, and only the end moves or stays. The queue's new end is returned. n is for the contract alone. O(1).
-fn touch_unpredicted(
-    n: usize,
-    w: u16,
-    x: u16,
-    numbers: &mut [u16],
-    queue: &mut [u16],
-    tail: usize,
-) -> usize
-    requires { (w < n) × (x < fresh) × Room n numbers.old queue.old tail }
-    ensures { Spread n x tail numbers.old queue.old (λ v. eqb v w) numbers.new queue.new result }
-{
-    let v = w as usize;
-    let old = numbers[v];
-    queue[tail] = w;
-    numbers[v] = taken(old, x);
-    tail + places(old)
-}
-
-// The same where the processor predicts it. O(1).
-fn touch_predicted(
-    n: usize,
-    w: u16,
-    x: u16,
-    numbers: &mut [u16],
-    queue: &mut [u16],
-    tail: usize,
-) -> usize
-    requires { (w < n) × (x < fresh) × Room n numbers.old queue.old tail }
-    ensures { Spread n x tail numbers.old queue.old (λ v. eqb v w) numbers.new queue.new result }
-{
-    let v = w as usize;
-    if numbers[v] != FRESH {
-        return tail;
-    }
-    numbers[v] = x;
-    queue[tail] = w;
-    tail + 1
-}
-
-// One entry, in the way that suits the mesh. O(1).
-fn touch(
-    n: usize,
-    w: u16,
-    x: u16,
-    numbers: &mut [u16],
-    queue: &mut [u16],
-    tail: usize,
-    irregular: bool,
-) -> usize
-    requires { (w < n) × (x < fresh) × Room n numbers.old queue.old tail }
-    ensures { Spread n x tail numbers.old queue.old (λ v. eqb v w) numbers.new queue.new result }
-{
-    if irregular {
-        return touch_unpredicted(n, w, x, numbers, queue, tail);
-    }
-    touch_predicted(n, w, x, numbers, queue, tail)
-}
-
 // The list of node u: each entry is touched, and the queue's new end is returned. O(degree).
-fn visit(
+fn visit<T: Touch>(
     mesh: &CheckedMesh,
     u: usize,
     x: u16,
     numbers: &mut [u16],
     queue: &mut [u16],
     tail: usize,
-    irregular: bool,
 ) -> usize
     requires { (u < mesh.now.nodes) × (x < fresh) × Room mesh.now.nodes numbers.old queue.old tail }
     ensures { Spread mesh.now.nodes x tail numbers.old queue.old (adjacent (as_lent mesh.now) u) numbers.new queue.new result }
 {
     let mut end = tail;
     for &w in mesh.list(u) {
-        end = touch(mesh.nodes, w, x, numbers, queue, end, irregular);
+        end = T::touch(w, x, numbers, queue, end);
     }
     end
 }
 
 // The lists of the nodes that stand in the queue from place lo up to, not including, hi, are visited. The queue's new end is returned.
 // O(their entries).
-fn advance(
+fn advance<T: Touch>(
     mesh: &CheckedMesh,
     x: u16,
     numbers: &mut [u16],
     queue: &mut [u16],
     lo: usize,
     hi: usize,
-    irregular: bool,
 ) -> usize
     requires { (x < fresh) × (lo ≤ hi) × Room mesh.now.nodes numbers.old queue.old hi × ((k : ℕ) → k < hi → get_or queue.old k 0 < mesh.now.nodes) }
     ensures { Spread mesh.now.nodes x hi numbers.old queue.old (λ v. exists (λ u. adjacent (as_lent mesh.now) u v) (segment queue.old lo hi)) numbers.new queue.new result }
@@ -134,7 +45,7 @@ fn advance(
     let mut tail = hi;
     // kept: k is a place of the queue, which the visits write behind hi while its places before hi are read
     for k in lo..hi {
-        tail = visit(mesh, queue[k] as usize, x, numbers, queue, tail, irregular);
+        tail = visit::<T>(mesh, queue[k] as usize, x, numbers, queue, tail);
     }
     tail
 }
@@ -148,12 +59,11 @@ pub(crate) struct Reach {
 }
 
 // Levels from a root within the fresh nodes: each node reached gets its level's number and stands in the queue. O(entries of the nodes reached).
-pub(crate) fn walk(
+pub(crate) fn walk<T: Touch>(
     mesh: &CheckedMesh,
     root: u16,
     numbers: &mut [u16],
     queue: &mut [u16],
-    irregular: bool,
 ) -> Reach
     requires { (root < mesh.now.nodes) × (get_or numbers.old root 0 ≡ fresh) × (mesh.now.nodes ≤ length numbers.old) × (mesh.now.nodes < length queue.old) }
     ensures { Walked mesh.now.nodes (adjacent (as_lent mesh.now)) (fresh_of mesh.now.nodes numbers.old) root numbers.old numbers.new queue.new result.last result.width result.reached }
@@ -165,7 +75,7 @@ pub(crate) fn walk(
     let mut lo: usize = 0;
     let mut hi: usize = 1;
     loop {
-        let tail = advance(mesh, last + 1, numbers, queue, lo, hi, irregular);
+        let tail = advance::<T>(mesh, last + 1, numbers, queue, lo, hi);
         if tail <= hi {
             break;
         }
@@ -183,14 +93,13 @@ pub(crate) fn walk(
 
 // The component of node v, where v is fresh: its nodes get the number `count`, and the place behind them is noted. The number of components
 // so far is returned. O(entries of the nodes reached).
-fn component(
+fn component<T: Touch>(
     mesh: &CheckedMesh,
     v: u16,
     numbers: &mut [u16],
     queue: &mut [u16],
     begins: &mut [u16],
     count: usize,
-    irregular: bool,
 ) -> usize
     requires bounded { (v < mesh.now.nodes) × (mesh.now.nodes ≤ length numbers.old) × (mesh.now.nodes < length queue.old) × (mesh.now.nodes < length begins.old) }
     requires count_lt_n { (get_or numbers.old v 0 ≡ fresh → count < mesh.now.nodes) × (get_or begins.old count 0 ≤ mesh.now.nodes + mesh.now.nodes) }
@@ -199,7 +108,7 @@ fn component(
     if numbers[v as usize] != FRESH {
         return count;
     }
-    let reached = walk(mesh, v, numbers, queue, irregular).reached;
+    let reached = walk::<T>(mesh, v, numbers, queue).reached;
     fill(&queue[..reached], count as u16, numbers);
     begins[count + 1] = begins[count] + reached as u16;
     count + 1
@@ -208,14 +117,13 @@ fn component(
 // The connected components of the fresh nodes, which all stand in a list whose other nodes have numbers from n on: those of component c get
 // number c, the components being counted by their smallest nodes. Where they begin, standing one after the other from place `at`, is noted,
 // and their number is returned. O(length + entries of the nodes reached).
-pub(crate) fn label(
+pub(crate) fn label<T: Touch>(
     mesh: &CheckedMesh,
     nodes: &[u16],
     at: u16,
     numbers: &mut [u16],
     queue: &mut [u16],
     begins: &mut [u16],
-    irregular: bool,
 ) -> usize
     requires listed { Within mesh.now.nodes nodes.now × ((v : ℕ) → is_in v (fresh_of mesh.now.nodes numbers.old) ≡ true → is_in v nodes.now ≡ true) × ((v : ℕ) → is_in v nodes.now ≡ true → mesh.now.nodes ≤ get_or numbers.old v 0) }
     requires at_le_n { (at ≤ mesh.now.nodes) × (mesh.now.nodes ≤ length numbers.old) × (mesh.now.nodes < length queue.old) × (mesh.now.nodes < length begins.old) }
@@ -224,7 +132,7 @@ pub(crate) fn label(
     begins[0] = at;
     let mut count: usize = 0;
     for &v in nodes {
-        count = component(mesh, v, numbers, queue, begins, count, irregular);
+        count = component::<T>(mesh, v, numbers, queue, begins, count);
     }
     count
 }

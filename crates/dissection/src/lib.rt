@@ -8,6 +8,7 @@ mod numbers;
 mod parts;
 mod root;
 mod state;
+mod touch;
 
 pub use parts::{write_order, write_parts};
 pub use state::{Dissection, dissect};

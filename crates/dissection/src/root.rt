@@ -11,6 +11,7 @@ ghost use Rattle.dissection.specs.Rooted.{Rooted, Measured, Better};
 use crate::degrees::least;
 use crate::levels::{label, walk};
 use crate::numbers::{FRESH, OUTSIDE, fill, renumber, transfer};
+use crate::touch::Touch;
 use mesh::CheckedMesh;
 
 // A root with the number of its last level (document 01: ℓ) and the node count of its widest level.
@@ -31,7 +32,7 @@ fn replaces(next: Root, root: Root) -> bool
 // The candidates of a root whose levels stand in `levels`: of each component of its last level a node of least degree in the region. Their number is
 // returned. `found` has the places where the components begin until the candidates are written over them, and `queue` their degrees at the end.
 // O(length + entries of the last level).
-fn candidates(
+fn candidates<T: Touch>(
     mesh: &CheckedMesh,
     nodes: &[u16],
     root: Root,
@@ -39,7 +40,6 @@ fn candidates(
     trial: &mut [u16],
     queue: &mut [u16],
     found: &mut [u16],
-    irregular: bool,
 ) -> usize
     requires regional { Regional (as_lent mesh.now) nodes.now trial.old queue.old × (mesh.now.nodes ≤ length levels.now) × (mesh.now.nodes < length found.old) }
     requires rooted { Rooted (as_lent mesh.now) nodes.now root.node root.last × Standing (as_lent mesh.now) nodes.now root.node levels.now }
@@ -48,26 +48,25 @@ fn candidates(
     transfer(nodes, levels, trial);
     let last = root.last;
     renumber(nodes, |x| if x == last { FRESH } else { OUTSIDE }, trial);
-    let count = label(mesh, nodes, 0, trial, queue, found, irregular);
+    let count = label::<T>(mesh, nodes, 0, trial, queue, found);
     least(mesh, nodes, levels, trial, count, found, queue);
     count
 }
 
 // The levels from node r, which then stand in the numbers. Returned is the root r with the number of its last level and the node count of its widest.
 // O(length + entries of the region).
-fn levels_from(
+fn levels_from<T: Touch>(
     mesh: &CheckedMesh,
     nodes: &[u16],
     r: u16,
     numbers: &mut [u16],
     queue: &mut [u16],
-    irregular: bool,
 ) -> Root
     requires { Regional (as_lent mesh.now) nodes.now numbers.old queue.old × (is_in r nodes.now ≡ true) }
     ensures { (result.node ≡ r) × Measured (as_lent mesh.now) nodes.now r result.last result.width × Standing (as_lent mesh.now) nodes.now r numbers.new }
 {
     fill(nodes, FRESH, numbers);
-    let w = walk(mesh, r, numbers, queue, irregular);
+    let w = walk::<T>(mesh, r, numbers, queue);
     Root {
         node: r,
         last: w.last,
@@ -77,7 +76,7 @@ fn levels_from(
 
 // The first of the candidates that replaces the root, whose levels then stand in the numbers; the root where there is none. The former root, which
 // the root has replaced, does not replace it, so it is not walked from. O(candidates · entries of the region).
-fn first_better(
+fn first_better<T: Touch>(
     mesh: &CheckedMesh,
     nodes: &[u16],
     root: Root,
@@ -85,7 +84,6 @@ fn first_better(
     found: &[u16],
     numbers: &mut [u16],
     queue: &mut [u16],
-    irregular: bool,
 ) -> Root
     requires regional { Regional (as_lent mesh.now) nodes.now numbers.old queue.old × Measured (as_lent mesh.now) nodes.now root.node root.last root.width × (improves (as_lent mesh.now) nodes.now root.node former ≡ false) }
     requires inside { (x : ℕ) → is_in x found.now ≡ true → is_in x nodes.now ≡ true }
@@ -95,7 +93,7 @@ fn first_better(
         if candidate == former {
             continue;
         }
-        let next = levels_from(mesh, nodes, candidate, numbers, queue, irregular);
+        let next = levels_from::<T>(mesh, nodes, candidate, numbers, queue);
         if replaces(next, root) {
             return next;
         }
@@ -105,7 +103,7 @@ fn first_better(
 
 // The root after one turn of the search, from one whose levels stand in `levels`; a better one's levels then stand in `trial`.
 // O(candidates · entries of the region).
-fn improve(
+fn improve<T: Touch>(
     mesh: &CheckedMesh,
     nodes: &[u16],
     root: Root,
@@ -114,46 +112,33 @@ fn improve(
     trial: &mut [u16],
     queue: &mut [u16],
     found: &mut [u16],
-    irregular: bool,
 ) -> Root
     requires regional { Regional (as_lent mesh.now) nodes.now trial.old queue.old × (mesh.now.nodes ≤ length levels.now) × (mesh.now.nodes < length found.old) }
     requires measured { Measured (as_lent mesh.now) nodes.now root.node root.last root.width × Standing (as_lent mesh.now) nodes.now root.node levels.now × (improves (as_lent mesh.now) nodes.now root.node former ≡ false) }
     ensures { (result.node ≡ next_root (as_lent mesh.now) nodes.now root.node) × Better (as_lent mesh.now) nodes.now root.node result.node result.last result.width trial.new }
 {
-    let count = candidates(mesh, nodes, root, levels, trial, queue, found, irregular);
-    first_better(
-        mesh,
-        nodes,
-        root,
-        former,
-        &found[..count],
-        trial,
-        queue,
-        irregular,
-    )
+    let count = candidates::<T>(mesh, nodes, root, levels, trial, queue, found);
+    first_better::<T>(mesh, nodes, root, former, &found[..count], trial, queue)
 }
 
 // The number of the last level from the region's pseudo-peripheral root, whose levels then stand in the numbers. No root comes twice, since each
 // improves on all before it. Candidates are walked from in `trial`, so that the root's own levels stay and are not walked again; in it every node is
 // outside, before and after. O(candidates tried · entries of the region).
-pub(crate) fn search(
+pub(crate) fn search<T: Touch>(
     mesh: &CheckedMesh,
     nodes: &[u16],
     numbers: &mut [u16],
     trial: &mut [u16],
     queue: &mut [u16],
     found: &mut [u16],
-    irregular: bool,
 ) -> u16
     requires { Regional (as_lent mesh.now) nodes.now numbers.old queue.old × Only mesh.now.nodes [] trial.old × (mesh.now.nodes ≤ length trial.old) × (mesh.now.nodes < length found.old) }
     ensures { Rooted (as_lent mesh.now) nodes.now (root_of (as_lent mesh.now) nodes.now) result × Standing (as_lent mesh.now) nodes.now (root_of (as_lent mesh.now) nodes.now) numbers.new × Only mesh.now.nodes [] trial.new }
 {
-    let mut root = levels_from(mesh, nodes, nodes[0], numbers, queue, irregular);
+    let mut root = levels_from::<T>(mesh, nodes, nodes[0], numbers, queue);
     let mut former = root.node;
     loop {
-        let next = improve(
-            mesh, nodes, root, former, numbers, trial, queue, found, irregular,
-        );
+        let next = improve::<T>(mesh, nodes, root, former, numbers, trial, queue, found);
         if next.node == root.node {
             break;
         }

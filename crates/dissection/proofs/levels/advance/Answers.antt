@@ -12,9 +12,10 @@ use Rattle.mesh.specs.Lent.{as_lent}
 use Rattle.dissection.proofs.Spreads.{spread_start, spread_as, spread_both}
 use Rattle.dissection.proofs.levels.advance.Goals.{In-loop-k}
 use Rattle.dissection.proofs.levels.advance.Goals as goal
+use Rattle.dissection.proofs.levels.advance.Given as given
 
 pub loop-k-init : goal.loop-k-init
-loop-k-init c = (
+loop-k-init g c = (
   omega arith,
   c.requires.1,
   omega (arith, c.requires.2.room),
@@ -22,18 +23,18 @@ loop-k-init c = (
 )
 
 pub bounds-queue-k : goal.bounds-queue-k
-bounds-queue-k c = omega (arith, c.loop-k-test.true, c.loop-k.invariant.2, c.loop-k.invariant.3.left.queue_long)
+bounds-queue-k g c = omega (arith, c.loop-k-test.true, c.loop-k.invariant.2, c.loop-k.invariant.3.left.queue_long)
 
 -- the node at place k is the one that stood there before the loop
-same_node : (c : In-loop-k) → get_or c.loop-k.queue c.loop-k.k 0 ≡ get_or c.args.queue.now c.loop-k.k 0
-same_node c = get_d_front c.loop-k.queue c.args.queue.now c.loop-k.k c.args.hi 0 c.loop-k-test.true c.loop-k.invariant.3.kept
+same_node : (g : given.Over) (c : In-loop-k g) → get_or c.loop-k.queue c.loop-k.k 0 ≡ get_or c.args.queue.now c.loop-k.k 0
+same_node g c = get_d_front c.loop-k.queue c.args.queue.now c.loop-k.k c.args.hi 0 c.loop-k-test.true c.loop-k.invariant.3.kept
 
 pub visit-tail-requires : goal.visit-tail-requires
-visit-tail-requires c = (omega (arith, same_node (goal.at.visit-tail-requires c).In-loop-k, c.requires.3 c.loop-k.k c.loop-k-test.true), c.requires.0, c.loop-k.invariant.3.left)
+visit-tail-requires g c = (omega (arith, same_node g (goal.at.visit-tail-requires g c).In-loop-k, c.requires.3 c.loop-k.k c.loop-k-test.true), c.requires.0, c.loop-k.invariant.3.left)
 
 pub loop-k-preserved : goal.loop-k-preserved
-loop-k-preserved c =
-    let same = same_node (goal.at.loop-k-preserved c).In-loop-k in (
+loop-k-preserved g c =
+    let same = same_node g (goal.at.loop-k-preserved g c).In-loop-k in (
       omega arith,
       omega (arith, c.loop-k-test.true),
       c.loop-k.invariant.2,
@@ -44,13 +45,13 @@ loop-k-preserved c =
     )
 
 pub returns : goal.returns
-returns c =
+returns g c =
     let z : c.loop-k.k ≡ c.args.hi = omega arith in
     spread_as (λ v. ap (λ (e : ℕ). exists (λ u. adjacent (as_lent c.args.mesh.now) u v) (segment c.args.queue.now c.args.lo e)) z)
     c.loop-k.invariant.3
 
 pub shape_of-numbers : goal.shape_of-numbers
-shape_of-numbers c = c.loop-k.invariant.3.numbers_length
+shape_of-numbers g c = c.loop-k.invariant.3.numbers_length
 
 pub shape_of-queue : goal.shape_of-queue
-shape_of-queue c = c.loop-k.invariant.3.queue_length
+shape_of-queue g c = c.loop-k.invariant.3.queue_length

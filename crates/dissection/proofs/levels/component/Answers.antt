@@ -12,21 +12,22 @@ use Rattle.dissection.specs.Numbers.{fresh}
 use Rattle.dissection.proofs.Labels.{walked-inside, walked_taken}
 use Rattle.dissection.proofs.levels.component.Goals.{Else-numbers-v, After-walk-reached}
 use Rattle.dissection.proofs.levels.component.Goals as goal
+use Rattle.dissection.proofs.levels.component.Given as given
 
 -- behind the test the node is fresh
-unreached : (c : Else-numbers-v) → get_or c.args.numbers.now c.args.v 0 ≡ fresh
-unreached c = c.if-numbers-v.false
+unreached : (g : given.Over) (c : Else-numbers-v g) → get_or c.args.numbers.now c.args.v 0 ≡ fresh
+unreached g c = c.if-numbers-v.false
 
 -- behind the test the node is fresh
-unreached_at_after_walk_r : (c : After-walk-reached) → get_or c.args.numbers.now c.args.v 0 ≡ fresh
-unreached_at_after_walk_r c = c.if-numbers-v.false
+unreached_at_after_walk_r : (g : given.Over) (c : After-walk-reached g) → get_or c.args.numbers.now c.args.v 0 ≡ fresh
+unreached_at_after_walk_r g c = c.if-numbers-v.false
 
 -- what bounds the numbers at hand
-bounds : (c : After-walk-reached) → (c.args.count < c.args.mesh.now.nodes) × (c.args.mesh.now.nodes ≤ 4096) × (c.args.mesh.now.nodes < length c.args.begins.now) × (get_or c.args.begins.now c.args.count 0 ≤ c.args.mesh.now.nodes + c.args.mesh.now.nodes) × (c.walk-reached.result.reached ≤ c.args.mesh.now.nodes)
-bounds c = (c.requires.count_lt_n.0 (unreached_at_after_walk_r c), c.args.mesh.now.checked.few, c.requires.bounded.3, c.requires.count_lt_n.1, c.walk-reached.ensures.few)
+bounds : (g : given.Over) (c : After-walk-reached g) → (c.args.count < c.args.mesh.now.nodes) × (c.args.mesh.now.nodes ≤ 4096) × (c.args.mesh.now.nodes < length c.args.begins.now) × (get_or c.args.begins.now c.args.count 0 ≤ c.args.mesh.now.nodes + c.args.mesh.now.nodes) × (c.walk-reached.result.reached ≤ c.args.mesh.now.nodes)
+bounds g c = (c.requires.count_lt_n.0 (unreached_at_after_walk_r g c), c.args.mesh.now.checked.few, c.requires.bounded.3, c.requires.count_lt_n.1, c.walk-reached.ensures.few)
 
 pub returns-then-numbers-v : goal.returns-then-numbers-v
-returns-then-numbers-v c =
+returns-then-numbers-v g c =
     inl record {
       reached = ne_eqb (get_or c.args.numbers.now c.args.v 0) fresh c.if-numbers-v.true;
       numbers = refl;
@@ -35,16 +36,16 @@ returns-then-numbers-v c =
     }
 
 pub walk-reached-requires : goal.walk-reached-requires
-walk-reached-requires c = (c.requires.bounded.0, unreached (goal.at.walk-reached-requires c).Else-numbers-v, c.requires.bounded.1, c.requires.bounded.2)
+walk-reached-requires g c = (c.requires.bounded.0, unreached g (goal.at.walk-reached-requires g c).Else-numbers-v, c.requires.bounded.1, c.requires.bounded.2)
 
 pub fill-requires : goal.fill-requires
-fill-requires c v m =
+fill-requires g c v m =
     let lt : v < c.args.mesh.now.nodes = walked-inside c.walk-reached.ensures v m in
     search rules
 
 pub returns : goal.returns
-returns c =
-    let u = unreached (goal.at.returns c).Else-numbers-v in
+returns g c =
+    let u = unreached g (goal.at.returns g c).Else-numbers-v in
     inr record {
       unreached = u;
       numbers = walked_taken {edge = (adjacent (as_lent c.args.mesh.now))} c.walk-reached.ensures c.args.count c.fill.new.numbers c.requires.bounded.0 u c.fill.ensures;
@@ -53,31 +54,31 @@ returns c =
     }
 
 pub bounds-numbers-v : goal.bounds-numbers-v
-bounds-numbers-v c = omega (arith, c.requires.bounded)
+bounds-numbers-v g c = omega (arith, c.requires.bounded)
 
 pub overflow_cast-count : goal.overflow_cast-count
-overflow_cast-count c = omega (arith, bounds (goal.at.overflow_cast-count c).After-walk-reached)
+overflow_cast-count g c = omega (arith, bounds g (goal.at.overflow_cast-count g c).After-walk-reached)
 
 pub offset_bounds-begins-count : goal.offset_bounds-begins-count
-offset_bounds-begins-count c = omega (arith, bounds (goal.at.offset_bounds-begins-count c).After-walk-reached)
+offset_bounds-begins-count g c = omega (arith, bounds g (goal.at.offset_bounds-begins-count g c).After-walk-reached)
 
 pub bounds-begins-count : goal.bounds-begins-count
-bounds-begins-count c = omega (arith, bounds (goal.at.bounds-begins-count c).After-walk-reached)
+bounds-begins-count g c = omega (arith, bounds g (goal.at.bounds-begins-count g c).After-walk-reached)
 
 pub overflow_cast-begins : goal.overflow_cast-begins
-overflow_cast-begins c = omega (arith, bounds (goal.at.overflow_cast-begins c).After-walk-reached)
+overflow_cast-begins g c = omega (arith, bounds g (goal.at.overflow_cast-begins g c).After-walk-reached)
 
 pub overflow_add-begins : goal.overflow_add-begins
-overflow_add-begins c = omega (arith, bounds (goal.at.overflow_add-begins c).After-walk-reached)
+overflow_add-begins g c = omega (arith, bounds g (goal.at.overflow_add-begins g c).After-walk-reached)
 
 pub overflow_add-begins-2 : goal.overflow_add-begins-2
-overflow_add-begins-2 c = omega (arith, bounds (goal.at.overflow_add-begins-2 c).After-walk-reached)
+overflow_add-begins-2 g c = omega (arith, bounds g (goal.at.overflow_add-begins-2 g c).After-walk-reached)
 
 pub offset_bounds-begins-count-2 : goal.offset_bounds-begins-count-2
-offset_bounds-begins-count-2 c = omega (arith, bounds (goal.at.offset_bounds-begins-count-2 c).After-walk-reached)
+offset_bounds-begins-count-2 g c = omega (arith, bounds g (goal.at.offset_bounds-begins-count-2 g c).After-walk-reached)
 
 pub bounds-begins-count-2 : goal.bounds-begins-count-2
-bounds-begins-count-2 c = omega (arith, bounds (goal.at.bounds-begins-count-2 c).After-walk-reached)
+bounds-begins-count-2 g c = omega (arith, bounds g (goal.at.bounds-begins-count-2 g c).After-walk-reached)
 
 pub overflow_add-result : goal.overflow_add-result
-overflow_add-result c = omega (arith, bounds (goal.at.overflow_add-result c).After-walk-reached)
+overflow_add-result g c = omega (arith, bounds g (goal.at.overflow_add-result g c).After-walk-reached)

@@ -8,41 +8,42 @@ use Rattle.theory.proofs.Lists.{is_in-get_or}
 use Rattle.dissection.proofs.Labels.{Labelable, labelling_none, labelling_room, labelling_end, labelling_more, labelling_all}
 use Rattle.dissection.proofs.levels.label.Goals.{Start, At-loop-v}
 use Rattle.dissection.proofs.levels.label.Goals as goal
+use Rattle.dissection.proofs.levels.label.Given as given
 
 -- what is asked of the nodes and the numbers
-asked : (c : Start) → Labelable c.args.mesh.now.nodes c.args.nodes.now c.args.numbers.now
-asked c = record { small = omega (arith, c.args.mesh.now.checked.few); within = c.requires.listed.0; whole = c.requires.listed.1; unlabelled = c.requires.listed.2 }
+asked : (g : given.Over) (c : Start g) → Labelable c.args.mesh.now.nodes c.args.nodes.now c.args.numbers.now
+asked g c = record { small = omega (arith, c.args.mesh.now.checked.few); within = c.requires.listed.0; whole = c.requires.listed.1; unlabelled = c.requires.listed.2 }
 
 -- there is room for as many places as at the start
-long : (c : At-loop-v) → length c.loop-v.begins ≡ length c.args.begins.now
-long c = c.loop-v.invariant.2 ∙ length-set c.args.begins.now 0 c.args.at
+long : (g : given.Over) (c : At-loop-v g) → length c.loop-v.begins ≡ length c.args.begins.now
+long g c = c.loop-v.invariant.2 ∙ length-set c.args.begins.now 0 c.args.at
 
 pub loop-v-init : goal.loop-v-init
-loop-v-init c = (refl, refl, refl, labelling_none _ _ _ _ _ c.args.begins.now (omega arith))
+loop-v-init g c = (refl, refl, refl, labelling_none _ _ _ _ _ c.args.begins.now (omega arith))
 
 pub component-count-requires : goal.component-count-requires
-component-count-requires c =
+component-count-requires g c =
     let lt : c.loop-v.v-index < length c.args.nodes.now = omega arith in
     record {
       bounded = (
         c.requires.listed.0.inside (get_or c.args.nodes.now c.loop-v.v-index 0) (is_in-get_or c.args.nodes.now c.loop-v.v-index 0 lt),
         search rules,
         search rules,
-        omega (arith, long (goal.at.component-count-requires c).At-loop-v),
+        omega (arith, long g (goal.at.component-count-requires g c).At-loop-v),
       );
-      count_lt_n = (labelling_room (asked (goal.at.component-count-requires c).Start) c.loop-v.invariant.3 lt, omega (arith, labelling_end (asked (goal.at.component-count-requires c).Start) c.loop-v.invariant.3));
+      count_lt_n = (labelling_room (asked g (goal.at.component-count-requires g c).Start) c.loop-v.invariant.3 lt, omega (arith, labelling_end (asked g (goal.at.component-count-requires g c).Start) c.loop-v.invariant.3));
     }
 
 pub loop-v-preserved : goal.loop-v-preserved
-loop-v-preserved c = (
+loop-v-preserved g c = (
   search rules,
   search rules,
   search rules,
-  labelling_more (asked (goal.at.loop-v-preserved c).Start) c.loop-v.invariant.3 _ _ _ (omega arith) (omega (arith, long (goal.at.loop-v-preserved c).At-loop-v)) c.component-count.ensures,
+  labelling_more (asked g (goal.at.loop-v-preserved g c).Start) c.loop-v.invariant.3 _ _ _ (omega arith) (omega (arith, long g (goal.at.loop-v-preserved g c).At-loop-v)) c.component-count.ensures,
 )
 
 pub returns : goal.returns
-returns c = labelling_all (asked (goal.at.returns c).Start) c.loop-v.invariant.3 (omega arith)
+returns g c = labelling_all (asked g (goal.at.returns g c).Start) c.loop-v.invariant.3 (omega arith)
 
 pub shape_of-begins : goal.shape_of-begins
-shape_of-begins c = long (goal.at.shape_of-begins c).At-loop-v
+shape_of-begins g c = long g (goal.at.shape_of-begins g c).At-loop-v

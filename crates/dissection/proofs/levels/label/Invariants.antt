@@ -7,7 +7,7 @@ use Rattle.dissection.proofs.Labels.{Labelling}
 use Rattle.dissection.proofs.levels.label.Given as goal
 
 abbrev pub invariant-loop-v : goal.invariant-loop-v
-invariant-loop-v l =
+invariant-loop-v g l =
     (length l.numbers ≡ length l.initial.numbers)
     × (length l.queue ≡ length l.initial.queue)
     × (length l.begins ≡ length l.initial.begins)

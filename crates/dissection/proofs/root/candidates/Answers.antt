@@ -13,57 +13,58 @@ use Rattle.dissection.proofs.LeastDegrees.{degree_in_lem}
 use Rattle.dissection.proofs.Roots.{regional_again, standing_transferred, fresh-inside, level-high, candidates-only, candidates-found}
 use Rattle.dissection.proofs.root.candidates.Goals.{After-transfer, After-renumber, After-label-count}
 use Rattle.dissection.proofs.root.candidates.Goals as goal
+use Rattle.dissection.proofs.root.candidates.Given as given
 
 -- the root's levels stand there
-standing : (c : After-transfer) → Standing (as_lent c.args.mesh.now) c.args.nodes.now c.args.root.node c.transfer.new.numbers
-standing c = standing_transferred (as_lent c.args.mesh.now) c.args.nodes.now c.args.levels.now c.args.trial.now c.transfer.new.numbers c.requires.rooted.0.inside c.requires.rooted.1 c.requires.regional.0.only c.transfer.ensures
+standing : (g : given.Over) (c : After-transfer g) → Standing (as_lent c.args.mesh.now) c.args.nodes.now c.args.root.node c.transfer.new.numbers
+standing g c = standing_transferred (as_lent c.args.mesh.now) c.args.nodes.now c.args.levels.now c.args.trial.now c.transfer.new.numbers c.requires.rooted.0.inside c.requires.rooted.1 c.requires.regional.0.only c.transfer.ensures
 
 -- so it is a region over them
-regional : (c : After-transfer) → Regional (as_lent c.args.mesh.now) c.args.nodes.now c.transfer.new.numbers c.args.queue.now
-regional c = regional_again (as_lent c.args.mesh.now) c.args.nodes.now c.requires.regional.0 (standing c).only c.transfer.auto.numbers refl
+regional : (g : given.Over) (c : After-transfer g) → Regional (as_lent c.args.mesh.now) c.args.nodes.now c.transfer.new.numbers c.args.queue.now
+regional g c = regional_again (as_lent c.args.mesh.now) c.args.nodes.now c.requires.regional.0 (standing g c).only c.transfer.auto.numbers refl
 
 pub transfer-requires : goal.transfer-requires
-transfer-requires c v t =
+transfer-requires g c v t =
     let lt = c.requires.regional.0.within.inside v t in
     (omega (arith, lt, c.requires.regional.1), omega (arith, lt, c.requires.regional.0.numbers_long))
 
 pub renumber-requires-clause-within : goal.renumber-requires-clause-within
-renumber-requires-clause-within c =
-    let h = regional (goal.at.renumber-requires-clause-within c).After-transfer in
+renumber-requires-clause-within g c =
+    let h = regional g (goal.at.renumber-requires-clause-within g c).After-transfer in
     record { ascends = h.within.ascends; inside = λ v t. omega (arith, h.within.inside v t, h.numbers_long) }
 
 -- only the nodes of the last level stay fresh
-only_last : (c : After-renumber) → Renumbered (only_level c.args.root.last) c.args.nodes.now c.transfer.new.numbers c.renumber.new.numbers
-only_last c = c.renumber.ensures (only_level c.args.root.last) (λ x r e. search (rules, e))
+only_last : (g : given.Over) (c : After-renumber g) → Renumbered (only_level c.args.root.last) c.args.nodes.now c.transfer.new.numbers c.renumber.new.numbers
+only_last g c = c.renumber.ensures (only_level c.args.root.last) (λ x r e. search (rules, e))
 
 pub label-count-requires : goal.label-count-requires
-label-count-requires c =
-    let h = regional (goal.at.label-count-requires c).After-transfer in
+label-count-requires g c =
+    let h = regional g (goal.at.label-count-requires g c).After-transfer in
     record {
-      listed = (h.within, fresh-inside (as_lent c.args.mesh.now) c.args.nodes.now h c.requires.rooted.0 c.args.mesh.now.checked (standing (goal.at.label-count-requires c).After-transfer) c.renumber.new.numbers (only_last (goal.at.label-count-requires c).After-renumber), level-high c.args.root.last c.args.mesh.now.nodes c.args.nodes.now c.transfer.new.numbers c.renumber.new.numbers c.args.mesh.now.checked.few (only_last (goal.at.label-count-requires c).After-renumber));
+      listed = (h.within, fresh-inside (as_lent c.args.mesh.now) c.args.nodes.now h c.requires.rooted.0 c.args.mesh.now.checked (standing g (goal.at.label-count-requires g c).After-transfer) c.renumber.new.numbers (only_last g (goal.at.label-count-requires g c).After-renumber), level-high c.args.root.last c.args.mesh.now.nodes c.args.nodes.now c.transfer.new.numbers c.renumber.new.numbers c.args.mesh.now.checked.few (only_last g (goal.at.label-count-requires g c).After-renumber));
       at_le_n = (omega arith, omega (arith, h.numbers_long, c.renumber.auto.numbers), h.queue_long, c.requires.regional.2);
     }
 
 -- there are at most n candidates
-few : (c : After-label-count) → c.label-count.result ≤ c.args.mesh.now.nodes
-few c = c.label-count.ensures.few
+few : (g : given.Over) (c : After-label-count g) → c.label-count.result ≤ c.args.mesh.now.nodes
+few g c = c.label-count.ensures.few
 
 pub least-requires : goal.least-requires
-least-requires c =
-    let h = regional (goal.at.least-requires c).After-transfer in (
+least-requires g c =
+    let h = regional g (goal.at.least-requires g c).After-transfer in (
       h.within,
       c.requires.regional.1,
       omega (arith, h.numbers_long, c.renumber.auto.numbers, c.label-count.auto.numbers),
-      omega (arith, few (goal.at.least-requires c).After-label-count, c.label-count.auto.begins, c.requires.regional.2),
-      omega (arith, few (goal.at.least-requires c).After-label-count, c.label-count.auto.queue, h.queue_long),
+      omega (arith, few g (goal.at.least-requires g c).After-label-count, c.label-count.auto.begins, c.requires.regional.2),
+      omega (arith, few g (goal.at.least-requires g c).After-label-count, c.label-count.auto.queue, h.queue_long),
     )
 
 pub returns : goal.returns
-returns c =
-    let h = regional (goal.at.returns c).After-transfer in (
-      candidates-found (as_lent c.args.mesh.now) c.args.nodes.now h c.requires.rooted.0 c.args.mesh.now.checked (standing (goal.at.returns c).After-transfer) c.renumber.new.numbers (only_last (goal.at.returns c).After-renumber) c.label-count.ensures
+returns g c =
+    let h = regional g (goal.at.returns g c).After-transfer in (
+      candidates-found (as_lent c.args.mesh.now) c.args.nodes.now h c.requires.rooted.0 c.args.mesh.now.checked (standing g (goal.at.returns g c).After-transfer) c.renumber.new.numbers (only_last g (goal.at.returns g c).After-renumber) c.label-count.ensures
           (degree_by (as_lent c.args.mesh.now) c.args.levels.now) (degree_in_lem (as_lent c.args.mesh.now) c.args.nodes.now h.within c.args.root.node c.args.mesh.now.checked c.args.levels.now c.requires.rooted.1)
-          c.least.new.best c.least.new.degrees (omega (arith, few (goal.at.returns c).After-label-count, c.least.auto.best, c.label-count.auto.begins, c.requires.regional.2)) c.least.ensures,
-      few (goal.at.returns c).After-label-count,
-      candidates-only (as_lent c.args.mesh.now) c.args.nodes.now h c.requires.rooted.0 c.args.mesh.now.checked (standing (goal.at.returns c).After-transfer) c.renumber.new.numbers (only_last (goal.at.returns c).After-renumber) c.label-count.ensures,
+          c.least.new.best c.least.new.degrees (omega (arith, few g (goal.at.returns g c).After-label-count, c.least.auto.best, c.label-count.auto.begins, c.requires.regional.2)) c.least.ensures,
+      few g (goal.at.returns g c).After-label-count,
+      candidates-only (as_lent c.args.mesh.now) c.args.nodes.now h c.requires.rooted.0 c.args.mesh.now.checked (standing g (goal.at.returns g c).After-transfer) c.renumber.new.numbers (only_last g (goal.at.returns g c).After-renumber) c.label-count.ensures,
     )

@@ -10,12 +10,12 @@ use Rattle.dissection.proofs.Roots.{regional_again, better_walked, better_same, 
 use Rattle.dissection.proofs.root.first_better.Goals as goal
 
 pub levels_from-next-requires : goal.levels_from-next-requires
-levels_from-next-requires c =
+levels_from-next-requires g c =
     (c.loop-candidate.invariant.2, c.requires.inside (get_or c.args.found.now c.loop-candidate.candidate-index 0) (is_in-get_or c.args.found.now c.loop-candidate.candidate-index 0 (omega arith)))
 
 -- the former root is passed over
 pub loop-candidate-preserved-then-candidate-former : goal.loop-candidate-preserved-then-candidate-former
-loop-candidate-preserved-then-candidate-former c = (
+loop-candidate-preserved-then-candidate-former g c = (
   c.loop-candidate.invariant.0,
   c.loop-candidate.invariant.1,
   c.loop-candidate.invariant.2,
@@ -23,7 +23,7 @@ loop-candidate-preserved-then-candidate-former c = (
 )
 
 pub returns-then-replaces : goal.returns-then-replaces
-returns-then-replaces c = (
+returns-then-replaces g c = (
   c.levels_from-next.ensures.0
       ∙ sym (scan_hit (improves (as_lent c.args.mesh.now) c.args.nodes.now c.args.root.node) c.args.found.now c.loop-candidate.candidate-index c.args.root.node (omega arith) c.loop-candidate.invariant.3
       (improves_is (as_lent c.args.mesh.now) c.args.nodes.now c.requires.regional.1 c.levels_from-next.ensures.1 ∙ sym c.replaces.ensures ∙ c.if-replaces.true)),
@@ -31,7 +31,7 @@ returns-then-replaces c = (
 )
 
 pub loop-candidate-preserved : goal.loop-candidate-preserved
-loop-candidate-preserved c =
+loop-candidate-preserved g c =
     let new : length c.levels_from-next.new.numbers ≡ length c.loop-candidate.numbers = c.numbers-1.given in
     let after : length c.levels_from-next.new.queue ≡ length c.loop-candidate.queue = c.queue-1.given in (
       new ∙ c.loop-candidate.invariant.0,
@@ -42,10 +42,10 @@ loop-candidate-preserved c =
     )
 
 pub returns : goal.returns
-returns c = (
+returns g c = (
   sym (scan_none (improves (as_lent c.args.mesh.now) c.args.nodes.now c.args.root.node) c.args.found.now c.loop-candidate.candidate-index c.args.root.node (omega arith) c.loop-candidate.invariant.3),
   better_same (as_lent c.args.mesh.now) c.args.nodes.now c.requires.regional.1 c.loop-candidate.invariant.2.only,
 )
 
 pub loop-candidate-init : goal.loop-candidate-init
-loop-candidate-init c = (refl, refl, c.requires.regional.0, refl)
+loop-candidate-init g c = (refl, refl, c.requires.regional.0, refl)

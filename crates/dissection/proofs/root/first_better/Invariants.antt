@@ -8,6 +8,6 @@ use Rattle.dissection.specs.Standing.{Regional}
 use Rattle.dissection.proofs.root.first_better.Given as goal
 
 abbrev pub invariant-loop-candidate : goal.invariant-loop-candidate
-invariant-loop-candidate l =
+invariant-loop-candidate g l =
     (length l.numbers ≡ length l.initial.numbers) × (length l.queue ≡ length l.initial.queue) × Regional (as_lent l.mesh) l.nodes l.numbers l.queue
     × (keep (improves (as_lent l.mesh) l.nodes l.root.node) l.found ≡ keep (improves (as_lent l.mesh) l.nodes l.root.node) (drop l.candidate-index l.found))

@@ -10,7 +10,7 @@ use Rattle.dissection.proofs.Roots.{regional_again}
 use Rattle.dissection.proofs.root.improve.Goals as goal
 
 pub first_better-requires : goal.first_better-requires
-first_better-requires c =
+first_better-requires g c =
     record {
       regional = (regional_again (as_lent c.args.mesh.now) c.args.nodes.now c.requires.regional.0 c.candidates-count.ensures.2 c.trial-1.given c.queue-1.given, c.requires.measured.0, c.requires.measured.2);
       inside = (
@@ -20,4 +20,4 @@ first_better-requires c =
 
 pub returns : goal.returns
 unfolding next_root
-returns c = (c.first_better.ensures.0 ∙ ap (λ (l : List ℕ). head_d (keep (improves (as_lent c.args.mesh.now) c.args.nodes.now c.args.root.node) l) c.args.root.node) c.candidates-count.ensures.0, c.first_better.ensures.1)
+returns g c = (c.first_better.ensures.0 ∙ ap (λ (l : List ℕ). head_d (keep (improves (as_lent c.args.mesh.now) c.args.nodes.now c.args.root.node) l) c.args.root.node) c.candidates-count.ensures.0, c.first_better.ensures.1)

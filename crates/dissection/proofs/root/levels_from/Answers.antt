@@ -11,10 +11,10 @@ use Rattle.dissection.proofs.Standing.{walk_measured, walk_standing}
 use Rattle.dissection.proofs.root.levels_from.Goals as goal
 
 pub fill-requires : goal.fill-requires
-fill-requires c v t = omega (arith, c.requires.0.within.inside v t, c.requires.0.numbers_long)
+fill-requires g c v t = omega (arith, c.requires.0.within.inside v t, c.requires.0.numbers_long)
 
 pub walk-w-requires : goal.walk-w-requires
-walk-w-requires c = (
+walk-w-requires g c = (
   c.requires.0.within.inside c.args.r c.requires.1,
   c.fill.ensures c.args.r ∙ cond_true (is_in c.args.r c.args.nodes.now) fresh (get_or c.args.numbers.now c.args.r 0) c.requires.1,
   search rules,
@@ -22,7 +22,7 @@ walk-w-requires c = (
 )
 
 pub returns : goal.returns
-returns c = (
+returns g c = (
   refl,
   walk_measured (as_lent c.args.mesh.now) c.args.nodes.now c.requires.0 c.requires.1 c.walk-w.ensures c.fill.ensures,
   walk_standing (as_lent c.args.mesh.now) c.args.nodes.now c.requires.0 c.requires.1 c.walk-w.ensures c.fill.ensures,

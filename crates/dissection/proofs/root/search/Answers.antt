@@ -13,16 +13,17 @@ use Rattle.dissection.proofs.Roots.{regional_over, regional_again, standing_tran
 use Rattle.dissection.proofs.States.{all-outside}
 use Rattle.dissection.proofs.root.search.Goals.{After-improve-next, Then-next-root}
 use Rattle.dissection.proofs.root.search.Goals as goal
+use Rattle.dissection.proofs.root.search.Given as given
 
 -- have a place for each node
-trial_long : (c : After-improve-next) → c.args.mesh.now.nodes ≤ length c.improve-next.new.trial
-trial_long c = omega (arith, c.improve-next.auto.trial, c.loop-root.invariant.1, c.requires.2)
+trial_long : (g : given.Over) (c : After-improve-next g) → c.args.mesh.now.nodes ≤ length c.improve-next.new.trial
+trial_long g c = omega (arith, c.improve-next.auto.trial, c.loop-root.invariant.1, c.requires.2)
 
 pub levels_from-root-requires : goal.levels_from-root-requires
-levels_from-root-requires c = (c.requires.0, is_in-get_or c.args.nodes.now 0 0 c.requires.0.some)
+levels_from-root-requires g c = (c.requires.0, is_in-get_or c.args.nodes.now 0 0 c.requires.0.some)
 
 pub loop-root-init : goal.loop-root-init
-loop-root-init c = (
+loop-root-init g c = (
   refl,
   refl,
   refl,
@@ -38,22 +39,22 @@ loop-root-init c = (
 )
 
 pub improve-next-requires : goal.improve-next-requires
-improve-next-requires c =
+improve-next-requires g c =
     record {
       regional = (regional_over (as_lent c.args.mesh.now) c.args.nodes.now c.loop-root.invariant.4.regional c.loop-root.invariant.4.tried (omega (arith, c.loop-root.invariant.1, c.requires.2)) refl, c.loop-root.invariant.4.regional.numbers_long, omega (arith, c.loop-root.invariant.3, c.requires.3));
       measured = (c.loop-root.invariant.4.measured, c.loop-root.invariant.4.standing, c.loop-root.invariant.4.behind);
     }
 
 pub transfer-requires : goal.transfer-requires
-transfer-requires c v h =
+transfer-requires g c v h =
     let lt = c.loop-root.invariant.4.regional.within.inside v h in
-    (omega (arith, lt, trial_long (goal.at.transfer-requires c).After-improve-next), omega (arith, lt, c.loop-root.invariant.4.regional.numbers_long))
+    (omega (arith, lt, trial_long g (goal.at.transfer-requires g c).After-improve-next), omega (arith, lt, c.loop-root.invariant.4.regional.numbers_long))
 
 pub loop-root-smaller : goal.loop-root-smaller
-loop-root-smaller c = found_fewer (as_lent c.args.mesh.now) c.args.nodes.now c.improve-next.ensures.0 c.loop-root.invariant.4.measured.rooted.inside c.if-next-root.false
+loop-root-smaller g c = found_fewer (as_lent c.args.mesh.now) c.args.nodes.now c.improve-next.ensures.0 c.loop-root.invariant.4.measured.rooted.inside c.if-next-root.false
 
 pub loop-root-preserved : goal.loop-root-preserved
-loop-root-preserved c =
+loop-root-preserved g c =
     let standing = standing_transferred (as_lent c.args.mesh.now) c.args.nodes.now c.improve-next.new.trial c.loop-root.numbers c.transfer.new.numbers c.improve-next.ensures.1.measured.rooted.inside (c.improve-next.ensures.1.standing c.if-next-root.false) c.loop-root.invariant.4.regional.only c.transfer.ensures in (
       c.transfer.auto.numbers ∙ c.loop-root.invariant.0,
       c.improve-next.auto.trial ∙ c.loop-root.invariant.1,
@@ -70,27 +71,27 @@ loop-root-preserved c =
     )
 
 -- the root that stays is the region's
-ended : (c : Then-next-root) → c.loop-root.root.node ≡ root_of (as_lent c.args.mesh.now) c.args.nodes.now
-ended c = found-last (as_lent c.args.mesh.now) c.args.nodes.now c.improve-next.ensures.0 c.if-next-root.true ∙ c.loop-root.invariant.4.found
+ended : (g : given.Over) (c : Then-next-root g) → c.loop-root.root.node ≡ root_of (as_lent c.args.mesh.now) c.args.nodes.now
+ended g c = found-last (as_lent c.args.mesh.now) c.args.nodes.now c.improve-next.ensures.0 c.if-next-root.true ∙ c.loop-root.invariant.4.found
 
 pub fill-requires : goal.fill-requires
-fill-requires c v h = omega (arith, c.loop-root.invariant.4.regional.within.inside v h, trial_long (goal.at.fill-requires c).After-improve-next)
+fill-requires g c v h = omega (arith, c.loop-root.invariant.4.regional.within.inside v h, trial_long g (goal.at.fill-requires g c).After-improve-next)
 
 pub shape_of-numbers : goal.shape_of-numbers
-shape_of-numbers c = omega (arith, c.loop-root.invariant.0, c.levels_from-root.auto.numbers)
+shape_of-numbers g c = omega (arith, c.loop-root.invariant.0, c.levels_from-root.auto.numbers)
 
 pub shape_of-trial : goal.shape_of-trial
-shape_of-trial c = omega (arith, c.fill.auto.numbers, c.improve-next.auto.trial, c.loop-root.invariant.1)
+shape_of-trial g c = omega (arith, c.fill.auto.numbers, c.improve-next.auto.trial, c.loop-root.invariant.1)
 
 pub shape_of-queue : goal.shape_of-queue
-shape_of-queue c = omega (arith, c.improve-next.auto.queue, c.loop-root.invariant.2, c.levels_from-root.auto.queue)
+shape_of-queue g c = omega (arith, c.improve-next.auto.queue, c.loop-root.invariant.2, c.levels_from-root.auto.queue)
 
 pub shape_of-found : goal.shape_of-found
-shape_of-found c = omega (arith, c.improve-next.auto.found, c.loop-root.invariant.3)
+shape_of-found g c = omega (arith, c.improve-next.auto.found, c.loop-root.invariant.3)
 
 pub returns : goal.returns
-returns c =
-    let same = ended (goal.at.returns c).Then-next-root in (
+returns g c =
+    let same = ended g (goal.at.returns g c).Then-next-root in (
       subst (λ (r : ℕ). Rooted (as_lent c.args.mesh.now) c.args.nodes.now r c.loop-root.root.last) same c.loop-root.invariant.4.measured.rooted,
       subst (λ (r : ℕ). Standing (as_lent c.args.mesh.now) c.args.nodes.now r c.loop-root.numbers) same c.loop-root.invariant.4.standing,
       all-outside {n = c.args.mesh.now.nodes} {nodes = c.args.nodes.now} {region = c.args.nodes.now} c.improve-next.new.trial c.fill.new.numbers refl c.improve-next.ensures.1.only c.fill.ensures,

@@ -24,9 +24,9 @@ pub record Searched (m : Mesh) (nodes numbers trial queue : List ℕ) (root last
   pub found : found_from m nodes root ≡ root_of m nodes
 
 abbrev pub invariant-loop-root : goal.invariant-loop-root
-invariant-loop-root l =
+invariant-loop-root g l =
     (length l.numbers ≡ length l.initial.numbers) × (length l.trial ≡ length l.initial.trial) × (length l.queue ≡ length l.initial.queue) × (length l.found ≡ length l.initial.found)
     × Searched (as_lent l.mesh) l.nodes l.numbers l.trial l.queue l.root.node l.root.last l.root.width l.former
 
 abbrev pub decreases-loop-root : goal.decreases-loop-root
-decreases-loop-root l = improvers (as_lent l.mesh) l.nodes l.root.node
+decreases-loop-root g l = improvers (as_lent l.mesh) l.nodes l.root.node
