@@ -8,11 +8,12 @@ use lib.Dec.{ltb}
 use lib.ListN.{length, get_or, take, drop, length-append, get_or-append}
 use borrow.Author.Tests.{lt-ltb, le-ltb}
 use Rattle.plan.specs.Lists.{below, index_of, written, running_sums, total}
-use Rattle.plan.specs.declared.PlanAnswer.{PlanAnswer}
-use Rattle.plan.specs.declared.PlanAnswer.TheVariants.{Accepted, Refused}
+use Rattle.std.specs.Prelude.{Result, Ok, Err}
+use Rattle.plan.specs.declared.refusal.Refusal.{Refusal}
+use Rattle.plan.specs.declared.refusal.Refusal.TheVariants.{RowsTooShort}
 use Rattle.plan.specs.declared.Plan.{Plan}
 use Rattle.plan.specs.Answers.{plan_reply}
-use Rattle.plan.specs.Refusals.{Checks, first_fault}
+use Rattle.plan.specs.Refusals.{number_of, Checks, first_fault}
 use Rattle.plan.specs.Mesh.{Mesh, adjacent, mesh_checks}
 use Rattle.plan.specs.Choice.{george_liu}
 use Rattle.plan.specs.Dissection.{positions}
@@ -21,8 +22,8 @@ use Rattle.plan.specs.Elimination.{column, columns, starts_of, multiplications}
 use Rattle.plan.specs.Planning.{Contents, Buffers, Capacity, Filled, Planned, row_counts, plan_by, plan_of, bad_unknowns, buffers_too_short, rows_too_short, plan_checks, planning, hand_out, capacity}
 use Rattle.theory.specs.Counting.{Order}
 use Rattle.theory.specs.Checked.{Checked}
-use Rattle.theory.proofs.Refusals.{no_fault, fault_here, no_fault_first, first_some, first-none}
-use Rattle.theory.proofs.Checked.{mesh-passed, checked}
+use Rattle.theory.proofs.Refusals.{number-suc, no_fault, fault_here, fault_later, no_fault_first, first_some, first-none}
+use Rattle.theory.proofs.Checked.{mesh-passed}
 use Rattle.theory.proofs.Handed.{lengths_of, filled-refused}
 use Rattle.theory.proofs.Planned.{handed-demand3, handed-cliques}
 use Rattle.theory.proofs.Ranges.{map_ext_up_from, length-map-up_from, get_or-map-below}
@@ -39,14 +40,20 @@ use Rattle.dissection.proofs.Heads.{dissected_parts}
 
 -- ---- checks
 
--- what checks 28 and 1 to 8 tell where they find no fault
+-- what the mesh's checks refuse is refused
+pub early-refused : (u : ℕ) (m : Mesh) (room : Capacity) (r : Refusal) → bad_unknowns u ≡ false → number_of r ≡ first_fault (mesh_checks m) → number_of r ≡ first_fault (early_checks u m room)
+early-refused u m room r known e =
+    let eighth : Checks = (8, buffers_too_short m.nodes room) ∷ [] in
+    e ∙ sym (fault_later 28 (bad_unknowns u) (mesh_checks m ++ eighth) known ∙ first_some (mesh_checks m) eighth (λ z. omega (arith, e, z, number-suc r)))
+
+-- what checks 28 and 8 tell where 28 and 1 to 8 find no fault
 pub early-passed : (u : ℕ) (m : Mesh) (room : Capacity) → first_fault (early_checks u m room) ≡ 0
-    → Checked m × ((buffers_too_short m.nodes room ≡ false) × (bad_unknowns u ≡ false))
+    → (buffers_too_short m.nodes room ≡ false) × (bad_unknowns u ≡ false)
 early-passed u m room h =
     let c28 = no_fault 28 (bad_unknowns u) _ (omega arith) h in
     let eighth : Checks = (8, buffers_too_short m.nodes room) ∷ [] in
     let passes : first_fault (mesh_checks m) ≡ 0 = no_fault_first (mesh_checks m) eighth c28.1 in
-    (checked m passes, ((no_fault 8 (buffers_too_short m.nodes room) [] (omega arith) (sym (mesh-passed m eighth passes) ∙ c28.1)).0, c28.0))
+    ((no_fault 8 (buffers_too_short m.nodes room) [] (omega arith) (sym (mesh-passed m eighth passes) ∙ c28.1)).0, c28.0)
 
 -- ---- the order at the front of an array
 
@@ -140,20 +147,20 @@ counted_slots u m good held heads count d counts same = ap total same ∙ total-
 -- the answer is the plan's
 pub held-reply : (u : ℕ) (m : Mesh) (held heads : List ℕ) (count : ℕ) (counts : List ℕ) (slots products : ℕ) (p : Plan) → take m.nodes counts ≡ map length (columns m (take m.nodes held))
     → slots ≡ total (take m.nodes counts) → products ≡ multiplications (take m.nodes counts)
-    → p ≡ record { nodes = m.nodes; parts = count; slots = slots; unknowns = u; multiplications = products } → plan_reply (Accepted p) ≡ (hand_out 0 (held_plan u m held heads count)).reply
+    → p ≡ record { nodes = m.nodes; parts = count; slots = slots; unknowns = u; multiplications = products } → plan_reply (Ok p) ≡ (hand_out 0 (held_plan u m held heads count)).reply
 unfolding hand_out
 held-reply u m held heads count counts slots products p same s k e =
     rw (e, s, k, same, total-lengths (columns m (take m.nodes held)), row_counts_lem u m held heads count) (unfold held_plan in refl)
 
 -- where the slots find no room, check 9 refuses
-pub checked_refused : (u : ℕ) (m : Mesh) (found : Buffers) → length found.rows < (plan_of u m).slots → FilledChecked u m (Refused 9) found found
+pub checked_refused : (u : ℕ) (m : Mesh) (found : Buffers) → length found.rows < (plan_of u m).slots → FilledChecked u m (Err RowsTooShort) found found
 unfolding planning_checked rows_too_short capacity
 checked_refused u m found short =
-    rw (fault_here 9 (ltb (length found.rows) (plan_of u m).slots) [] (lt-ltb (length found.rows) (plan_of u m).slots short)) (filled-refused 9 (plan_of u m) found (λ e. omega arith))
+    rw (fault_here 9 (ltb (length found.rows) (plan_of u m).slots) [] (lt-ltb (length found.rows) (plan_of u m).slots short)) (filled-refused RowsTooShort (plan_of u m) found)
 
 -- and else the plan of the arrays is handed out
 pub checked-accepted : (u : ℕ) (m : Mesh) → Checked m → {end : ℕ} (held heads : List ℕ) (count : ℕ) → Dissected m held heads end count
-    → (answer : PlanAnswer) (found left : Buffers) → (plan_of u m).slots ≤ length found.rows → Filled (hand_out 0 (held_plan u m held heads count)) answer found left → FilledChecked u m answer found left
+    → (answer : Result Plan Refusal) (found left : Buffers) → (plan_of u m).slots ≤ length found.rows → Filled (hand_out 0 (held_plan u m held heads count)) answer found left → FilledChecked u m answer found left
 unfolding planning_checked rows_too_short capacity first_fault
 checked-accepted u m good held heads count d answer found left room h =
     rw (le-ltb (length found.rows) (plan_of u m).slots room, ← held-planned u m good held heads count d) h
@@ -161,7 +168,7 @@ checked-accepted u m good held heads count d answer found left room h =
 -- ---- planning
 
 -- an outcome of planning fulfils its promise
-promised : (u : ℕ) (m : Mesh) (answer : PlanAnswer) (found left : Buffers) → Filled (planning u m (capacity found)) answer found left → Planned u m answer found left
+promised : (u : ℕ) (m : Mesh) (answer : Result Plan Refusal) (found left : Buffers) → Filled (planning u m (capacity found)) answer found left → Planned u m answer found left
 promised u m answer found left h = record {
   filled = h;
   demand3 = handed-demand3 u m (capacity found) answer found left h;
@@ -169,15 +176,16 @@ promised u m answer found left h = record {
 }
 
 -- what checks 28 and 1 to 8 refuse is refused
-pub planned-refused : (u : ℕ) (m : Mesh) (found : Buffers) (k : ℕ) → k ≡ first_fault (early_checks u m (lengths_of found)) → (k ≡ 0 → ⊥) → Planned u m (Refused k) found found
+pub planned-refused : (u : ℕ) (m : Mesh) (found : Buffers) (r : Refusal) → number_of r ≡ first_fault (early_checks u m (lengths_of found)) → Planned u m (Err r) found found
 unfolding planning plan_checks buffers_too_short capacity
-planned-refused u m found k e some =
+planned-refused u m found r e =
     let nine : Checks = (9, rows_too_short (plan_of u m) (capacity found)) ∷ [] in
-    let first : first_fault (plan_checks u m (capacity found)) ≡ k = unfold mesh_checks in first_some (early_checks u m (lengths_of found)) nine (λ z. some (e ∙ z)) ∙ sym e in
-    promised u m (Refused k) found found (rw first (filled-refused k (plan_of u m) found some))
+    let first : first_fault (plan_checks u m (capacity found)) ≡ number_of r =
+    unfold mesh_checks in first_some (early_checks u m (lengths_of found)) nine (λ z. omega (arith, e, z, number-suc r)) ∙ sym e in
+    promised u m (Err r) found found (rw first (filled-refused r (plan_of u m) found))
 
 -- and where they find no fault, check 9 is left
-pub planned-checked : (u : ℕ) (m : Mesh) (answer : PlanAnswer) (found left : Buffers) → first_fault (early_checks u m (lengths_of found)) ≡ 0 → FilledChecked u m answer found left → Planned u m answer found left
+pub planned-checked : (u : ℕ) (m : Mesh) (answer : Result Plan Refusal) (found left : Buffers) → first_fault (early_checks u m (lengths_of found)) ≡ 0 → FilledChecked u m answer found left → Planned u m answer found left
 unfolding planning plan_checks planning_checked buffers_too_short capacity
 planned-checked u m answer found left e h =
     let nine : Checks = (9, rows_too_short (plan_of u m) (capacity found)) ∷ [] in
