@@ -1,19 +1,19 @@
 -- Reading as a whole: what each check of a text finds, by what was read of it, and what is then handed out.
 use mathlib.Core.Path.{◌≡◌, refl, sym, ap, ap₂, ◌∙◌}
-use mathlib.Core.Logic.{inl, inr, ◌≢◌}
+use mathlib.Core.Logic.{inl, inr}
 use mathlib.Core.Bool.{Bool, true, false, not, ◌&&◌, ◌||◌}
 use mathlib.Core.List.{List, [], map}
-use Prim.Native.Nat.{ℕ, ◌*◌, ◌≤◌, ◌<◌}
+use Prim.Native.Nat.{ℕ, ◌*◌, ◌≤◌}
 use native.Mathlib.Omega.{arith}
 use lib.Dec.{ltb, eqb}
 use lib.ListN.{length, take, get_or, length-map}
 use lib.Seq.{take_all}
 use borrow.Author.Tests.{eqb-true, ltb-false, not-false}
-use Rattle.plan.specs.declared.MeshAnswer.{MeshAnswer}
-use Rattle.plan.specs.declared.MeshAnswer.TheVariants.{Accepted, Refused}
 use Rattle.plan.specs.declared.MeshCounts.{MeshCounts}
+use Rattle.plan.specs.declared.refusal.Refusal.{Refusal}
+use Rattle.plan.specs.declared.refusal.Refusal.TheVariants as refusal
 use Rattle.plan.specs.Lists.{exists, every, keep, below, ascending, written}
-use Rattle.plan.specs.Refusals.{first_fault}
+use Rattle.plan.specs.Refusals.{number_of, first_fault}
 use Rattle.plan.specs.Mesh.{max_nodes, max_entries, max_neighbours, Mesh, bad_node_count, too_many_entries, list_too_long}
 use Rattle.plan.specs.Elimination.{tabulate}
 use Rattle.plan.specs.MadeMesh.{mesh_of, MeshBuffers, MeshCapacity, mesh_capacity, mesh_buffers_too_short, made_checks}
@@ -23,7 +23,7 @@ use Rattle.theory.proofs.Bools.{or_left, or_right, or_false_right, tested}
 use Rattle.theory.proofs.Written.{front-written}
 use Rattle.matrix_market.proofs.Runs.{links_few, keys-long}
 use Rattle.plan.specs.AcceptedTexts.{off_diagonal}
-use Rattle.theory.proofs.Refusals.{no_fault, fault_here, fault_later, first_nil, first_some, first-none}
+use Rattle.theory.proofs.Refusals.{number-suc, no_fault, fault_here, fault_later, first_nil, first_some, first-none}
 use Rattle.theory.proofs.Checked.{node_count}
 use Rattle.theory.proofs.Ranges.{length-map-up_from}
 use Rattle.theory.proofs.MadeMesh.{made-long}
@@ -36,8 +36,8 @@ use Rattle.sorting.proofs.Sorted.{sorted-alike}
 use Rattle.lexer.specs.Suffixes.{lines_at}
 use Rattle.matrix_market.specs.declared.size.Size.{Size}
 use Rattle.matrix_market.specs.declared.pairs.Tally.{Tally}
-use Rattle.std.specs.Prelude.{Option, Some, None}
-use Rattle.matrix_market.specs.Lines.{HeadRead, HeadOf, pairs_in, keys_in, wrong_lines, wrong_matrix, pairs_checks, Told, Surveyed}
+use Rattle.std.specs.Prelude.{None, Result, Ok, Err}
+use Rattle.matrix_market.specs.Lines.{HeadRead, HeadOf, pairs_in, keys_in, wrong_lines, wrong_matrix, pairs_checks, Told}
 use Rattle.matrix_market.specs.Made.{size_checks, list_checks, ListsHanded}
 use Rattle.matrix_market.specs.SortedPairs.{key_lists, SortedPairs}
 use Rattle.matrix_market.proofs.KeyOrder.{keys_bad, keys_lists}
@@ -116,10 +116,10 @@ module _ (text : List ℕ) where
     fault_made k m h = fault_later 23 (bad_text text) _ k ∙ fault_later 24 (bad_matrix text) _ m ∙ fault_later 25 (repeated_pair text) _ h
 
     -- 1 and 3 come before 26 and 8
-    pub fault_size : bad_text text ≡ false → bad_matrix text ≡ false → repeated_pair text ≡ false → first_fault (size_checks (text_mesh text) room) ≢ 0
-        → first_fault (text_checks text room) ≡ first_fault (size_checks (text_mesh text) room)
+    pub fault_size : bad_text text ≡ false → bad_matrix text ≡ false → repeated_pair text ≡ false
+        → (r : Refusal) → number_of r ≡ first_fault (size_checks (text_mesh text) room) → first_fault (text_checks text room) ≡ number_of r
     unfolding made_checks size_checks list_checks
-    fault_size k m h some = fault_made k m h ∙ first_some (size_checks (text_mesh text) room) (list_checks (text_mesh text) room) some
+    fault_size k m h r e = fault_made k m h ∙ first_some (size_checks (text_mesh text) room) (list_checks (text_mesh text) room) (λ z. omega (arith, (number-suc r).1, e, z)) ∙ sym e
 
     pub fault_lists : bad_text text ≡ false → bad_matrix text ≡ false → repeated_pair text ≡ false → first_fault (size_checks (text_mesh text) room) ≡ 0
         → first_fault (text_checks text room) ≡ first_fault (list_checks (text_mesh text) room)
@@ -128,24 +128,24 @@ module _ (text : List ℕ) where
 
   -- where the lines of the pairs are at fault, theirs is the first
   module _ (room : MeshCapacity) (r : Size) (h : HeadRead text r) (n : ℕ) (t : Tally) (found left : List ℕ) (same : n ≡ r.rows) (v : Told (lines_at text r.next) n t found left) where
-    pub fault_pairs : first_fault (pairs_checks r t) ≢ 0 → first_fault (text_checks text room) ≡ first_fault (pairs_checks r t)
+    pub fault_pairs : (k : Refusal) → number_of k ≡ first_fault (pairs_checks r t) → first_fault (text_checks text room) ≡ number_of k
     unfolding pairs_checks
-    fault_pairs some = elim (tested (wrong_lines r t)) [
-      | inl y ↦ fault_23 room (text_lines r h n t found left same v ∙ y) ∙ sym (fault_here 23 (wrong_lines r t) _ y)
+    fault_pairs k e = elim (tested (wrong_lines r t)) [
+      | inl y ↦ fault_23 room (text_lines r h n t found left same v ∙ y) ∙ sym (e ∙ fault_here 23 (wrong_lines r t) _ y)
       | inr f ↦ (let kind = text_lines r h n t found left same v ∙ f in
           let matrix = text_matrix r h n t found left same v in
           elim (tested (wrong_matrix r t)) [
-            | inl y ↦ fault_24 room kind (matrix ∙ y) ∙ sym (fault_later 23 (wrong_lines r t) _ f ∙ fault_here 24 (wrong_matrix r t) _ y)
-            | inr e ↦ absurd (some (fault_later 23 (wrong_lines r t) _ f ∙ fault_later 24 (wrong_matrix r t) _ e ∙ first_nil))
+            | inl y ↦ fault_24 room kind (matrix ∙ y) ∙ sym (e ∙ fault_later 23 (wrong_lines r t) _ f ∙ fault_here 24 (wrong_matrix r t) _ y)
+            | inr g ↦ absurd (omega (arith, (number-suc k).1, e ∙ fault_later 23 (wrong_lines r t) _ f ∙ fault_later 24 (wrong_matrix r t) _ g ∙ first_nil))
           ])
     ]
 
   -- ---- what is handed out
 
-  -- where a check finds a fault: its number, and the buffers as they were
-  pub refused_read : (found : MeshBuffers) (k : ℕ) → 0 < k → first_fault (text_checks text (mesh_capacity found)) ≡ k → TextRead text (Refused k) found found
+  -- where a check finds a fault: its refusal, and the buffers as they were
+  pub refused_read : (found : MeshBuffers) (r : Refusal) → first_fault (text_checks text (mesh_capacity found)) ≡ number_of r → TextRead text (Err r) found found
   unfolding reading_text
-  refused_read found k some h = rw h (refused-mesh (text_mesh text) found k some)
+  refused_read found r h = rw h (refused-mesh (text_mesh text) found r)
 
 -- ---- what is handed out of a mesh that has passed 1 and 3
 
@@ -155,22 +155,22 @@ unfolding lists_of tabulate
 lists_long n keys = made-long n (key_lists n keys) (length-map-up_from (λ v. keep (are_neighbours (map pair_of_key keys) v) (below n)) n 0)
 
 module _ (m : Mesh) (found : MeshBuffers) where
-  -- where 26 or 8 finds a fault: its number, and the buffers as they were
-  refused_lists : (k : ℕ) → 0 < k → first_fault (list_checks m (mesh_capacity found)) ≡ k → ListsHanded m (Refused k) found found
-  refused_lists k some h = rw h (refused-mesh m found k some)
+  -- where 26 or 8 finds a fault: its refusal, and the buffers as they were
+  refused_lists : (r : Refusal) → first_fault (list_checks m (mesh_capacity found)) ≡ number_of r → ListsHanded m (Err r) found found
+  refused_lists r h = rw h (refused-mesh m found r)
 
-  pub refused_26 : list_too_long m ≡ true → ListsHanded m (Refused 26) found found
+  pub refused_26 : list_too_long m ≡ true → ListsHanded m (Err refusal.TooManyNeighbours) found found
   unfolding made_checks list_checks
-  refused_26 h = refused_lists 26 (omega arith) (fault_here 26 (list_too_long m) _ h)
+  refused_26 h = refused_lists refusal.TooManyNeighbours (fault_here 26 (list_too_long m) _ h)
 
-  pub refused_8 : list_too_long m ≡ false → mesh_buffers_too_short m (mesh_capacity found) ≡ true → ListsHanded m (Refused 8) found found
+  pub refused_8 : list_too_long m ≡ false → mesh_buffers_too_short m (mesh_capacity found) ≡ true → ListsHanded m (Err refusal.BuffersTooShort) found found
   unfolding made_checks list_checks
-  refused_8 k h = refused_lists 8 (omega arith) (fault_later 26 (list_too_long m) _ k ∙ fault_here 8 (mesh_buffers_too_short m (mesh_capacity found)) _ h)
+  refused_8 k h = refused_lists refusal.BuffersTooShort (fault_later 26 (list_too_long m) _ k ∙ fault_here 8 (mesh_buffers_too_short m (mesh_capacity found)) _ h)
 
   -- where neither check finds a fault, the mesh is handed out
   pub accepted_lists : (left : MeshBuffers) (c : MeshCounts) → list_too_long m ≡ false → mesh_buffers_too_short m (mesh_capacity found) ≡ false
       → c.nodes ≡ m.nodes → c.entries ≡ length m.neighbours
-      → left.starts ≡ written m.starts found.starts → left.neighbours ≡ written m.neighbours found.neighbours → ListsHanded m (Accepted c) found left
+      → left.starts ≡ written m.starts found.starts → left.neighbours ≡ written m.neighbours found.neighbours → ListsHanded m (Ok c) found left
   unfolding made_checks list_checks
   accepted_lists left c long short =
       accepted-mesh m found _ left c (fault_later 26 (list_too_long m) _ long ∙ fault_later 8 (mesh_buffers_too_short m (mesh_capacity found)) _ short ∙ first_nil)
@@ -230,23 +230,11 @@ module _ (text : List ℕ) (found : MeshBuffers) (p : TextSized text (mesh_capac
         ∙ keys_lists (row_count text) (pairs_of text) (sorted (keys_in (pair_lines text))) (text_narrow text p.kind) (sorted-alike (keys_in (pair_lines text)))))
 
   -- what is handed out of its mesh is what reading promises
-  pub handed_read : (left : MeshBuffers) (answer : MeshAnswer) → ListsHanded (text_mesh text) answer found left → TextRead text answer found left
+  pub handed_read : (left : MeshBuffers) (answer : Result MeshCounts Refusal) → ListsHanded (text_mesh text) answer found left → TextRead text answer found left
   unfolding reading_text
   handed_read left answer h = rw (fault_lists text (mesh_capacity found) p.kind p.matrix p.once p.size) h
 
 -- ---- what reading has met, once 23 and 24 find nothing
-
-pub head_none : (text : List ℕ) (r : Option Size) → HeadOf text r → r ≡ None → HeadOf text None
-head_none text r h e = rw e at h
-
-pub head_read : (text : List ℕ) (r : Option Size) (s : Size) → HeadOf text r → r ≡ Some s → HeadRead text s
-head_read text r s h e = rw e at h
-
-pub lines_none : (lines : List Line) (n : ℕ) (r : Option Tally) (found left : List ℕ) → Surveyed lines n r found left → r ≡ None → every (holds_numbers 2) lines ≡ false
-lines_none lines n r found left v e = rw e at v.all
-
-pub lines_told : (lines : List Line) (n : ℕ) (r : Option Tally) (t : Tally) (found left : List ℕ) → Surveyed lines n r found left → r ≡ Some t → Told lines n t found left
-lines_told lines n r t found left v e = rw e at v.all
 
 pub record HasRead (text : List ℕ) (r : Size) (t : Tally) (found left : List ℕ) : Type 0 where
   pub head : HeadRead text r

@@ -7,12 +7,11 @@ use Prim.Native.Nat.{ℕ, ◌+◌, ◌≤◌, ◌<◌}
 use native.Mathlib.Omega.{arith}
 use lib.ListN.{length, take, drop, set, length-append, length-take, length-map}
 use lib.Seq.{take_all, take-append-le, set_out, append_snoc}
-use borrow.Author.Tests.{not-true, not-false}
 use Rattle.plan.specs.Lists.{exists, every, keep, written}
 use Rattle.plan.specs.MatrixMarket.{not_empty, Line, holds_numbers, number_at, Pair, pair_of, bad_pair}
 use Rattle.plan.specs.AcceptedTexts.{off_diagonal}
 use Rattle.theory.specs.Keys.{key_of}
-use Rattle.theory.proofs.Bools.{and_left, and_right, and_both, lt_or_le}
+use Rattle.theory.proofs.Bools.{and_both, lt_or_le}
 use Rattle.theory.proofs.Written.{written_push, written-length}
 use Rattle.theory.proofs.AnyLists.{some-append, all_append, kept_append}
 use Rattle.std.specs.Prelude.{Option, Some, None}

@@ -10,20 +10,20 @@ mod size;
 
 ghost use Rattle.std.specs.Prelude.{◌≡◌, ◌≤◌, length};
 ghost use mathlib.Core.List.{flatten};
-ghost use Rattle.plan.specs.Refusals.{first_fault};
+ghost use Rattle.plan.specs.Refusals.{fault_of, first_fault};
 ghost use Rattle.plan.specs.Mesh.{max_entries, Mesh};
-ghost use Rattle.plan.specs.MadeMesh.{mesh_of, mesh_buffers, MeshCapacity, mesh_lengths, mesh_buffers_too_short};
+ghost use Rattle.plan.specs.MadeMesh.{mesh_of, mesh_buffers, MeshCapacity};
 ghost use Rattle.plan.specs.MatrixMarket.{TextRead};
 ghost use Rattle.matrix_market.specs.Lines.{wrong_lines, wrong_matrix, pairs_checks};
 ghost use Rattle.matrix_market.specs.Made.{size_checks, ListsHanded};
 ghost use Rattle.matrix_market.specs.SortedPairs.{key_lists, SortedPairs};
 
-use crate::lists::{count_entries, too_long, write_lists};
+use crate::lists::{count_entries, write_lists};
 use crate::pairs::{Tally, survey};
 use crate::repeats::repeated;
 use crate::size::{Size, read_head};
-use mesh::bad_node_count;
-use plan::{MeshAnswer, MeshCounts, Plan};
+use mesh::{bad_node_count, too_long, too_short};
+use plan::{MeshCounts, Plan, Refusal};
 
 // the most pairs that an accepted text has: one for every two entries, and a diagonal one for every node
 const BLOCK: usize = Plan::ENTRIES / 2 + Plan::NODES;
@@ -49,37 +49,32 @@ fn wrong_matrix(size: Size, tally: Tally) -> bool
     size.rows != size.columns || tally.bad
 }
 
-// The first refusal of checks 23 and 24 of a text whose head is good, 0 for none. O(1).
-fn pairs_refusal(size: Size, tally: Tally) -> u32
-    ensures { result ≡ first_fault (pairs_checks size tally) }
+// Checks 23 and 24 of a text whose head is good. O(1).
+#[tactic(auto, unfolding(plan::specs::Refusals::first_fault, crate::specs::Lines::pairs_checks))]
+fn pairs_refusal(size: Size, tally: Tally) -> Result<(), Refusal>
+    ensures { fault_of result ≡ first_fault (pairs_checks size tally) }
 {
     if wrong_lines(size, tally) {
-        return 23;
+        return Err(Refusal::Text);
     }
     if wrong_matrix(size, tally) {
-        return 24;
+        return Err(Refusal::Matrix);
     }
-    0
+    Ok(())
 }
 
-// The first refusal of checks 1 and 3 of a mesh that is made, 0 for none, by its numbers of nodes and entries. O(1).
-fn size_refusal(n: usize, entries: usize) -> u32
-    ensures { (m : Mesh) → m.nodes ≡ n → length m.neighbours ≡ entries → (room : MeshCapacity) → result ≡ first_fault (size_checks m room) }
+// Checks 1 and 3 of a mesh that is made, by its numbers of nodes and entries. O(1).
+#[tactic(auto, unfolding(plan::specs::Refusals::first_fault, plan::specs::MadeMesh::made_checks, plan::specs::Mesh::too_many_entries, crate::specs::Made::size_checks))]
+fn size_refusal(n: usize, entries: usize) -> Result<(), Refusal>
+    ensures { (m : Mesh) → m.nodes ≡ n → length m.neighbours ≡ entries → (room : MeshCapacity) → fault_of result ≡ first_fault (size_checks m room) }
 {
     if bad_node_count(n) {
-        return 1;
+        return Err(Refusal::NodeCount);
     }
     if entries > Plan::ENTRIES {
-        return 3;
+        return Err(Refusal::EntryCount);
     }
-    0
-}
-
-// Check 8 of a mesh that is made: the starts or the neighbours, lent with these lengths, are too short for n nodes and so many entries. O(1).
-fn too_short(n: usize, entries: usize, starts: usize, neighbours: usize) -> bool
-    ensures { (m : Mesh) → m.nodes ≡ n → length m.neighbours ≡ entries → result ≡ mesh_buffers_too_short m (mesh_lengths starts neighbours) }
-{
-    starts <= n || neighbours < entries
+    Ok(())
 }
 
 // What is left of reading a text whose pairs are sorted and whose mesh has passed 1 and 3: checks 26 and 8, then the mesh in the lent buffers.
@@ -90,51 +85,40 @@ fn hand_out(
     keys: &[u64],
     starts: &mut [u32],
     neighbours: &mut [u16],
-) -> MeshAnswer
+) -> Result<MeshCounts, Refusal>
     requires { SortedPairs n keys.now × (entries ≤ max_entries) × (length (flatten (key_lists n keys.now)) ≡ entries) }
     ensures { ListsHanded (mesh_of n (key_lists n keys.now)) result (mesh_buffers starts.old neighbours.old) (mesh_buffers starts.new neighbours.new) }
 {
     let counts = count_entries(n, keys);
     if too_long(n, &counts) {
-        return MeshAnswer::Refused(26);
+        return Err(Refusal::TooManyNeighbours);
     }
     if too_short(n, entries, starts.len(), neighbours.len()) {
-        return MeshAnswer::Refused(8);
+        return Err(Refusal::BuffersTooShort);
     }
     write_lists(n, keys, &counts, starts, neighbours);
-    MeshAnswer::Accepted(MeshCounts {
+    Ok(MeshCounts {
         nodes: n as u32,
         entries: entries as u32,
     })
 }
 
 // Reading a text: checks 23, 24, 25, 1, 3, 26 and 8 in this order, then the mesh in the lent buffers. Nothing is written before all checks are passed.
-// O(36,864 + bytes) for an accepted text whose pairs come sorted or are spread evenly over the columns, O(pairs^1.5) more at most; it is one block. A
-// text of more than 36,864 pairs is searched for a pair given again in (pairs / 36,864) runs. It works in less than 320 KB of stack, nearly all of it
-// the keys of one block.
-pub fn read(text: &[u8], starts: &mut [u32], neighbours: &mut [u16]) -> MeshAnswer
+// O(36,864 + bytes) for an accepted text whose pairs come in order, O(pairs · log pairs) more for any other; it is one block. A text of more than 36,864
+// pairs is searched for a pair given again in (pairs / 36,864) runs. It works in less than 320 KB of stack, nearly all of it the keys of one block.
+pub fn read(text: &[u8], starts: &mut [u32], neighbours: &mut [u16]) -> Result<MeshCounts, Refusal>
     ensures { TextRead text.now result (mesh_buffers starts.old neighbours.old) (mesh_buffers starts.new neighbours.new) }
 {
-    let Some(size) = read_head(text) else {
-        return MeshAnswer::Refused(23);
-    };
+    let size = read_head(text).ok_or(Refusal::Text)?;
     let mut keys = no_keys();
-    let Some(tally) = survey(text, size.next, size.rows, &mut keys) else {
-        return MeshAnswer::Refused(23);
-    };
-    let wrong = pairs_refusal(size, tally);
-    if wrong != 0 {
-        return MeshAnswer::Refused(wrong);
-    }
+    let tally = survey(text, size.next, size.rows, &mut keys).ok_or(Refusal::Text)?;
+    pairs_refusal(size, tally)?;
     let pairs = tally.pairs;
     if repeated(text, size.next, size.rows, pairs, &mut keys) {
-        return MeshAnswer::Refused(25);
+        return Err(Refusal::RepeatedPair);
     }
     let n = size.rows as usize;
     let entries = 2 * tally.links;
-    let fault = size_refusal(n, entries);
-    if fault != 0 {
-        return MeshAnswer::Refused(fault);
-    }
+    size_refusal(n, entries)?;
     hand_out(n, entries, &keys[..pairs], starts, neighbours)
 }

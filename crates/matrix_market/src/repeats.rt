@@ -61,7 +61,7 @@ fn meets(text: &[u8], at: usize, keys: &[u64]) -> bool
     false
 }
 
-// The first keys sorted, and whether one of them stands there twice. As `sort`: O(count) for keys that are spread evenly, O(count^1.5) at most.
+// The first keys sorted, and whether one of them stands there twice. As `sort`: O(count · log count), O(count) for keys in order.
 fn sort_block(count: usize, keys: &mut [u64]) -> bool
     requires { count ≤ length keys.old }
     ensures { (result ≡ twice (take count keys.old)) × (keys.new ≡ written (sorted (take count keys.old)) keys.old) }

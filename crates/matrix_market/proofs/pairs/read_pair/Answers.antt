@@ -1,6 +1,6 @@
 -- `pairs::read_pair` meets its contract.
-use mathlib.Core.Path.{sym, ◌∙◌}
-use borrow.Author.Tests.{not-true, not-false}
+use mathlib.Core.Path.{◌∙◌}
+use borrow.Author.Tests.{not-false}
 use Rattle.matrix_market.proofs.Words.{numbers-start, numbers-next, numbers-value, numbers-none, numbers_over, numbers-behind, number-some, number_none, number_some, over_none, over_some}
 use Rattle.matrix_market.proofs.pairs.read_pair.Goals as goal
 

@@ -1,6 +1,6 @@
 -- `size::read_head` meets its contract.
 use Rattle.lexer.specs.Suffixes.{behind_line, words_at, At, Scanned}
-use Rattle.std.specs.Prelude.{◌≡◌, ℕ, List, Bool, true, false, Option, Some, None}
+use Rattle.std.specs.Prelude.{◌≡◌, ℕ, List, true, false, Option, Some, None}
 use Rattle.plan.specs.MatrixMarket.{is_banner}
 use Rattle.matrix_market.proofs.Heads.{head_of, no_head}
 use Rattle.matrix_market.proofs.size.read_head.Goals as goal
