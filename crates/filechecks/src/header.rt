@@ -1,13 +1,14 @@
 // The first bytes of a file of version 1 or 2: the mark, the version, the unknowns, and the counts of nodes, parts and slots; checks 10 to 14 and 28.
-ghost use Rattle.std.specs.Prelude.{◌≡◌, false, ◌+◌, ◌*◌, ◌≤◌, length};
-ghost use Rattle.plan.specs.Refusals.{first_fault};
+ghost use Rattle.std.specs.Prelude.{◌≡◌, false, ◌+◌, ◌*◌, ◌≤◌, length, IfOk};
+ghost use Rattle.plan.specs.Refusals.{fault_of, first_fault};
 ghost use Rattle.plan.specs.File.{version_of, nodes_at, unknowns_in, parse, bad_header};
-ghost use Rattle.plan.specs.Reading.{bad_magic, bad_version, too_few_in_version2, header_checks};
+ghost use Rattle.plan.specs.Reading.{bad_magic, bad_version, too_few_in_version2, bad_length, header_checks};
 ghost use Rattle.filechecks.specs.Fields.{counts_only};
+ghost use Rattle.filechecks.specs.Heads.{HeadOf};
 
 use coding::{read16, read32};
 use mesh::bad_node_count;
-use plan::Plan;
+use plan::{Plan, Refusal};
 
 // "the letters NDP"
 pub const MAGIC: [u8; 3] = *b"NDP";
@@ -33,6 +34,7 @@ pub struct Head {
 }
 
 // How many bytes stand before the order, by the version. O(1).
+#[tactic(auto, unfolding(plan::specs::File::version_of, plan::specs::File::nodes_at))]
 fn head_end(bytes: &[u8]) -> usize
     requires { 17 ≤ length bytes.now }
     ensures { result ≡ nodes_at (version_of bytes.now) + 12 }
@@ -44,6 +46,7 @@ fn head_end(bytes: &[u8]) -> usize
 }
 
 // The unknowns for each node: one in version 1, and else what the file says. O(1).
+#[tactic(auto, unfolding(plan::specs::File::version_of, plan::specs::File::unknowns_in))]
 fn read_unknowns(bytes: &[u8]) -> usize
     requires { 17 ≤ length bytes.now }
     ensures { result ≡ unknowns_in bytes.now }
@@ -55,9 +58,9 @@ fn read_unknowns(bytes: &[u8]) -> usize
 }
 
 // What a file's first bytes say, where they are all there. O(1).
-pub fn read_head(bytes: &[u8]) -> Head
+fn fields(bytes: &[u8]) -> Head
     requires { (17 ≤ length bytes.now) × (nodes_at (version_of bytes.now) + 12 ≤ length bytes.now) }
-    ensures { (result.end ≡ nodes_at (version_of bytes.now) + 12) × (result.unknowns ≡ (parse bytes.now).unknowns) × (result.nodes ≡ (parse bytes.now).nodes) × (result.parts ≡ (parse bytes.now).parts) × (result.slots ≡ (parse bytes.now).slots) }
+    ensures { HeadOf bytes.now result }
 {
     let end = head_end(bytes);
     let unknowns = read_unknowns(bytes);
@@ -75,6 +78,7 @@ pub fn read_head(bytes: &[u8]) -> Head
 }
 
 // Check 11: the mark is not NDP. O(1).
+#[tactic(auto, unfolding(plan::specs::Reading::bad_magic))]
 fn bad_magic(bytes: &[u8]) -> bool
     requires { 17 ≤ length bytes.now }
     ensures { result ≡ bad_magic bytes.now }
@@ -83,6 +87,7 @@ fn bad_magic(bytes: &[u8]) -> bool
 }
 
 // Check 12: the version is neither 1 nor 2. O(1).
+#[tactic(auto, unfolding(plan::specs::File::version_of, plan::specs::Reading::bad_version))]
 fn bad_version(bytes: &[u8]) -> bool
     requires { 17 ≤ length bytes.now }
     ensures { result ≡ bad_version bytes.now }
@@ -92,6 +97,7 @@ fn bad_version(bytes: &[u8]) -> bool
 }
 
 // Check 10 again: fewer than 19 bytes in a file of version 2. O(1).
+#[tactic(auto, unfolding(plan::specs::File::version_of, plan::specs::Reading::too_few_in_version2))]
 fn too_few_in_version_2(bytes: &[u8]) -> bool
     requires { 17 ≤ length bytes.now }
     ensures { result ≡ too_few_in_version2 bytes.now }
@@ -100,6 +106,7 @@ fn too_few_in_version_2(bytes: &[u8]) -> bool
 }
 
 // Check 13: n is not 1 to 4,096, p not 1 to n, or s above n(n − 1)/2. O(1).
+#[tactic(auto, unfolding(plan::specs::File::bad_header))]
 pub fn bad_header(n: usize, p: usize, s: usize) -> bool
     ensures { result ≡ bad_header (counts_only n p s) }
 {
@@ -123,31 +130,43 @@ pub fn file_length(end: usize, n: usize, p: usize, s: usize) -> usize
     end + 4 * n + 4 * p + 2 * s
 }
 
-// The first refusal of checks 10 to 14 and 28, 0 for none. O(1).
-pub fn header_refusal(bytes: &[u8]) -> u32
-    ensures { result ≡ first_fault (header_checks bytes.now) }
+// Check 14: the length is not that of the counts. O(1).
+#[tactic(auto, unfolding(plan::specs::Reading::bad_length))]
+fn bad_length(bytes: &[u8], head: &Head) -> bool
+    requires head_of { HeadOf bytes.now head.now }
+    requires counted { bad_header (parse bytes.now) ≡ false }
+    ensures { result ≡ bad_length bytes.now }
+{
+    bytes.len() != file_length(head.end, head.nodes, head.parts, head.slots)
+}
+
+// Checks 10 to 14 and 28, and what the first bytes say where none found a fault. O(1).
+#[tactic(auto, unfolding(plan::specs::Refusals::first_fault, plan::specs::Reading::header_checks, plan::specs::Reading::too_few_bytes), using(crate::proofs::Fields::head_inside, crate::proofs::Fields::head_counts))]
+pub fn read_head(bytes: &[u8]) -> Result<Head, Refusal>
+    ensures fault { fault_of result ≡ first_fault (header_checks bytes.now) }
+    ensures says { IfOk result (λ head. HeadOf bytes.now head) }
 {
     if bytes.len() < HEADER_1 {
-        return 10;
+        return Err(Refusal::TooFewBytes);
     }
     if bad_magic(bytes) {
-        return 11;
+        return Err(Refusal::Magic);
     }
     if bad_version(bytes) {
-        return 12;
+        return Err(Refusal::Version);
     }
     if too_few_in_version_2(bytes) {
-        return 10;
+        return Err(Refusal::TooFewBytes);
     }
-    let head = read_head(bytes);
+    let head = fields(bytes);
     if Plan::bad_unknowns(head.unknowns) {
-        return 28;
+        return Err(Refusal::Unknowns);
     }
     if bad_header(head.nodes, head.parts, head.slots) {
-        return 13;
+        return Err(Refusal::Header);
     }
-    if bytes.len() != file_length(head.end, head.nodes, head.parts, head.slots) {
-        return 14;
+    if bad_length(bytes, &head) {
+        return Err(Refusal::FileLength);
     }
-    0
+    Ok(head)
 }

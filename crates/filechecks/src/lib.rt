@@ -4,7 +4,5 @@
 mod header;
 mod order;
 
-pub use header::{
-    HEADER, Head, MAGIC, VERSION, bad_header, file_length, header_refusal, read_head,
-};
-pub use order::order_and_parts_refusal;
+pub use header::{HEADER, Head, MAGIC, VERSION, bad_header, file_length, read_head};
+pub use order::check_order_and_parts;

@@ -1,13 +1,13 @@
 // Checks 15 and 16: the order is each node once, and sizes and parents make a tree of parts.
 ghost use Rattle.std.specs.Prelude.{◌≡◌, not, [], ◌≤◌, length, get_or};
 ghost use Rattle.plan.specs.Lists.{exists, below, each_once, total};
-ghost use Rattle.plan.specs.Refusals.{first_fault};
+ghost use Rattle.plan.specs.Refusals.{fault_of, first_fault};
 ghost use Rattle.plan.specs.Mesh.{max_nodes};
 ghost use Rattle.plan.specs.File.{may_be_parent, bad_parts};
 ghost use Rattle.filechecks.specs.Fields.{order_and_parts, order_and_parts_checks};
 
 use mesh::{contains, filled};
-use plan::Plan;
+use plan::{Plan, Refusal};
 
 // Check 15: the order is not each node once, as many nodes as it is long. O(4,096 + n).
 fn bad_order(order: &[u16]) -> bool
@@ -41,6 +41,7 @@ fn sum_sizes(sizes: &[u16]) -> usize
 }
 
 // Whether r may be part q's parent: none, or a later part below p. O(1).
+#[tactic(auto, unfolding(plan::specs::File::may_be_parent))]
 fn may_be_parent(p: usize, q: usize, r: u16) -> bool
     ensures { result ≡ may_be_parent p q r }
 {
@@ -66,6 +67,7 @@ fn bad_parents(parents: &[u16]) -> bool
 }
 
 // Check 16: a size is 0, the sizes do not sum to n, or a part's parent is neither none nor a later part. O(p).
+#[tactic(auto, unfolding(plan::specs::File::bad_parts))]
 fn bad_parts(n: usize, sizes: &[u16], parents: &[u16]) -> bool
     requires { (length sizes.now ≤ max_nodes) × (length parents.now ≡ length sizes.now) }
     ensures { result ≡ bad_parts (order_and_parts n [] sizes.now parents.now) }
@@ -79,16 +81,17 @@ fn bad_parts(n: usize, sizes: &[u16], parents: &[u16]) -> bool
     bad_parents(parents)
 }
 
-// The first refusal of checks 15 and 16, 0 for none. O(4,096 + n).
-pub fn order_and_parts_refusal(order: &[u16], sizes: &[u16], parents: &[u16]) -> u32
+// Checks 15 and 16. O(4,096 + n).
+#[tactic(auto, unfolding(plan::specs::Refusals::first_fault, plan::specs::File::bad_order, plan::specs::File::bad_parts))]
+pub fn check_order_and_parts(order: &[u16], sizes: &[u16], parents: &[u16]) -> Result<(), Refusal>
     requires { (length order.now ≤ max_nodes) × (length sizes.now ≤ max_nodes) × (length parents.now ≡ length sizes.now) }
-    ensures { result ≡ first_fault (order_and_parts_checks (order_and_parts (length order.now) order.now sizes.now parents.now)) }
+    ensures { fault_of result ≡ first_fault (order_and_parts_checks (order_and_parts (length order.now) order.now sizes.now parents.now)) }
 {
     if bad_order(order) {
-        return 15;
+        return Err(Refusal::Order);
     }
     if bad_parts(order.len(), sizes, parents) {
-        return 16;
+        return Err(Refusal::Parts);
     }
-    0
+    Ok(())
 }
