@@ -6,3 +6,4 @@ pub mod PartRanges
 pub mod ColumnDown
 pub mod Walked
 pub mod Covering
+pub mod RowChecks

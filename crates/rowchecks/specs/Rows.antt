@@ -1,15 +1,21 @@
 -- What the functions' contracts cite of a plan's parts and rows, besides the book: what is known of them behind check 16, behind the starts' part of
 -- check 17 and behind the whole of it, rows in bytes, and 18's rule by a range of numbers for each position.
-use Rattle.std.specs.Prelude.{◌≡◌, Bool, false, not, ◌&&◌, List, [], ℕ, ◌/◌, ◌≤◌, ◌<◌, ltb, length, get_or}
+use Rattle.std.specs.Prelude.{◌≡◌, Bool, false, not, ◌&&◌, List, [], ◌∷◌, ◌++◌, ℕ, ◌/◌, ◌≤◌, ◌<◌, ltb, length, get_or}
 use Rattle.plan.specs.Lists.{exists}
+use Rattle.plan.specs.Refusals.{Checks}
 use Rattle.plan.specs.Mesh.{max_nodes, bad_starts}
 use Rattle.plan.specs.Parts.{part_of, at_or_above}
 use Rattle.plan.specs.Planning.{Contents, contents}
-use Rattle.plan.specs.File.{decode16s, bad_parts, bad_columns}
+use Rattle.plan.specs.File.{decode16s, bad_parts, bad_columns, not_covered}
+use Rattle.plan.specs.RowFaults.{walk_checks}
 
 -- a plan of its tree of parts and its layout: what checks 17 to 19 look at
 abbrev pub parts_and_rows : ℕ → List ℕ → List ℕ → List ℕ → List ℕ → Contents
 parts_and_rows n sizes parents column_starts rows = contents 1 n (length sizes) (length rows) [] sizes parents column_starts rows
+
+-- checks 17 to 19
+abbrev pub row_checks : Contents → Checks
+row_checks c = walk_checks c ++ ((19, not_covered c) ∷ [])
 
 -- sizes and parents of parts of n positions that passed check 16
 pub record SoundParts (n : ℕ) (sizes parents : List ℕ) : Type 0 where

@@ -1,12 +1,15 @@
 // What the walk over the rows carries, and the answer that it gives at the end.
 ghost use Rattle.std.specs.Prelude.{◌≡◌, false};
+ghost use Rattle.plan.specs.Refusals.{fault_of};
 ghost use Rattle.plan.specs.RowFaults.{walk_answer};
+
+use plan::Refusal;
 
 // Whether a fault of 17's rule of the rows, and whether one of 18, stands in the columns walked so far.
 #[derive(Clone, Copy)]
-pub struct RowFaults {
-    pub unordered: bool,
-    pub outside: bool,
+pub(crate) struct RowFaults {
+    pub(crate) unordered: bool,
+    pub(crate) outside: bool,
 }
 
 impl RowFaults {
@@ -20,16 +23,17 @@ impl RowFaults {
         }
     }
 
-    // The answer at the walk's end: 17 wins wherever it stands, 0 for neither. O(1).
-    pub fn refusal(self) -> u32
-        ensures { result ≡ walk_answer self.unordered self.outside }
+    // The answer at the walk's end: 17 wins wherever it stands. O(1).
+    #[tactic(auto, unfolding(plan::specs::RowFaults::walk_answer))]
+    pub(crate) fn answer(self) -> Result<(), Refusal>
+        ensures { fault_of result ≡ walk_answer self.unordered self.outside }
     {
         if self.unordered {
-            return 17;
+            return Err(Refusal::Rows);
         }
         if self.outside {
-            return 18;
+            return Err(Refusal::RowOutside);
         }
-        0
+        Ok(())
     }
 }

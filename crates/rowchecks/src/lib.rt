@@ -7,6 +7,5 @@ mod ranges;
 mod rows;
 mod walks;
 
-pub use faults::RowFaults;
 pub use rows::{Encoded, Lent, Rows};
-pub use walks::{not_covered, walk};
+pub use walks::check_rows;

@@ -7,7 +7,6 @@ ghost use Rattle.plan.specs.Parts.{part_of};
 ghost use Rattle.rowchecks.specs.Rows.{in_range, SoundParts, Ranges};
 ghost use Rattle.rowchecks.specs.Numbering.{SoundParents, rooted, width_after, width, Numbered};
 
-use mesh::wide;
 use plan::Plan;
 
 // The parent r of one of p parts, p for none: the root of all parts. O(1).
@@ -17,7 +16,7 @@ fn parent_or_root(p: usize, r: u16) -> usize
     if r == Plan::NO_PARENT {
         return p;
     }
-    wide(r)
+    r as usize
 }
 
 // An array with a place for each part, and one for the root, the same number at each. O(4,096).
@@ -73,7 +72,7 @@ fn spread(sizes: &[u16], firsts: &[u16], lasts: &[u16], lows: &mut [u16], ends: 
 {
     let mut at: usize = 0;
     for q in 0..sizes.len() {
-        let size = wide(sizes[q]);
+        let size = sizes[q] as usize;
         fill(at, size, firsts[q], lasts[q], lows, ends);
         at += size;
     }

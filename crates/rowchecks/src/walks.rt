@@ -1,17 +1,19 @@
-// The walk of checks 17 and 18 over rows, and check 19.
+// Checks 17 to 19 of rows whose starts have no fault: the walk of 17 and 18, and 19.
 ghost use Rattle.std.specs.Prelude.{◌≡◌, List, [], ℕ, ◌+◌, ◌≤◌, ◌<◌, length};
 ghost use Rattle.plan.specs.Lists.{list_at};
+ghost use Rattle.plan.specs.Refusals.{fault_of, first_fault};
 ghost use Rattle.plan.specs.File.{covered as covered_by, not_covered};
 ghost use Rattle.plan.specs.RowFaults.{Carried};
 ghost use Rattle.mesh.specs.Lists.{ListWithin};
 ghost use Rattle.layout.specs.Arrays.{Unmarked};
-ghost use Rattle.rowchecks.specs.Rows.{parts_and_rows, SoundParts, Started, LaidOut, Ranges};
+ghost use Rattle.rowchecks.specs.Rows.{parts_and_rows, SoundParts, Started, LaidOut, Ranges, row_checks};
 
 use crate::columns::{all_marked, bad_column, mark, outside, same, sound};
 use crate::faults::RowFaults;
 use crate::ranges::ranges;
 use crate::rows::Rows;
 use mesh::{NONE, filled};
+use plan::Refusal;
 
 // Column j's rows. O(1).
 fn column_of<R: Rows>(column_starts: &[u32], rows: R, j: usize) -> R
@@ -48,7 +50,7 @@ fn after_column<R: Rows>(
 }
 
 // Checks 17, where the starts have no fault, and 18: one walk over the rows. A fault of either does not end it. O(4,096 + n + slots).
-pub fn walk<R: Rows>(
+fn walk<R: Rows>(
     n: usize,
     sizes: &[u16],
     parents: &[u16],
@@ -89,7 +91,7 @@ fn covered<R: Rows>(n: usize, column_starts: &[u32], rows: R, j: usize, marks: &
 }
 
 // Check 19: a column's rows behind its first are not all in the first row's column. O(4,096 + n + slots + the first rows' columns).
-pub fn not_covered<R: Rows>(n: usize, column_starts: &[u32], rows: R) -> bool
+fn not_covered<R: Rows>(n: usize, column_starts: &[u32], rows: R) -> bool
     requires { LaidOut n column_starts.now (R.numbers rows) }
     ensures { result ≡ not_covered (parts_and_rows n [] [] column_starts.now (R.numbers rows)) }
 {
@@ -100,4 +102,22 @@ pub fn not_covered<R: Rows>(n: usize, column_starts: &[u32], rows: R) -> bool
         }
     }
     false
+}
+
+// Checks 17, where the starts have no fault, 18 and 19. O(4,096 + n + slots + the first rows' columns).
+pub fn check_rows<R: Rows>(
+    n: usize,
+    sizes: &[u16],
+    parents: &[u16],
+    column_starts: &[u32],
+    rows: R,
+) -> Result<(), Refusal>
+    requires { SoundParts n sizes.now parents.now × Started n column_starts.now (R.numbers rows) }
+    ensures { fault_of result ≡ first_fault (row_checks (parts_and_rows n sizes.now parents.now column_starts.now (R.numbers rows))) }
+{
+    walk(n, sizes, parents, column_starts, rows).answer()?;
+    if not_covered(n, column_starts, rows) {
+        return Err(Refusal::NotCovered);
+    }
+    Ok(())
 }

@@ -6,4 +6,4 @@ pub returns-then-r-eq-NO_PARENT : goal.returns-then-r-eq-NO_PARENT
 returns-then-r-eq-NO_PARENT c = rw (eq-eqb _ _ c.if-r-eq-NO_PARENT.true)
 
 pub returns : goal.returns
-returns c = rw (ne_eqb _ _ c.if-r-eq-NO_PARENT.false) c.wide.ensures
+returns c = rw (ne_eqb _ _ c.if-r-eq-NO_PARENT.false)

@@ -11,14 +11,14 @@ use Rattle.plan.specs.Parts.{part_of}
 use Rattle.theory.proofs.Bools.{lt_or_le}
 use Rattle.theory.proofs.Sums.{total_more, total-within}
 use Rattle.theory.proofs.PartOf.{part_here}
-use Rattle.rowchecks.proofs.ranges.spread.Goals.{After-wide-size}
+use Rattle.rowchecks.proofs.ranges.spread.Goals.{In-loop-q}
 use Rattle.rowchecks.proofs.ranges.spread.Goals as goal
 
 -- part q ends within the positions
-ends : (c : After-wide-size) → (c.loop-q.at + c.wide-size.result ≤ length c.loop-q.lows) × (c.loop-q.at + c.wide-size.result ≤ length c.loop-q.ends)
+ends : (c : In-loop-q) → (c.loop-q.at + (get_or c.args.sizes.now c.loop-q.q 0) ≤ length c.loop-q.lows) × (c.loop-q.at + (get_or c.args.sizes.now c.loop-q.q 0) ≤ length c.loop-q.ends)
 ends c =
     let all = total-within c.args.sizes.now c.loop-q.q (omega arith) in
-    (omega (arith, c.loop-q.invariant.reached, c.loop-q.invariant.lows-long, c.wide-size.ensures, c.requires, all), omega (arith, c.loop-q.invariant.reached, c.loop-q.invariant.ends-long, c.wide-size.ensures, c.requires, all))
+    (omega (arith, c.loop-q.invariant.reached, c.loop-q.invariant.lows-long, c.requires, all), omega (arith, c.loop-q.invariant.reached, c.loop-q.invariant.ends-long, c.requires, all))
 
 pub loop-q-init : goal.loop-q-init
 loop-q-init c = record { few = search rules; reached = refl; lows-long = refl; ends-long = refl; low = λ i h. absurd (omega arith); end = λ i h. absurd (omega arith) }
@@ -26,11 +26,11 @@ loop-q-init c = record { few = search rules; reached = refl; lows-long = refl; e
 pub loop-q-preserved : goal.loop-q-preserved
 loop-q-preserved c =
     let h : c.loop-q.q < length c.args.sizes.now = omega arith in
-    let here : (i : ℕ) → c.loop-q.at ≤ i → i < c.loop-q.at + c.wide-size.result → c.loop-q.q ≡ part_of c.args.sizes.now i =
-    λ i b lt. sym (part_here c.args.sizes.now c.loop-q.q i h (omega (arith, c.loop-q.invariant.reached)) (omega (arith, c.loop-q.invariant.reached, c.wide-size.ensures))) in
+    let here : (i : ℕ) → c.loop-q.at ≤ i → i < c.loop-q.at + (get_or c.args.sizes.now c.loop-q.q 0) → c.loop-q.q ≡ part_of c.args.sizes.now i =
+    λ i b lt. sym (part_here c.args.sizes.now c.loop-q.q i h (omega (arith, c.loop-q.invariant.reached)) (omega (arith, c.loop-q.invariant.reached))) in
     record {
       few = search rules;
-      reached = omega (arith, total_more c.args.sizes.now c.loop-q.q h, c.loop-q.invariant.reached, c.wide-size.ensures);
+      reached = omega (arith, total_more c.args.sizes.now c.loop-q.q h, c.loop-q.invariant.reached);
       lows-long = c.fill.auto.lows ∙ c.loop-q.invariant.lows-long;
       ends-long = c.fill.auto.ends ∙ c.loop-q.invariant.ends-long;
       low = λ i lt. elim (lt_or_le i c.loop-q.at) [
@@ -49,10 +49,10 @@ returns c =
     λ i lt. (c.loop-q.invariant.low i (omega arith), c.loop-q.invariant.end i (omega arith))
 
 pub fill-requires : goal.fill-requires
-fill-requires c = ends (goal.at.fill-requires c).After-wide-size
+fill-requires c = ends (goal.at.fill-requires c).In-loop-q
 
 pub overflow_add-at : goal.overflow_add-at
-overflow_add-at c = omega (arith, ends (goal.at.overflow_add-at c).After-wide-size)
+overflow_add-at c = omega (arith, ends (goal.at.overflow_add-at c).In-loop-q)
 
 pub shape_of-lows : goal.shape_of-lows
 shape_of-lows c = c.loop-q.invariant.lows-long
