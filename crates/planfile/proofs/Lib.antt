@@ -1,6 +1,4 @@
 pub mod Passing
-pub mod WrittenFile
 pub mod SuppliedChecks
+pub mod WrittenFile
 pub mod WriteAnswers
-pub mod Headed
-pub mod Reading

@@ -1,40 +1,17 @@
--- What the checks of supplied slices say: their fronts, as long as the counts say, are the plan, and the first fault is told check by check.
-use mathlib.Core.Path.{◌≡◌, refl, sym, ap, subst, ◌∙◌}
-use mathlib.Core.Bool.{true, false}
+-- A plan in lent slices that passed check 13: their fronts, as long as the counts say, are a whole plan.
+use mathlib.Core.Path.{◌≡◌, sym, subst}
+use mathlib.Core.Bool.{false}
 use mathlib.Core.List.{List}
 use Prim.Native.Nat.{ℕ, ◌+◌}
+use native.Mathlib.Omega.{arith}
 use lib.ListN.{length, take}
 use Rattle.plan.specs.Refusals.{first_fault}
 use Rattle.plan.specs.Planning.{Contents, contents, bad_unknowns}
-use Rattle.plan.specs.File.{Whole, bad_header, bad_order, bad_parts, bad_rows, not_nested, not_covered, contents_checks}
+use Rattle.plan.specs.File.{Whole}
 use Rattle.plan.specs.Writing.{bad_supply, used, supplied_checks}
-use Rattle.theory.proofs.Refusals.{fault_here, fault_later}
+use Rattle.theory.proofs.Refusals.{no_fault}
 use Rattle.theory.proofs.RoundTrips.{supply_says}
-use Rattle.planfile.specs.Supplied.{listed, Exact}
-
--- ---- what the checks look at
-
--- the plan of counts and lists alone
-abbrev pub unnumbered : Contents → Contents
-unnumbered c = listed c.nodes c.parts c.slots c.order c.sizes c.parents c.column_starts c.rows
-
--- 13 and 15 to 19 do not look at the unknowns
-pub supply_listed : (c : Contents) → bad_supply (unnumbered c) ≡ bad_supply c
-unfolding bad_supply bad_header
-supply_listed c = refl
-
-pub checks_listed : (c : Contents) → contents_checks (unnumbered c) ≡ contents_checks c
-unfolding contents_checks bad_order bad_parts bad_rows not_nested not_covered
-checks_listed c = refl
-
-pub exact-listed : (c : Contents) → Exact c → Exact (unnumbered c)
-unfolding bad_header
-exact-listed c x = let w : Whole c = x.whole in record {
-  header = x.header;
-  whole = record { order = w.order; sizes = w.sizes; parents = w.parents; column_starts = w.column_starts; rows = w.rows };
-}
-
--- ---- the slices' fronts
+use Rattle.planfile.specs.Supplied.{Exact}
 
 -- 13 of slices as lent: their used entries are a whole plan that passed it
 pub exact-used : (c : Contents) → bad_supply c ≡ false → Exact (used c)
@@ -56,21 +33,7 @@ fronts_used c w = rw (w.sizes, w.rows)
 pub exact_fronts : (c : Contents) → bad_supply c ≡ false → Exact (fronts c)
 exact_fronts c h = let x = exact-used c h in subst Exact (sym (fronts_used c x.whole)) x
 
--- ---- the first fault
-
--- 28
-pub first-unknowns : (c : Contents) → bad_unknowns c.unknowns ≡ true → 28 ≡ first_fault (supplied_checks c)
+-- where no check of a supplied plan found a fault, 13 found none
+pub supply_passed : (c : Contents) → 0 ≡ first_fault (supplied_checks c) → bad_supply c ≡ false
 unfolding supplied_checks
-first-unknowns c bad = sym (fault_here 28 (bad_unknowns c.unknowns) _ bad)
-
--- 13, where 28 finds none
-pub first_supply : (c : Contents) → bad_unknowns c.unknowns ≡ false → bad_supply c ≡ true → 13 ≡ first_fault (supplied_checks c)
-unfolding supplied_checks
-first_supply c few bad = sym (fault_later 28 (bad_unknowns c.unknowns) _ few ∙ fault_here 13 (bad_supply c) _ bad)
-
--- that of the fronts, where 28 and 13 find none
-pub first_fronts : (c : Contents) → bad_unknowns c.unknowns ≡ false → bad_supply c ≡ false → (k : ℕ) → k ≡ first_fault (contents_checks (unnumbered (fronts c))) → k ≡ first_fault (supplied_checks c)
-unfolding supplied_checks
-first_fronts c few good k e =
-    e ∙ ap first_fault (checks_listed (fronts c)) ∙ ap (λ (d : Contents). first_fault (contents_checks d)) (fronts_used c (exact-used c good).whole)
-    ∙ sym (fault_later 28 (bad_unknowns c.unknowns) _ few ∙ fault_later 13 (bad_supply c) _ good)
+supply_passed c passed = (no_fault 13 (bad_supply c) _ (omega arith) (no_fault 28 (bad_unknowns c.unknowns) _ (omega arith) (sym passed)).1).0

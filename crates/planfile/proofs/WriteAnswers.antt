@@ -5,9 +5,11 @@ use Prim.Native.Nat.{ℕ, zero, suc, ◌+◌, ◌-◌, ◌≤◌, ◌<◌}
 use native.Mathlib.Omega.{arith}
 use lib.ListN.{length, get_or}
 use borrow.Author.Tests.{lt-ltb}
-use Rattle.plan.specs.declared.WriteAnswer.TheVariants.{Written, Refused}
+use Rattle.std.specs.Prelude.{Ok, Err}
+use Rattle.plan.specs.declared.refusal.Refusal.{Refusal}
+use Rattle.plan.specs.declared.refusal.Refusal.TheVariants.{BuffersTooShort}
 use Rattle.plan.specs.Lists.{written}
-use Rattle.plan.specs.Refusals.{Checks, first_fault}
+use Rattle.plan.specs.Refusals.{number_of, Checks, first_fault}
 use Rattle.plan.specs.Answers.{accepted, refused}
 use Rattle.plan.specs.Planning.{Contents, row_counts}
 use Rattle.plan.specs.File.{file_length, encode, contents_checks}
@@ -16,7 +18,7 @@ use Rattle.plan.specs.RoundTrips.{Sound}
 use Rattle.theory.proofs.Lists.{is_in-get_or}
 use Rattle.theory.proofs.Ranges.{get_or-map-below}
 use Rattle.theory.proofs.Checked.{good-starts}
-use Rattle.theory.proofs.Refusals.{fault_here, first_some, first-none}
+use Rattle.theory.proofs.Refusals.{number-suc, fault_here, first_some, first-none}
 use Rattle.theory.proofs.Compressed.{start-next}
 use Rattle.theory.proofs.FileFields.{counts-length, encode-length}
 use Rattle.theory.proofs.Fitting.{good-rows, sound-fits}
@@ -43,33 +45,28 @@ sound-narrow c sound =
 
 module _ (c : Contents) (found : List ℕ) where
   -- a refusal: its number, and nothing written
-  refused_out : (k : ℕ) → first_fault (write_checks c (length found)) ≡ k → (k ≡ 0 → ⊥) → Wrote c (Refused k) found found
+  refused_out : (r : Refusal) → number_of r ≡ first_fault (write_checks c (length found)) → Wrote c (Err r) found found
   unfolding writing write_out
-  refused_out k first some = let r = go k some in record {
-    reply = r.0 ∙ sym (ap (λ (i : ℕ). (write_out i c).reply) first);
-    output = r.1 ∙ sym (ap (λ (i : ℕ). written (write_out i c).bytes found) first);
+  refused_out r first = let some = number-suc r in record {
+    reply = ap refused some.1 ∙ ap (λ (i : ℕ). (write_out i c).reply) (sym some.1 ∙ first);
+    output = ap (λ (i : ℕ). written (write_out i c).bytes found) (sym some.1 ∙ first);
   }
-    where
-      go : (k : ℕ) → (k ≡ 0 → ⊥) → (refused k ≡ (write_out k c).reply) × (found ≡ written (write_out k c).bytes found)
-      go zero some = absurd (some refl)
-      go (suc k) some = (refl, refl)
 
   -- a fault of the slices
-  pub refused_supplied : (k : ℕ) → k ≡ first_fault (supplied_checks c) → (k ≡ 0 → ⊥) → Wrote c (Refused k) found found
+  pub refused_supplied : (r : Refusal) → number_of r ≡ first_fault (supplied_checks c) → Wrote c (Err r) found found
   unfolding write_checks
-  refused_supplied k e some = refused_out k (first_some (supplied_checks c) _ (λ z. some (e ∙ z)) ∙ sym e) some
+  refused_supplied r e = refused_out r (e ∙ sym (first_some (supplied_checks c) _ (λ z. omega (arith, e ∙ z, (number-suc r).1))))
 
   -- too little room
-  pub refused-room : first_fault (supplied_checks c) ≡ 0 → length found < file_length c → Wrote c (Refused 8) found found
+  pub refused-room : 0 ≡ first_fault (supplied_checks c) → length found < file_length c → Wrote c (Err BuffersTooShort) found found
   unfolding write_checks output_too_short supplied_checks contents_checks
   refused-room passed short =
       let eight : Checks = (8, output_too_short c (length found)) ∷ [] in
-      refused_out 8
-      (first-none (supplied_checks c) eight refl passed ∙ fault_here 8 (output_too_short c (length found)) [] (lt-ltb (length found) (file_length c) short))
-      (λ z. absurd (omega arith))
+      refused_out BuffersTooShort
+      (sym (first-none (supplied_checks c) eight refl (sym passed) ∙ fault_here 8 (output_too_short c (length found)) [] (lt-ltb (length found) (file_length c) short)))
 
   -- no fault
-  pub accepted-writing : (left : List ℕ) → Sound (used c) → file_length c ≤ length found → left ≡ written (encode (used c)) found → Wrote c (Written (file_length c)) found left
+  pub accepted-writing : (left : List ℕ) → Sound (used c) → file_length c ≤ length found → left ≡ written (encode (used c)) found → Wrote c (Ok (file_length c)) found left
   accepted-writing left sound room bytes =
       let w = write_accepts c (length found) sound room in
       record {

@@ -1,10 +1,8 @@
 // The plan file: reading version 1 or 2 into lent buffers, and writing version 2 from lent slices.
 #![tactic(auto)]
 
-mod reader;
-mod slices;
+mod lent;
 mod writer;
 
-pub use reader::read;
-pub use slices::supplied_refusal;
+pub use lent::LentPlan;
 pub use writer::write;

@@ -1,30 +1,31 @@
 // Writing a plan file, of version 2, from lent slices: checks 28, 13 and 15 to 19, then 8, then the bytes.
 ghost use Rattle.std.specs.Prelude.{◌≡◌, false, [], ◌+◌, ◌*◌, ◌≤◌, ◌<◌, length};
 ghost use Rattle.plan.specs.Lists.{written};
-ghost use Rattle.plan.specs.Planning.{row_counts, contents, bad_unknowns};
-ghost use Rattle.plan.specs.File.{file_length, encode, encode_parts, encode16s, bad_header};
+ghost use Rattle.plan.specs.Planning.{row_counts, bad_unknowns};
+ghost use Rattle.plan.specs.File.{file_length, encode, encode_parts, encode16s};
 ghost use Rattle.plan.specs.Writing.{Wrote};
-ghost use Rattle.filechecks.specs.Fields.{counts_only, order_and_parts};
+ghost use Rattle.filechecks.specs.Fields.{order_and_parts};
 ghost use Rattle.rowchecks.specs.Rows.{parts_and_rows};
-ghost use Rattle.planfile.specs.Supplied.{Exact, NarrowColumns};
+ghost use Rattle.planfile.specs.Supplied.{NarrowColumns};
+ghost use Rattle.planfile.specs.LentPlans.{contents_of, used_by};
 ghost use Rattle.planfile.specs.Filed.{header_of};
 
-use crate::slices::supplied_refusal;
+use crate::lent::{LentPlan, UsedPlan};
 use coding::{write16, write16s, write32};
 use filechecks::{HEADER, MAGIC, VERSION, file_length};
-use plan::WriteAnswer;
+use plan::Refusal;
 
 // The mark, the version, the unknowns and the counts. O(1).
-fn write_header(unknowns: usize, n: usize, p: usize, s: usize, bytes: &mut [u8])
-    requires { (bad_unknowns unknowns ≡ false) × (bad_header (counts_only n p s) ≡ false) × (19 ≤ length bytes.old) }
-    ensures { bytes.new ≡ written (header_of unknowns n p s) bytes.old }
+fn write_header(plan: &UsedPlan, bytes: &mut [u8])
+    requires { (bad_unknowns plan.now.unknowns ≡ false) × (19 ≤ length bytes.old) }
+    ensures { bytes.new ≡ written (header_of plan.now.unknowns plan.now.nodes (length plan.now.sizes.now) (length plan.now.rows.now)) bytes.old }
 {
     bytes[..3].copy_from_slice(&MAGIC);
     write16(VERSION, &mut bytes[3..]);
-    write16(unknowns as u16, &mut bytes[5..]);
-    write32(n as u32, &mut bytes[7..]);
-    write32(p as u32, &mut bytes[11..]);
-    write32(s as u32, &mut bytes[15..]);
+    write16(plan.unknowns as u16, &mut bytes[5..]);
+    write32(plan.nodes as u32, &mut bytes[7..]);
+    write32(plan.sizes.len() as u32, &mut bytes[11..]);
+    write32(plan.rows.len() as u32, &mut bytes[15..]);
 }
 
 // The size and the parent of each part. O(p).
@@ -53,75 +54,31 @@ fn write_row_counts(n: usize, column_starts: &[u32], bytes: &mut [u8])
 }
 
 // The bytes of a plan that passed its checks. O(n + slots).
-fn write_plan(
-    unknowns: usize,
-    n: usize,
-    order: &[u16],
-    sizes: &[u16],
-    parents: &[u16],
-    column_starts: &[u32],
-    rows: &[u16],
-    bytes: &mut [u8],
-)
-    requires unknowns_value { (bad_unknowns unknowns ≡ false) × NarrowColumns n column_starts.now }
-    requires exact { Exact (contents unknowns n (length sizes.now) (length rows.now) order.now sizes.now parents.now column_starts.now rows.now) }
-    requires rows_in_bounds { file_length (contents unknowns n (length sizes.now) (length rows.now) order.now sizes.now parents.now column_starts.now rows.now) ≤ length bytes.old }
-    ensures { bytes.new ≡ written (encode (contents unknowns n (length sizes.now) (length rows.now) order.now sizes.now parents.now column_starts.now rows.now)) bytes.old }
+fn write_plan(plan: &UsedPlan, bytes: &mut [u8])
+    requires passed { (bad_unknowns plan.now.unknowns ≡ false) × NarrowColumns plan.now.nodes plan.now.column_starts.now }
+    requires room { file_length (used_by plan.now) ≤ length bytes.old }
+    ensures { bytes.new ≡ written (encode (used_by plan.now)) bytes.old }
 {
-    let parts_at = HEADER + 2 * n;
-    let counts_at = parts_at + 4 * sizes.len();
-    let rows_at = counts_at + 2 * n;
-    write_header(unknowns, n, sizes.len(), rows.len(), bytes);
-    write16s(order, &mut bytes[HEADER..]);
-    write_parts(sizes, parents, &mut bytes[parts_at..]);
-    write_row_counts(n, column_starts, &mut bytes[counts_at..]);
-    write16s(rows, &mut bytes[rows_at..]);
+    let parts_at = HEADER + 2 * plan.nodes;
+    let counts_at = parts_at + 4 * plan.sizes.len();
+    let rows_at = counts_at + 2 * plan.nodes;
+    write_header(plan, bytes);
+    write16s(plan.order, &mut bytes[HEADER..]);
+    write_parts(plan.sizes, plan.parents, &mut bytes[parts_at..]);
+    write_row_counts(plan.nodes, plan.column_starts, &mut bytes[counts_at..]);
+    write16s(plan.rows, &mut bytes[rows_at..]);
 }
 
-// Writing: checks 28, 13, 15 to 19 and 8 in this order, then the bytes, and the file's length is returned; slices may be longer than their counts say.
+// Writing: checks 28, 13, 15 to 19 and 8 in this order, then the bytes, and the file's length is returned; lists may be longer than their counts say.
 // O(4,096 + slots + the first rows' columns).
-pub fn write(
-    unknowns: usize,
-    n: usize,
-    p: usize,
-    s: usize,
-    order: &[u16],
-    sizes: &[u16],
-    parents: &[u16],
-    column_starts: &[u32],
-    rows: &[u16],
-    bytes: &mut [u8],
-) -> WriteAnswer
-    ensures { Wrote (contents unknowns n p s order.now sizes.now parents.now column_starts.now rows.now) result bytes.old bytes.new }
+pub fn write(plan: &LentPlan, bytes: &mut [u8]) -> Result<usize, Refusal>
+    ensures { Wrote (contents_of plan.now) result bytes.old bytes.new }
 {
-    let fault = supplied_refusal(
-        unknowns,
-        n,
-        p,
-        s,
-        order,
-        sizes,
-        parents,
-        column_starts,
-        rows,
-    );
-    if fault != 0 {
-        return WriteAnswer::Refused(fault);
-    }
-    let length = file_length(HEADER, n, p, s);
+    plan.check()?;
+    let length = file_length(HEADER, plan.nodes, plan.parts, plan.slots);
     if bytes.len() < length {
-        return WriteAnswer::Refused(8);
+        return Err(Refusal::BuffersTooShort);
     }
-    let end = n + 1;
-    write_plan(
-        unknowns,
-        n,
-        &order[..n],
-        &sizes[..p],
-        &parents[..p],
-        &column_starts[..end],
-        &rows[..s],
-        bytes,
-    );
-    WriteAnswer::Written(length)
+    write_plan(&plan.used(), bytes);
+    Ok(length)
 }

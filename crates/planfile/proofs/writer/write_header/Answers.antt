@@ -3,7 +3,7 @@ use mathlib.Core.Path.{sym, ap, ◌∙◌}
 use mathlib.Core.List.{List, ◌++◌}
 use Prim.Native.Nat.{ℕ, ◌≤◌}
 use native.Mathlib.Omega.{arith}
-use lib.ListN.{drop}
+use lib.ListN.{length, drop}
 use Rattle.plan.specs.Lists.{written}
 use Rattle.plan.specs.Mesh.{max_nodes}
 use Rattle.plan.specs.File.{encode16, encode32, magic, version}
@@ -11,21 +11,21 @@ use Rattle.theory.proofs.Written.{Reached, reached_more}
 use Rattle.theory.proofs.Coding.{encode16-length}
 use Rattle.theory.proofs.FileFields.{word_length}
 use Rattle.theory.proofs.Fitting.{unknowns_limits, counts-few}
-use Rattle.filechecks.specs.Fields.{counts_only}
+use Rattle.planfile.specs.LentPlans.{used_by}
 use Rattle.planfile.proofs.WrittenFile.{header_fields}
 use Rattle.planfile.proofs.writer.write_header.Goals.{Start}
 use Rattle.planfile.proofs.writer.write_header.Goals as goal
 
 -- the counts are numbers of 32 bits
-small : (c : Start) → (c.args.n ≤ max_nodes) × (c.args.p ≤ max_nodes) × (c.args.s ≤ 8386560)
-small c = counts-few (counts_only c.args.n c.args.p c.args.s) c.requires.1
+small : (c : Start) → (c.args.plan.now.nodes ≤ max_nodes) × ((length c.args.plan.now.sizes.now) ≤ max_nodes) × ((length c.args.plan.now.rows.now) ≤ 8386560)
+small c = counts-few (used_by c.args.plan.now) c.args.plan.now.exact.header
 
 pub returns : goal.returns
 returns c =
-    let u : ℕ = c.args.unknowns in
-    let n : ℕ = c.args.n in
-    let p : ℕ = c.args.p in
-    let s : ℕ = c.args.s in
+    let u : ℕ = c.args.plan.now.unknowns in
+    let n : ℕ = c.args.plan.now.nodes in
+    let p : ℕ = (length c.args.plan.now.sizes.now) in
+    let s : ℕ = (length c.args.plan.now.rows.now) in
     let found : List ℕ = c.args.bytes.now in
     let mark : Reached found magic (c.copy_from_slice.new.self ++ drop 3 found) 3 =
     record { front = ap (λ (l : List ℕ). l ++ drop 3 found) c.copy_from_slice.ensures.after; many = omega arith } in
@@ -36,14 +36,14 @@ returns c =
     let fifth = reached_more found ((((magic ++ encode16 version) ++ encode16 u) ++ encode32 n) ++ encode32 p) _ 15 fourth (encode32 s) c.write32-3.new.bytes 19 c.write32-3.ensures (omega (arith, word_length s)) in
     fifth.front ∙ ap (λ (l : List ℕ). written l found) (sym (header_fields u n p s))
 
-pub overflow_cast-unknowns : goal.overflow_cast-unknowns
-overflow_cast-unknowns c = omega (arith, (unknowns_limits c.args.unknowns c.requires.0).1)
+pub overflow_cast-plan : goal.overflow_cast-plan
+overflow_cast-plan c = omega (arith, (unknowns_limits c.args.plan.now.unknowns c.requires.0).1)
 
-pub overflow_cast-n : goal.overflow_cast-n
-overflow_cast-n c = omega (arith, (small (goal.at.overflow_cast-n c).Start).0)
+pub overflow_cast-plan-2 : goal.overflow_cast-plan-2
+overflow_cast-plan-2 c = omega (arith, (small (goal.at.overflow_cast-plan-2 c).Start).0)
 
-pub overflow_cast-p : goal.overflow_cast-p
-overflow_cast-p c = omega (arith, (small (goal.at.overflow_cast-p c).Start).1)
+pub overflow_cast-plan-3 : goal.overflow_cast-plan-3
+overflow_cast-plan-3 c = omega (arith, (small (goal.at.overflow_cast-plan-3 c).Start).1)
 
-pub overflow_cast-s : goal.overflow_cast-s
-overflow_cast-s c = omega (arith, (small (goal.at.overflow_cast-s c).Start).2)
+pub overflow_cast-plan-4 : goal.overflow_cast-plan-4
+overflow_cast-plan-4 c = omega (arith, (small (goal.at.overflow_cast-plan-4 c).Start).2)
