@@ -1,4 +1,5 @@
 // Sound meshes made unsound, or lent with results that are too short.
+// kept: damages are numbers, for seeds draw them: enums would stand between a draw and one `match` on it, each with a table of its own.
 use crate::lent::{Case, Lengths, entry, start, with_entry, with_start};
 use crate::numbers::{less, more};
 use crate::random::draw;

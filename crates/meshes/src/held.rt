@@ -1,31 +1,25 @@
 // What planning or reading leaves: the answer and the lent results. Each result is the front of an array that is longer than needed; the array
 // holds a number of its own where nothing is written.
-use crate::buffers::{holds16, holds32};
-use naive::NaivePlan;
-use plan::{Plan, PlanAnswer};
+use crate::buffers::{first, holds};
+use naive::{GivenPlan, NaivePlan, NodeLists, Refused};
+use plan::{Plan, Refusal};
 
 // What each array holds where nothing is written.
-pub const STALE_ORDER: u16 = 60001;
+const STALE_ORDER: u16 = 60001;
 
-pub const STALE_POSITIONS: u16 = 60002;
+const STALE_POSITIONS: u16 = 60002;
 
-pub const STALE_SIZES: u16 = 60003;
+const STALE_SIZES: u16 = 60003;
 
-pub const STALE_PARENTS: u16 = 60004;
+const STALE_PARENTS: u16 = 60004;
 
-pub const STALE_COLUMN_STARTS: u32 = 60005;
+const STALE_COLUMN_STARTS: u32 = 60005;
 
-pub const STALE_ROWS: u16 = 60006;
+const STALE_ROWS: u16 = 60006;
 
-// `refusal` is 0 where there is a plan; otherwise the other numbers are 0.
+// The arrays whose fronts are lent as results.
 #[derive(Clone, Copy)]
-pub struct Held {
-    pub refusal: u32,
-    pub nodes: u32,
-    pub parts: u32,
-    pub slots: u32,
-    pub unknowns: u32,
-    pub multiplications: u64,
+pub struct Buffers {
     pub order: [u16; 80],
     pub positions: [u16; 80],
     pub sizes: [u16; 80],
@@ -34,76 +28,91 @@ pub struct Held {
     pub rows: [u16; 2100],
 }
 
-fn refusal_in(answer: PlanAnswer) -> u32 {
-    match answer {
-        PlanAnswer::Accepted(_) => 0,
-        PlanAnswer::Refused(number) => number,
+impl Buffers {
+    // Arrays in which nothing is written.
+    pub fn new() -> Buffers {
+        Buffers {
+            order: [STALE_ORDER; 80],
+            positions: [STALE_POSITIONS; 80],
+            sizes: [STALE_SIZES; 80],
+            parents: [STALE_PARENTS; 80],
+            column_starts: [STALE_COLUMN_STARTS; 80],
+            rows: [STALE_ROWS; 2100],
+        }
     }
-}
 
-fn plan_in(answer: PlanAnswer) -> Plan {
-    match answer {
-        PlanAnswer::Accepted(p) => p,
-        PlanAnswer::Refused(_) => Plan::new(0, 0, 0, 0, 0),
+    // A plan whose lists these are, as `naive` is lent it.
+    pub fn lists_of<'a>(&'a self, p: &Plan) -> GivenPlan<'a> {
+        let nodes = p.nodes as usize;
+        let parts = p.parts as usize;
+        let slots = p.slots as usize;
+        GivenPlan {
+            unknowns: p.unknowns as usize,
+            parts,
+            slots,
+            order: first(&self.order, nodes),
+            sizes: first(&self.sizes, parts),
+            parents: first(&self.parents, parts),
+            columns: NodeLists {
+                nodes,
+                starts: first(&self.column_starts, nodes + 1),
+                entries: first(&self.rows, slots),
+            },
+        }
+    }
+
+    // Whether nothing is written.
+    fn are_stale(&self) -> bool {
+        holds(&self.order, &[], 0, &STALE_ORDER)
+            && holds(&self.positions, &[], 0, &STALE_POSITIONS)
+            && holds(&self.sizes, &[], 0, &STALE_SIZES)
+            && holds(&self.parents, &[], 0, &STALE_PARENTS)
+            && holds(&self.column_starts, &[], 0, &STALE_COLUMN_STARTS)
+            && holds(&self.rows, &[], 0, &STALE_ROWS)
+    }
+
+    // Whether the plan's lists are written, and nothing else.
+    fn hold(&self, p: &NaivePlan) -> bool {
+        let nodes = p.nodes as usize;
+        let parts = p.parts as usize;
+        let slots = p.slots as usize;
+        holds(&self.order, &p.order, nodes, &STALE_ORDER)
+            && holds(&self.positions, &p.positions, nodes, &STALE_POSITIONS)
+            && holds(&self.sizes, &p.sizes, parts, &STALE_SIZES)
+            && holds(&self.parents, &p.parents, parts, &STALE_PARENTS)
+            && holds(
+                &self.column_starts,
+                &p.column_starts,
+                nodes + 1,
+                &STALE_COLUMN_STARTS,
+            )
+            && holds(&self.rows, &p.rows, slots, &STALE_ROWS)
     }
 }
 
 // An answer and the arrays that it came with.
-pub fn answered(
-    answer: PlanAnswer,
-    order: [u16; 80],
-    positions: [u16; 80],
-    sizes: [u16; 80],
-    parents: [u16; 80],
-    column_starts: [u32; 80],
-    rows: [u16; 2100],
-) -> Held {
-    let p = plan_in(answer);
-    Held {
-        refusal: refusal_in(answer),
-        nodes: p.nodes,
-        parts: p.parts,
-        slots: p.slots,
-        unknowns: p.unknowns,
-        multiplications: p.multiplications,
-        order: order,
-        positions: positions,
-        sizes: sizes,
-        parents: parents,
-        column_starts: column_starts,
-        rows: rows,
-    }
+#[derive(Clone, Copy)]
+pub struct Held {
+    pub answer: Result<Plan, Refusal>,
+    pub buffers: Buffers,
 }
 
-// How many column starts are used.
-fn column_starts_used(p: NaivePlan) -> usize {
-    if p.refusal != 0 {
-        return 0;
-    }
-    p.nodes as usize + 1
+// Whether a plan has the numbers that it should.
+fn same_numbers(p: Plan, want: &NaivePlan) -> bool {
+    p.nodes == want.nodes
+        && p.parts == want.parts
+        && p.slots == want.slots
+        && p.unknowns == want.unknowns
+        && p.multiplications == want.multiplications
 }
 
-// Whether the answer is that of the naive code, and every entry what it should be: stale where it is not used.
-pub fn agrees(h: Held, p: NaivePlan) -> bool {
-    let nodes = p.nodes as usize;
-    let parts = p.parts as usize;
-    let slots = p.slots as usize;
-    let starts_used = column_starts_used(p);
-    h.refusal == p.refusal
-        && h.nodes == p.nodes
-        && h.parts == p.parts
-        && h.slots == p.slots
-        && h.unknowns == p.unknowns
-        && h.multiplications == p.multiplications
-        && holds16(&h.order, &p.order, nodes, STALE_ORDER)
-        && holds16(&h.positions, &p.positions, nodes, STALE_POSITIONS)
-        && holds16(&h.sizes, &p.sizes, parts, STALE_SIZES)
-        && holds16(&h.parents, &p.parents, parts, STALE_PARENTS)
-        && holds32(
-            &h.column_starts,
-            &p.column_starts,
-            starts_used,
-            STALE_COLUMN_STARTS,
-        )
-        && holds16(&h.rows, &p.rows, slots, STALE_ROWS)
+impl Held {
+    // Whether the answer is that of the naive code, and every entry what it should be: as it was where it is not used.
+    pub fn agrees(&self, want: &Result<NaivePlan, Refused>) -> bool {
+        match (self.answer, want) {
+            (Ok(p), Ok(want)) => same_numbers(p, want) && self.buffers.hold(want),
+            (Err(refusal), Err(want)) => { refusal.number() == want.0 && self.buffers.are_stale() }
+            _ => false,
+        }
+    }
 }

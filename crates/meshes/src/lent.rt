@@ -1,6 +1,9 @@
 // What a planner is lent: a mesh, and results of some lengths.
 ghost use Rattle.std.specs.Prelude.{◌≡◌, ◌+◌};
 
+use crate::buffers::first;
+use naive::{NodeLists, Room};
+
 // The lengths of the lent results. The rows have room for the slots and `rows_more`, less `rows_less`.
 #[derive(Clone, Copy)]
 pub struct Lengths {
@@ -11,6 +14,21 @@ pub struct Lengths {
     pub column_starts: usize,
     pub rows_more: usize,
     pub rows_less: usize,
+}
+
+impl Lengths {
+    // The lengths where there are so many slots.
+    pub fn room(self, slots: usize) -> Room {
+        let most = slots % 4294967296 + self.rows_more % 65536;
+        Room {
+            order: self.order,
+            positions: self.positions,
+            sizes: self.sizes,
+            parents: self.parents,
+            column_starts: self.column_starts,
+            rows: most.saturating_sub(self.rows_less),
+        }
+    }
 }
 
 // The least lengths that are enough for n nodes.
@@ -38,6 +56,17 @@ pub struct Case {
     pub neighbours: [u16; 4096],
     pub entry_count: usize,
     pub lengths: Lengths,
+}
+
+impl Case {
+    // The mesh as it is lent.
+    pub fn mesh<'a>(&'a self) -> NodeLists<'a> {
+        NodeLists {
+            nodes: self.n,
+            starts: first(&self.starts, self.start_count),
+            entries: first(&self.neighbours, self.entry_count),
+        }
+    }
 }
 
 pub(crate) fn start(c: Case, v: usize) -> usize {

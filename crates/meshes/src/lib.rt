@@ -14,13 +14,10 @@ mod relisted;
 mod shape;
 mod unknowns;
 
-pub use buffers::{first8, first16, first32, front8, front16, front32, holds8, holds16, holds32};
+pub use buffers::{first, front, holds};
 pub use damage::damaged;
 pub use graph::{from_edges, numbered, star};
-pub use held::{
-    Held, STALE_COLUMN_STARTS, STALE_ORDER, STALE_PARENTS, STALE_POSITIONS, STALE_ROWS,
-    STALE_SIZES, agrees, answered,
-};
+pub use held::{Buffers, Held};
 pub use lent::{Case, Lengths, least};
 pub use numbers::{less, more, print_difference, print_number, print_place};
 pub use random::draw;

@@ -6,6 +6,7 @@ use plan::Plan;
 
 // A kind of mesh of n nodes. `width` is that of a grid, a band or a block, and for dense random meshes one less than the chance of an edge in tenths.
 // Edges that would give a node more than `most` neighbours are left out.
+// kept: kinds are numbers, for seeds draw them: enums would stand between a draw and one `match` on it, each with a table of its own.
 #[derive(Clone, Copy)]
 struct Shape {
     seed: u64,
@@ -80,20 +81,18 @@ fn slot(seed: u64, i: u8) -> usize {
 // The numbers below n, each once, in an order drawn from the seed.
 fn labels(seed: u64, n: u8) -> [u8; 64] {
     let mut l = [0u8; 64];
-    for i in 0..64u8 {
-        if i < n {
-            let j = slot(seed, i) % 64;
-            l[i as usize] = l[j];
-            l[j] = i;
-        }
+    for i in 0..n.min(64) {
+        let j = slot(seed, i) % 64;
+        l[i as usize] = l[j];
+        l[j] = i;
     }
     l
 }
 
 // Joins v to those after it.
 fn join_later(cells: &mut [u8; 4096], s: Shape, l: &[u8; 64], v: u8) {
-    for w in 0..64u8 {
-        if w < s.n && edge(s, v, w) {
+    for w in 0..s.n {
+        if edge(s, v, w) {
             join_within(cells, s.most, label(l, v), label(l, w));
         }
     }
@@ -105,7 +104,7 @@ fn label(l: &[u8; 64], v: u8) -> u8 {
 
 fn mesh(s: Shape, l: &[u8; 64]) -> Case {
     let mut cells = [0u8; 4096];
-    for v in 0..64u8 {
+    for v in 0..s.n {
         join_later(&mut cells, s, l, v);
     }
     lists(s.n, &cells)

@@ -1,5 +1,6 @@
 // Whether the uncut parts of a handed-out plan are cliques. Right for at most 64 nodes.
 use crate::check::matrix;
+use crate::given::{GivenPlan, NodeLists};
 use crate::lists::{between, nodes_in, total};
 use crate::sets::{has, only, without};
 
@@ -20,15 +21,10 @@ fn clique(m: &[u64; 64], s: u64) -> bool {
         .all(|(v, row)| !has(s, v) || without(s, *row) == only(v))
 }
 
-// "An uncut part is always a set of nodes that are all next to one another": a part that is no part's parent. The plan has p parts.
-pub fn uncut_cliques(
-    starts: &[u32],
-    neighbours: &[u16],
-    p: usize,
-    order: &[u16],
-    sizes: &[u16],
-    parents: &[u16],
-) -> bool {
-    let m = matrix(starts, neighbours);
-    (0..p).all(|k| has_child(p, parents, k) || clique(&m, part(order, sizes, k)))
+// "An uncut part is always a set of nodes that are all next to one another": a part that is no part's parent.
+pub fn uncut_cliques(mesh: NodeLists, plan: GivenPlan) -> bool {
+    let m = matrix(mesh);
+    (0..plan.parts).all(|k| {
+        has_child(plan.parts, plan.parents, k) || clique(&m, part(plan.order, plan.sizes, k))
+    })
 }

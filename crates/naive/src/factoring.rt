@@ -1,21 +1,28 @@
 // The factorization of document 02's E8, over a dense matrix of floats: a plan's values are spread over it, the columns are worked through in the
 // words of the sentence, and what is left is gathered. Refusals 28 and 13 are right for every plan; the others, and what is left, for at most
 // 64 nodes, and `TOO_LARGE` stands for them beyond.
-use crate::file::lent_refusal;
-use crate::lists::{entries, nodes_in, start};
+use crate::file::check_lent;
+use crate::given::{GivenPlan, GivenValues, NodeLists};
+use crate::lists::{entries, nodes_in};
+use crate::refused::{Refused, refused_if};
 use crate::sets::{has, only, row, without};
 
 // The greatest float that is finite.
 const GREATEST: f64 = 1.7976931348623157e308;
 
-// What factoring hands out: the report, which is all zeros on a refusal, and the first values of both buffers as they are left, 0 behind their ends.
-// `strays` counts the pairs of two different rows in a column that have no slot, over all columns, where the plan's own checks pass.
+// The report of factoring.
 #[derive(Clone, Copy)]
-pub struct NaiveFactor {
-    pub refusal: u32,
+pub struct NaiveReport {
     pub smallest: f64,
     pub largest: f64,
     pub operations: u64,
+}
+
+// What factoring hands out: the answer, and the first values of both buffers as they are left, 0 behind their ends, which 31 changes too.
+// `strays` counts the pairs of two different rows in a column that have no slot, over all columns, where the plan's own checks pass.
+#[derive(Clone, Copy)]
+pub struct NaiveFactor {
+    pub answer: Result<NaiveReport, Refused>,
     pub strays: u64,
     pub diagonal: [f64; 64],
     pub values: [f64; 2016],
@@ -40,31 +47,19 @@ pub(crate) fn first_values<const N: usize>(lent: &[f64]) -> [f64; N] {
 }
 
 // Puts the values of column j's slots into its cells.
-fn spread_column(
-    m: &mut [f64; 4096],
-    column_starts: &[u32],
-    rows: &[u16],
-    values: &[f64],
-    j: usize,
-) {
-    let column = entries(column_starts, rows, j);
-    for (i, x) in column.iter().zip(entries(column_starts, values, j)) {
+fn spread_column(m: &mut [f64; 4096], columns: NodeLists, values: &[f64], j: usize) {
+    let slots = entries(columns.starts, values, j);
+    for (i, x) in columns.list(j).iter().zip(slots) {
         put_cell(m, j, usize::from(*i), *x);
     }
 }
 
-// The matrix of n nodes.
-pub(crate) fn spread(
-    n: usize,
-    column_starts: &[u32],
-    rows: &[u16],
-    diagonal: &[f64],
-    values: &[f64],
-) -> [f64; 4096] {
+// The matrix of a layout.
+pub(crate) fn spread(columns: NodeLists, lent: GivenValues) -> [f64; 4096] {
     let mut m = [0.0; 4096];
-    for (j, x) in diagonal.iter().enumerate().take(n) {
+    for (j, x) in lent.diagonal.iter().enumerate().take(columns.nodes) {
         put_cell(&mut m, j, j, *x);
-        spread_column(&mut m, column_starts, rows, values, j);
+        spread_column(&mut m, columns, lent.values, j);
     }
     m
 }
@@ -78,34 +73,28 @@ fn gather_diagonal(n: usize, m: &[f64; 4096]) -> [f64; 64] {
 }
 
 // Puts what stands in column j's cells into its slots.
-fn gather_column(
-    list: &mut [f64; 2016],
-    column_starts: &[u32],
-    rows: &[u16],
-    m: &[f64; 4096],
-    j: usize,
-) {
-    let slots = list.iter_mut().skip(start(column_starts, j));
-    for (x, i) in slots.zip(entries(column_starts, rows, j)) {
+fn gather_column(list: &mut [f64; 2016], columns: NodeLists, m: &[f64; 4096], j: usize) {
+    let slots = list.iter_mut().skip(columns.start(j));
+    for (x, i) in slots.zip(columns.list(j)) {
         *x = cell(m, j, usize::from(*i));
     }
 }
 
-fn gather_values(n: usize, column_starts: &[u32], rows: &[u16], m: &[f64; 4096]) -> [f64; 2016] {
+fn gather_values(columns: NodeLists, m: &[f64; 4096]) -> [f64; 2016] {
     let mut list = [0.0; 2016];
-    for j in 0..n {
-        gather_column(&mut list, column_starts, rows, m, j);
+    for j in 0..columns.nodes {
+        gather_column(&mut list, columns, m, j);
     }
     list
 }
 
-// The rows of each of n columns.
-pub(crate) fn columns_of(n: usize, column_starts: &[u32], rows: &[u16]) -> [u64; 64] {
-    let mut columns = [0u64; 64];
-    for (j, column) in columns.iter_mut().enumerate().take(n) {
-        *column = nodes_in(entries(column_starts, rows, j));
+// The rows of each column.
+pub(crate) fn rows_of(columns: NodeLists) -> [u64; 64] {
+    let mut sets = [0u64; 64];
+    for (j, s) in sets.iter_mut().enumerate().take(columns.nodes) {
+        *s = nodes_in(columns.list(j));
     }
-    columns
+    sets
 }
 
 // Column j's values before the division: "column values v".
@@ -168,29 +157,14 @@ pub(crate) fn pivot_fails(d: f64) -> bool {
     !(0.0 < d && d <= GREATEST)
 }
 
-// How far the columns were worked through: n, or the first column whose pivot fails; and how many operations there were.
-#[derive(Clone, Copy)]
-struct Reached {
-    column: usize,
-    operations: u64,
-}
-
-// "Columns go in ascending order."
-fn eliminate(m: &mut [f64; 4096], n: usize, columns: &[u64; 64]) -> Reached {
+// "Columns go in ascending order", up to the first whose pivot fails. Gives how many operations there were.
+fn eliminate(m: &mut [f64; 4096], n: usize, sets: &[u64; 64]) -> Result<u64, Refused> {
     let mut done = 0u64;
-    for (j, column) in columns.iter().enumerate().take(n) {
-        if pivot_fails(cell(m, j, j)) {
-            return Reached {
-                column: j,
-                operations: done,
-            };
-        }
-        done = done.saturating_add(eliminate_column(m, *column, j));
+    for (j, s) in sets.iter().enumerate().take(n) {
+        refused_if(pivot_fails(cell(m, j, j)), 31)?;
+        done = done.saturating_add(eliminate_column(m, *s, j));
     }
-    Reached {
-        column: n,
-        operations: done,
-    }
+    Ok(done)
 }
 
 // The pivots stay on the diagonal.
@@ -222,82 +196,45 @@ fn strays(columns: &[u64; 64]) -> u64 {
     )
 }
 
-// A refusal that leaves both buffers as found.
-fn refused(number: u32, diagonal: &[f64], values: &[f64]) -> NaiveFactor {
-    NaiveFactor {
-        refusal: number,
-        smallest: 0.0,
-        largest: 0.0,
-        operations: 0,
-        strays: 0,
-        diagonal: first_values(diagonal),
-        values: first_values(values),
+// The report on a matrix of n columns that are all worked through, with so many operations.
+fn report(n: usize, m: &[f64; 4096], operations: u64) -> NaiveReport {
+    NaiveReport {
+        smallest: smallest(n, m),
+        largest: largest(n, m),
+        operations,
     }
 }
 
 // The factorization of a plan whose checks pass, with n values by position and one for each slot.
-fn factored(
-    n: usize,
-    column_starts: &[u32],
-    rows: &[u16],
-    diagonal: &[f64],
-    values: &[f64],
-) -> NaiveFactor {
-    let columns = columns_of(n, column_starts, rows);
-    let mut m = spread(n, column_starts, rows, diagonal, values);
-    let reached = eliminate(&mut m, n, &columns);
-    let mut f = NaiveFactor {
-        refusal: 31,
-        smallest: 0.0,
-        largest: 0.0,
-        operations: 0,
-        strays: strays(&columns),
+fn factored(columns: NodeLists, lent: GivenValues) -> NaiveFactor {
+    let n = columns.nodes;
+    let sets = rows_of(columns);
+    let mut m = spread(columns, lent);
+    let done = eliminate(&mut m, n, &sets);
+    NaiveFactor {
+        answer: done.map(|operations| report(n, &m, operations)),
+        strays: strays(&sets),
         diagonal: gather_diagonal(n, &m),
-        values: gather_values(n, column_starts, rows, &m),
-    };
-    if reached.column == n {
-        f.refusal = 0;
-        f.smallest = smallest(n, &m);
-        f.largest = largest(n, &m);
-        f.operations = reached.operations;
+        values: gather_values(columns, &m),
     }
-    f
 }
 
-// What factoring hands out. Checks 28, 13 and 15 to 19 are the writer's; then 29, "more than one unknown for each node", 30, "a value buffer of
-// another length than needed", and 31 as the columns are reached.
-pub fn factor(
-    unknowns: usize,
-    n: usize,
-    p: usize,
-    s: usize,
-    order: &[u16],
-    sizes: &[u16],
-    parents: &[u16],
-    column_starts: &[u32],
-    rows: &[u16],
-    diagonal: &[f64],
-    values: &[f64],
-) -> NaiveFactor {
-    let number = lent_refusal(
-        unknowns,
-        n,
-        p,
-        s,
-        order,
-        sizes,
-        parents,
-        column_starts,
-        rows,
-    );
-    if number != 0 {
-        return refused(number, diagonal, values);
+// Checks 28, 13 and 15 to 19 are the writer's; then 29, "more than one unknown for each node", and 30, "a value buffer of another length than needed".
+pub(crate) fn check_values(plan: GivenPlan, lent: GivenValues) -> Result<(), Refused> {
+    check_lent(plan)?;
+    refused_if(1 < plan.unknowns, 29)?;
+    lent.check(plan.columns.nodes, plan.slots)
+}
+
+// What factoring hands out. 31 comes as the columns are reached; other refusals leave both buffers as found.
+pub fn factor(plan: GivenPlan, lent: GivenValues) -> NaiveFactor {
+    match check_values(plan, lent) {
+        Ok(()) => factored(plan.columns, lent),
+        Err(refusal) => NaiveFactor {
+            answer: Err(refusal),
+            strays: 0,
+            diagonal: first_values(lent.diagonal),
+            values: first_values(lent.values),
+        },
     }
-    if 1 < unknowns {
-        return refused(29, diagonal, values);
-    }
-    if diagonal.len() != n || values.len() != s {
-        return refused(30, diagonal, values);
-    }
-    factored(n, column_starts, rows, diagonal, values)
 }

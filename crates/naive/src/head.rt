@@ -3,6 +3,7 @@
 ghost use Rattle.std.specs.Prelude.{◌≡◌, cond, ◌-◌, ◌*◌, ◌/◌, ltb};
 
 use crate::lists::item;
+use crate::refused::{Refused, refused_if};
 
 #[derive(Clone, Copy)]
 pub(crate) struct Head {
@@ -68,7 +69,7 @@ fn unknowns_in(bytes: &[u8], version: usize) -> usize {
 }
 
 // The head that stands in the bytes.
-pub(crate) fn head_in(bytes: &[u8]) -> Head {
+fn head_in(bytes: &[u8]) -> Head {
     let version = usize::from(number16(bytes, 3));
     let at = n_at(version);
     Head {
@@ -81,43 +82,25 @@ pub(crate) fn head_in(bytes: &[u8]) -> Head {
 }
 
 // The length of the file, for n, p and s that pass 13: 17, or in version 2 19, + 4n + 4p + 2s.
-pub(crate) fn length(h: Head) -> usize {
+fn length(h: Head) -> usize {
     order_at(h.version).saturating_add(h.n % 65536 * 4 + h.p % 65536 * 4 + h.s % 16777216 * 2)
 }
 
-// The first of 10, 11, 12, and 10 for version 2, that fails, or 0, where the reader knows the versions from 1 to `newest`.
-fn version_refusal(bytes: &[u8], newest: usize) -> u32 {
-    if bytes.len() < 17 {
-        return 10;
-    }
-    if !bytes.starts_with(b"NDP") {
-        return 11;
-    }
+// The first of 10, 11, 12, and 10 for version 2, that fails, where the reader knows the versions from 1 to `newest`.
+fn check_version(bytes: &[u8], newest: usize) -> Result<(), Refused> {
+    refused_if(bytes.len() < 17, 10)?;
+    refused_if(!bytes.starts_with(b"NDP"), 11)?;
     let version = usize::from(number16(bytes, 3));
-    if version < 1 || newest < version {
-        return 12;
-    }
-    if version == 2 && bytes.len() < 19 {
-        return 10;
-    }
-    0
+    refused_if(version < 1 || newest < version, 12)?;
+    refused_if(version == 2 && bytes.len() < 19, 10)
 }
 
-// The first of these, then of 28, 13 and 14 that fails, or 0.
-pub(crate) fn head_refusal(bytes: &[u8], newest: usize) -> u32 {
-    let number = version_refusal(bytes, newest);
-    if number != 0 {
-        return number;
-    }
+// The head of a file that passes these, then 28, 13 and 14.
+pub(crate) fn read_head(bytes: &[u8], newest: usize) -> Result<Head, Refused> {
+    check_version(bytes, newest)?;
     let h = head_in(bytes);
-    if unknowns_fail(h.unknowns) {
-        return 28;
-    }
-    if numbers_fail(h.n, h.p, h.s) {
-        return 13;
-    }
-    if bytes.len() != length(h) {
-        return 14;
-    }
-    0
+    refused_if(unknowns_fail(h.unknowns), 28)?;
+    refused_if(numbers_fail(h.n, h.p, h.s), 13)?;
+    refused_if(bytes.len() != length(h), 14)?;
+    Ok(h)
 }

@@ -1,10 +1,11 @@
 // Two meshes joined along pairs of their nodes, as document 02's E10 says: the joined mesh is a dense matrix, in which "two nodes of the joined mesh
 // are neighbours exactly when, in either mesh, the nodes they come from were". Right for every input.
-use crate::check;
-use crate::check::NEIGHBOURS;
-use crate::lists::{entries, entry, times, total};
+use crate::check::{NEIGHBOURS, check_mesh};
+use crate::given::{NodeLists, NodePairs};
+use crate::lists::{entry, times, total};
+use crate::refused::{Refused, refused_if};
 use crate::sets::{has, only};
-use crate::text::{NaiveMesh, refused};
+use crate::text::NaiveMesh;
 
 // The most nodes of a mesh.
 const NODES: usize = 4096;
@@ -22,35 +23,33 @@ fn repeats(list: &[u16]) -> bool {
     list.iter().any(|v| times(list, v) != 1)
 }
 
-// 32 where "the pairs' two lists differ in length, or a pair names a node that does not exist"; or else 33 for "a node of either mesh paired twice";
-// or else 0.
-fn pairs_refusal(n1: usize, n2: usize, first: &[u16], second: &[u16]) -> u32 {
-    if first.len() != second.len() || names_none(first, n1) || names_none(second, n2) {
-        return 32;
-    }
-    if repeats(first) || repeats(second) {
-        return 33;
-    }
-    0
+// 32 where "the pairs' two lists differ in length, or a pair names a node that does not exist"; or else 33 for "a node of either mesh paired twice".
+fn check_pairs(n1: usize, n2: usize, pairs: NodePairs) -> Result<(), Refused> {
+    let NodePairs { first, second } = pairs;
+    refused_if(
+        first.len() != second.len() || names_none(first, n1) || names_none(second, n2),
+        32,
+    )?;
+    refused_if(repeats(first) || repeats(second), 33)
 }
 
 // The number in the joined mesh of node w of the second: its partner's, or else, behind the first mesh's, its place among those without a partner.
-fn number(n1: usize, first: &[u16], second: &[u16], w: usize) -> usize {
-    let mut partners = first.iter().zip(second.iter());
+fn number(n1: usize, pairs: NodePairs, w: usize) -> usize {
+    let mut partners = pairs.first.iter().zip(pairs.second.iter());
     match partners.find(|(_, x)| usize::from(**x) == w) {
         Some((v, _)) => usize::from(*v),
         None => {
-            let paired = second.iter().filter(|x| usize::from(**x) < w).count();
+            let paired = pairs.second.iter().filter(|x| usize::from(**x) < w).count();
             n1.saturating_add(w.saturating_sub(paired))
         }
     }
 }
 
 // The numbers of the second mesh's nodes; without nodes of a first mesh and without pairs, each node's own.
-fn numbers(n1: usize, n2: usize, first: &[u16], second: &[u16]) -> [u16; NODES] {
+fn numbers(n1: usize, n2: usize, pairs: NodePairs) -> [u16; NODES] {
     let mut list = [0u16; NODES];
     for (w, x) in list.iter_mut().enumerate().take(n2) {
-        *x = (number(n1, first, second, w) % 65536) as u16;
+        *x = (number(n1, pairs, w) % 65536) as u16;
     }
     list
 }
@@ -67,27 +66,15 @@ fn marked(m: &[u64; CELLS], v: usize, w: usize) -> bool {
 }
 
 // Puts the numbers of the neighbours of a mesh's node u next to its own.
-fn mark_list(
-    m: &mut [u64; CELLS],
-    numbers: &[u16; NODES],
-    starts: &[u32],
-    neighbours: &[u16],
-    u: usize,
-) {
-    for w in entries(starts, neighbours, u) {
+fn mark_list(m: &mut [u64; CELLS], numbers: &[u16; NODES], list: &[u16], u: usize) {
+    for w in list {
         mark(m, entry(numbers, u), entry(numbers, usize::from(*w)));
     }
 }
 
-fn mark_mesh(
-    m: &mut [u64; CELLS],
-    numbers: &[u16; NODES],
-    n: usize,
-    starts: &[u32],
-    neighbours: &[u16],
-) {
-    for u in 0..n {
-        mark_list(m, numbers, starts, neighbours, u);
+fn mark_mesh(m: &mut [u64; CELLS], numbers: &[u16; NODES], mesh: NodeLists) {
+    for u in 0..mesh.nodes {
+        mark_list(m, numbers, mesh.list(u), u);
     }
 }
 
@@ -108,20 +95,18 @@ fn degrees(m: &[u64; CELLS], n: usize) -> [u16; NODES] {
     list
 }
 
-// The first of checks 3, 26 and 8 that fails for the joined mesh of n nodes, or 0. The last two numbers are the lengths of the lent lists.
-fn joined_refusal(degrees: &[u16; NODES], n: usize, starts: usize, neighbours: usize) -> u32 {
+// The first of checks 3, 26 and 8 that fails for the joined mesh of n nodes. The last two numbers are the lengths of the lent lists.
+fn check_joined(
+    degrees: &[u16; NODES],
+    n: usize,
+    starts: usize,
+    neighbours: usize,
+) -> Result<(), Refused> {
     let entries = total(degrees, NODES);
-    if 65536 < entries {
-        return 3;
-    }
+    refused_if(65536 < entries, 3)?;
     // "a list longer than 26 entries"
-    if degrees.iter().any(|d| NEIGHBOURS < usize::from(*d)) {
-        return 26;
-    }
-    if starts <= n || neighbours < entries {
-        return 8;
-    }
-    0
+    refused_if(degrees.iter().any(|d| NEIGHBOURS < usize::from(*d)), 26)?;
+    refused_if(starts <= n || neighbours < entries, 8)
 }
 
 // Puts the starts of n nodes and the end: how many entries the nodes before have.
@@ -146,42 +131,20 @@ fn put_neighbours(neighbours: &mut [u16], m: &[u64; CELLS], degrees: &[u16; NODE
 }
 
 // Checks the joined mesh of n nodes but for their number, and puts its lists.
-fn put_joined(m: &[u64; CELLS], n: usize, starts: &mut [u32], neighbours: &mut [u16]) -> NaiveMesh {
+fn put_joined(
+    m: &[u64; CELLS],
+    n: usize,
+    starts: &mut [u32],
+    neighbours: &mut [u16],
+) -> Result<NaiveMesh, Refused> {
     let d = degrees(m, n);
-    let refusal = joined_refusal(&d, n, starts.len(), neighbours.len());
-    if refusal != 0 {
-        return refused(refusal);
-    }
+    check_joined(&d, n, starts.len(), neighbours.len())?;
     put_starts(starts, &d, n);
     put_neighbours(neighbours, m, &d, n);
-    NaiveMesh {
-        refusal: 0,
+    Ok(NaiveMesh {
         nodes: n,
         entries: total(&d, n),
-    }
-}
-
-// The first check of the two meshes and of the pairs that fails, or 0: all of the first mesh's come before those of the second, and these before the
-// pairs'.
-fn lent_refusal(
-    n1: usize,
-    starts1: &[u32],
-    neighbours1: &[u16],
-    n2: usize,
-    starts2: &[u32],
-    neighbours2: &[u16],
-    first: &[u16],
-    second: &[u16],
-) -> u32 {
-    let refusal1 = check::mesh(n1, starts1, neighbours1);
-    if refusal1 != 0 {
-        return refusal1;
-    }
-    let refusal2 = check::mesh(n2, starts2, neighbours2);
-    if refusal2 != 0 {
-        return refusal2;
-    }
-    pairs_refusal(n1, n2, first, second)
+    })
 }
 
 // How many nodes the joined mesh has: no pair has two nodes of the second mesh.
@@ -189,40 +152,28 @@ fn joined_nodes(n1: usize, n2: usize, pairs: usize) -> usize {
     n1.saturating_add(n2.saturating_sub(pairs))
 }
 
-// What joining two meshes hands out. The lent lists are as found where it is refused, and behind what is used.
+// What joining two meshes hands out. The lent lists are as found where it is refused, and behind what is used. All checks of the first mesh come
+// before those of the second, and these before the pairs'.
 pub fn join(
-    n1: usize,
-    starts1: &[u32],
-    neighbours1: &[u16],
-    n2: usize,
-    starts2: &[u32],
-    neighbours2: &[u16],
-    first: &[u16],
-    second: &[u16],
+    mesh1: NodeLists,
+    mesh2: NodeLists,
+    pairs: NodePairs,
     starts: &mut [u32],
     neighbours: &mut [u16],
-) -> NaiveMesh {
-    let refusal = lent_refusal(
-        n1,
-        starts1,
-        neighbours1,
-        n2,
-        starts2,
-        neighbours2,
-        first,
-        second,
-    );
-    if refusal != 0 {
-        return refused(refusal);
-    }
-    let n = joined_nodes(n1, n2, first.len());
-    if NODES < n {
-        return refused(1);
-    }
-    let own = numbers(0, n1, &[], &[]);
-    let joined = numbers(n1, n2, first, second);
+) -> Result<NaiveMesh, Refused> {
+    let n1 = mesh1.nodes;
+    let n2 = mesh2.nodes;
+    check_mesh(mesh1)?;
+    check_mesh(mesh2)?;
+    check_pairs(n1, n2, pairs)?;
+    let n = joined_nodes(n1, n2, pairs.first.len());
+    refused_if(NODES < n, 1)?;
+    let none = NodePairs {
+        first: &[],
+        second: &[],
+    };
     let mut m = [0u64; CELLS];
-    mark_mesh(&mut m, &own, n1, starts1, neighbours1);
-    mark_mesh(&mut m, &joined, n2, starts2, neighbours2);
+    mark_mesh(&mut m, &numbers(0, n1, none), mesh1);
+    mark_mesh(&mut m, &numbers(n1, n2, pairs), mesh2);
     put_joined(&m, n, starts, neighbours)
 }

@@ -11,35 +11,39 @@ mod contents;
 mod elimination;
 mod factoring;
 mod file;
+mod given;
 mod head;
 mod held;
 mod joining;
 mod lists;
 mod parts;
 mod questions;
+mod refused;
 mod sets;
 mod solving;
 mod text;
 mod words;
 
 use crate::elimination::eliminate;
+use crate::refused::refused_if;
 pub use cliques::uncut_cliques;
-pub use factoring::{NaiveFactor, factor};
+pub use factoring::{NaiveFactor, NaiveReport, factor};
 pub use file::{LONGEST, NaiveFile, encode, read, write};
+pub use given::{GivenPlan, GivenValues, NodeLists, NodePairs, Room};
 pub use head::most_slots;
-pub use held::{NaiveHeld, held_at};
+pub use held::held_at;
 pub use joining::join;
 pub use questions::{NaiveColumn, NaivePair, NaiveSlot, column, pair_of_slot, slot_of_pair};
-pub use solving::{NaiveSolution, solve};
+pub use refused::Refused;
+pub use solving::solve;
 pub use text::{NaiveMesh, read_text};
 
-// The answer of reading, writing, factoring or solving where a plan has more nodes, or a text more pairs, than this code takes.
+// The refusal of reading, writing, factoring or solving where a plan has more nodes, or a text more pairs, than this code takes.
 pub const TOO_LARGE: u32 = 65535;
 
-// What planning and reading hand out. `refusal` is 0 where there is a plan; otherwise everything else is 0.
+// What planning and reading hand out.
 #[derive(Clone, Copy)]
 pub struct NaivePlan {
-    pub refusal: u32,
     pub nodes: u32,
     pub parts: u32,
     pub slots: u32,
@@ -53,25 +57,28 @@ pub struct NaivePlan {
     pub rows: [u16; 2016],
 }
 
-fn refused(number: u32) -> NaivePlan {
-    NaivePlan {
-        refusal: number,
-        nodes: 0,
-        parts: 0,
-        slots: 0,
-        unknowns: 0,
-        multiplications: 0,
-        order: [0; 64],
-        positions: [0; 64],
-        sizes: [0; 64],
-        parents: [0; 64],
-        column_starts: [0; 65],
-        rows: [0; 2016],
+impl NaivePlan {
+    // The plan as it is lent.
+    pub(crate) fn given<'a>(&'a self) -> GivenPlan<'a> {
+        GivenPlan {
+            unknowns: self.unknowns as usize,
+            parts: self.parts as usize,
+            slots: self.slots as usize,
+            order: &self.order,
+            sizes: &self.sizes,
+            parents: &self.parents,
+            columns: NodeLists {
+                nodes: self.nodes as usize,
+                starts: &self.column_starts,
+                entries: &self.rows,
+            },
+        }
     }
 }
 
-fn planned(unknowns: usize, n: usize, starts: &[u32], neighbours: &[u16]) -> NaivePlan {
-    let m = check::matrix(starts, neighbours);
+fn planned(unknowns: usize, mesh: NodeLists) -> NaivePlan {
+    let n = mesh.nodes;
+    let m = check::matrix(mesh);
     let d = parts::dissect(&m, n);
     let order = d.order;
     let positions = d.positions;
@@ -81,48 +88,27 @@ fn planned(unknowns: usize, n: usize, starts: &[u32], neighbours: &[u16]) -> Nai
     let column_starts = e.column_starts;
     let rows = e.rows;
     NaivePlan {
-        refusal: 0,
         nodes: (n % 65536) as u32,
         parts: (d.parts % 65536) as u32,
         slots: (e.slots % 65536) as u32,
         unknowns: (unknowns % 65536) as u32,
         multiplications: e.multiplications,
-        order: order,
-        positions: positions,
-        sizes: sizes,
-        parents: parents,
-        column_starts: column_starts,
-        rows: rows,
+        order,
+        positions,
+        sizes,
+        parents,
+        column_starts,
+        rows,
     }
 }
 
-// The plan of a lent mesh with so many unknowns for each node. The last six numbers are the lengths of the lent results. Refusals 28, 1 to 8 and 26
-// are right for every n; a plan, and refusal 9, for n of at most 64.
-pub fn plan(
-    unknowns: usize,
-    n: usize,
-    starts: &[u32],
-    neighbours: &[u16],
-    order: usize,
-    positions: usize,
-    sizes: usize,
-    parents: usize,
-    column_starts: usize,
-    rows: usize,
-) -> NaivePlan {
-    if head::unknowns_fail(unknowns) {
-        return refused(28);
-    }
-    let refusal = check::mesh(n, starts, neighbours);
-    if refusal != 0 {
-        return refused(refusal);
-    }
-    if order < n || positions < n || sizes < n || parents < n || column_starts <= n {
-        return refused(8);
-    }
-    let p = planned(unknowns, n, starts, neighbours);
-    if rows < p.slots as usize {
-        return refused(9);
-    }
-    p
+// The plan of a lent mesh with so many unknowns for each node. Refusals 28, 1 to 8 and 26 are right for every n; a plan, and refusal 9, for n of at
+// most 64.
+pub fn plan(unknowns: usize, mesh: NodeLists, room: Room) -> Result<NaivePlan, Refused> {
+    refused_if(head::unknowns_fail(unknowns), 28)?;
+    check::check_mesh(mesh)?;
+    room.check_lists(mesh.nodes)?;
+    let p = planned(unknowns, mesh);
+    room.check_rows(p.slots as usize)?;
+    Ok(p)
 }

@@ -9,16 +9,6 @@ pub(crate) fn entry(list: &[u16], i: usize) -> usize {
     usize::from(item(list, i))
 }
 
-// Where v's list begins, or column v.
-pub(crate) fn start(starts: &[u32], v: usize) -> usize {
-    item(starts, v) as usize
-}
-
-// Where it ends.
-pub(crate) fn end(starts: &[u32], v: usize) -> usize {
-    start(starts, v.saturating_add(1))
-}
-
 // The entries from one place up to, not including, another; none where there are not so many.
 pub(crate) fn between<'a, T>(list: &'a [T], first: usize, end: usize) -> &'a [T] {
     list.get(first..end).unwrap_or(&[])
@@ -26,7 +16,8 @@ pub(crate) fn between<'a, T>(list: &'a [T], first: usize, end: usize) -> &'a [T]
 
 // What is lent for v's list, or for column v.
 pub(crate) fn entries<'a, T>(starts: &[u32], list: &'a [T], v: usize) -> &'a [T] {
-    between(list, start(starts, v), end(starts, v))
+    let end = item(starts, v.saturating_add(1)) as usize;
+    between(list, item(starts, v) as usize, end)
 }
 
 // The nodes in a list.
@@ -34,8 +25,8 @@ pub(crate) fn nodes_in(list: &[u16]) -> u64 {
     list.iter().fold(0u64, |s, v| s | only(usize::from(*v)))
 }
 
-// Whether one of the first n ends before it begins.
-pub(crate) fn falling(n: usize, starts: &[u32]) -> bool {
+// Whether one of the first n lists ends before it begins.
+pub(crate) fn some_falls(n: usize, starts: &[u32]) -> bool {
     starts.windows(2).take(n).any(|w| !w.is_sorted())
 }
 

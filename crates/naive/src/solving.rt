@@ -1,30 +1,27 @@
 // The solution of document 02's E9, over the dense matrix of the factorization: every pair of a column and a row is looked at, in the order of the
 // sentence. Refusals 28 and 13 are right for every plan; the others, and the solution, for at most 64 nodes, and `TOO_LARGE` stands for them beyond.
-use crate::factoring::{cell, columns_of, first_values, pivot_fails, spread};
-use crate::file::lent_refusal;
-use crate::sets::{has, row};
+use crate::factoring::{cell, check_values, first_values, pivot_fails, rows_of, spread};
+use crate::given::{GivenPlan, GivenValues};
+use crate::refused::{Refused, refused_if};
+use crate::sets::has;
 
-// What solving hands out: the refusal or 0, and the first entries of the vector as they are left, 0 behind its end.
-#[derive(Drop)]
-pub struct NaiveSolution {
-    pub refusal: u32,
-    pub vector: [f64; 64],
+// l times entry k "is subtracted from" entry t.
+fn subtract(x: &mut [f64; 64], l: f64, k: usize, t: usize) {
+    let product = l * x[k % 64];
+    x[t % 64] -= product;
 }
 
-// "l times" entry k "is subtracted from" entry t, with the l of row i in column j, where s are that column's rows. A pair without a slot has no l.
-fn subtract(x: &mut [f64; 64], m: &[f64; 4096], s: u64, j: usize, i: usize, k: usize, t: usize) {
-    if has(s, i) {
-        let product = cell(m, j, i) * x[k % 64];
-        x[t % 64] -= product;
+// "The rows ascending, l times the column's entry is subtracted from the row's", in column j, whose rows are s.
+fn forward_column(x: &mut [f64; 64], m: &[f64; 4096], s: u64, j: usize) {
+    for i in (0..64usize).filter(|i| has(s, *i)) {
+        subtract(x, cell(m, j, i), j, i);
     }
 }
 
-// "Columns ascending, in each the rows ascending, l times the column's entry is subtracted from the row's".
-fn forward(x: &mut [f64; 64], m: &[f64; 4096], columns: &[u64; 64]) {
-    for pair in 0..4096usize {
-        let j = pair / 64;
-        let i = pair % 64;
-        subtract(x, m, row(columns, j), j, i, j, i);
+// "Columns ascending".
+fn forward(x: &mut [f64; 64], m: &[f64; 4096], sets: &[u64; 64]) {
+    for (j, s) in sets.iter().enumerate() {
+        forward_column(x, m, *s, j);
     }
 }
 
@@ -35,97 +32,37 @@ fn divide(x: &mut [f64; 64], m: &[f64; 4096], n: usize) {
     }
 }
 
-// "Columns descending, in each the rows ascending, l times the row's entry is subtracted from the column's".
-fn backward(x: &mut [f64; 64], m: &[f64; 4096], columns: &[u64; 64]) {
-    for pair in 0..4096usize {
-        let j = 63 - pair / 64;
-        let i = pair % 64;
-        subtract(x, m, row(columns, j), j, i, i, j);
+// "In each the rows ascending, l times the row's entry is subtracted from the column's".
+fn backward_column(x: &mut [f64; 64], m: &[f64; 4096], s: u64, j: usize) {
+    for i in (0..64usize).filter(|i| has(s, *i)) {
+        subtract(x, cell(m, j, i), i, j);
     }
 }
 
-// A refusal, which leaves the vector as found.
-fn unsolved(number: u32, vector: &[f64]) -> NaiveSolution {
-    NaiveSolution {
-        refusal: number,
-        vector: first_values(vector),
+// "Columns descending".
+fn backward(x: &mut [f64; 64], m: &[f64; 4096], sets: &[u64; 64]) {
+    for (j, s) in sets.iter().enumerate().rev() {
+        backward_column(x, m, *s, j);
     }
 }
 
-// The solution of a plan whose checks pass.
-fn solved(
-    n: usize,
-    column_starts: &[u32],
-    rows: &[u16],
-    diagonal: &[f64],
-    values: &[f64],
-    vector: &[f64],
-) -> NaiveSolution {
-    let m = spread(n, column_starts, rows, diagonal, values);
-    let columns = columns_of(n, column_starts, rows);
+// The checks of the factorization, the vector's length among them, then 31: "the vector (n long) included, then 31 for every pivot, before anything is
+// changed".
+fn check_solve(plan: GivenPlan, lent: GivenValues, vector: &[f64]) -> Result<(), Refused> {
+    check_values(plan, lent)?;
+    refused_if(vector.len() != plan.columns.nodes, 30)?;
+    refused_if(lent.diagonal.iter().any(|d| pivot_fails(*d)), 31)
+}
+
+// What solving hands out: the first entries of the vector as they are left, 0 behind its end. A refusal leaves the vector as found.
+pub fn solve(plan: GivenPlan, lent: GivenValues, vector: &[f64]) -> Result<[f64; 64], Refused> {
+    check_solve(plan, lent, vector)?;
+    let columns = plan.columns;
+    let m = spread(columns, lent);
+    let sets = rows_of(columns);
     let mut x = first_values(vector);
-    forward(&mut x, &m, &columns);
-    divide(&mut x, &m, n);
-    backward(&mut x, &m, &columns);
-    NaiveSolution {
-        refusal: 0,
-        vector: x,
-    }
-}
-
-// The first of 29, 30 and 31 that fails, or 0: "the vector (n long) included, then 31 for every pivot, before anything is changed".
-fn late_refusal(
-    unknowns: usize,
-    n: usize,
-    s: usize,
-    diagonal: &[f64],
-    values: &[f64],
-    vector: &[f64],
-) -> u32 {
-    if 1 < unknowns {
-        return 29;
-    }
-    if diagonal.len() != n || values.len() != s || vector.len() != n {
-        return 30;
-    }
-    if diagonal.iter().any(|d| pivot_fails(*d)) {
-        return 31;
-    }
-    0
-}
-
-// What solving hands out, with the checks of the factorization first.
-pub fn solve(
-    unknowns: usize,
-    n: usize,
-    p: usize,
-    s: usize,
-    order: &[u16],
-    sizes: &[u16],
-    parents: &[u16],
-    column_starts: &[u32],
-    rows: &[u16],
-    diagonal: &[f64],
-    values: &[f64],
-    vector: &[f64],
-) -> NaiveSolution {
-    let number = lent_refusal(
-        unknowns,
-        n,
-        p,
-        s,
-        order,
-        sizes,
-        parents,
-        column_starts,
-        rows,
-    );
-    if number != 0 {
-        return unsolved(number, vector);
-    }
-    let late = late_refusal(unknowns, n, s, diagonal, values, vector);
-    if late != 0 {
-        return unsolved(late, vector);
-    }
-    solved(n, column_starts, rows, diagonal, values, vector)
+    forward(&mut x, &m, &sets);
+    divide(&mut x, &m, columns.nodes);
+    backward(&mut x, &m, &sets);
+    Ok(x)
 }

@@ -1,5 +1,5 @@
 // The lines of a text, their words, and the numbers that these say. A line is told by where it begins; its words are counted from 0.
-use crate::lists::item;
+use crate::lists::{between, item};
 
 // The least number that is none of 32 bits.
 const NO_NUMBER: usize = 4294967296;
@@ -89,12 +89,11 @@ fn with_digit(x: usize, digit: u8) -> Option<usize> {
 // The number that word k says: "numbers are digits only", of at most 32 bits.
 pub(crate) fn number(text: &[u8], line: usize, k: usize) -> Option<usize> {
     let mut x = 0usize;
-    for i in word(text, line, k)..line_end(text, line) {
-        let digit = item(text, i);
-        if separates(digit) {
+    for digit in between(text, word(text, line, k), line_end(text, line)) {
+        if separates(*digit) {
             return Some(x);
         }
-        x = with_digit(x, digit)?;
+        x = with_digit(x, *digit)?;
     }
     Some(x)
 }
