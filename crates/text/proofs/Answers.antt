@@ -7,8 +7,8 @@ use Prim.Native.Nat.{ℕ, zero, suc, ◌+◌, ◌≤◌, ◌<◌}
 use native.Mathlib.Omega.{arith}
 use lib.ListN.{length, get_or, take, drop, length-append, get_or-append}
 use borrow.Author.Tests.{le-ltb}
-use Rattle.plan.specs.declared.PlanAnswer.{PlanAnswer}
-use Rattle.plan.specs.declared.PlanAnswer.TheVariants.{Accepted, Refused}
+use Rattle.std.specs.Prelude.{Result, Ok, Err}
+use Rattle.plan.specs.declared.refusal.Refusal.{Refusal}
 use Rattle.plan.specs.declared.Plan.{Plan}
 use Rattle.plan.specs.Lists.{below, list_at}
 use Rattle.plan.specs.Refusals.{Checks, first_fault}
@@ -160,24 +160,24 @@ module _ (m : Mesh) (p : Plan) (found left : Buffers) (h : Holds (listed_plan m)
 -- ---- an answer
 
 -- an answer and buffers from which `text` is listed
-pub record Listed (answer : PlanAnswer) (left : Buffers) (text : List ℕ) : Type 0 where
+pub record Listed (answer : Result Plan Refusal) (left : Buffers) (text : List ℕ) : Type 0 where
   pub same : answer_text answer left.order left.sizes left.column_starts left.rows ≡ text
   pub held : AnswerWithin answer left.order left.sizes left.column_starts left.rows
 
 -- a plan
-accepted-listed : (m : Mesh) (answer : PlanAnswer) (found left : Buffers) → Filled (hand_out 0 (listed_plan m)) answer found left → Listed answer left (print 0 (listed_plan m))
+accepted-listed : (m : Mesh) (answer : Result Plan Refusal) (found left : Buffers) → Filled (hand_out 0 (listed_plan m)) answer found left → Listed answer left (print 0 (listed_plan m))
 unfolding answer_text AnswerWithin hand_out
-accepted-listed m (Accepted p) found left h = let held = accepted-holds (listed_plan m) p found left h in record { same = plan_text m p found left held; held = plan-within m p found left held }
-accepted-listed m (Refused j) found left h = absurd (omega (arith, ap (λ (r : Reply). length r.values) h.reply))
+accepted-listed m (Ok p) found left h = let held = accepted-holds (listed_plan m) p found left h in record { same = plan_text m p found left held; held = plan-within m p found left held }
+accepted-listed m (Err j) found left h = absurd (omega (arith, ap (λ (r : Reply). length r.values) h.reply))
 
 -- a refusal
-refused-listed : (k : ℕ) (m : Mesh) (answer : PlanAnswer) (found left : Buffers) → Filled (hand_out (suc k) (listed_plan m)) answer found left → Listed answer left (print (suc k) (listed_plan m))
+refused-listed : (k : ℕ) (m : Mesh) (answer : Result Plan Refusal) (found left : Buffers) → Filled (hand_out (suc k) (listed_plan m)) answer found left → Listed answer left (print (suc k) (listed_plan m))
 unfolding hand_out answer_text AnswerWithin print
-refused-listed k m (Accepted p) found left h = absurd (omega (arith, ap (λ (r : Reply). r.number) h.reply))
-refused-listed k m (Refused j) found left h = record { same = ap refusal_line (ap (λ (r : Reply). r.number) h.reply); held = tt }
+refused-listed k m (Ok p) found left h = absurd (omega (arith, ap (λ (r : Reply). r.number) h.reply))
+refused-listed k m (Err j) found left h = record { same = ap refusal_line (ap (λ (r : Reply). r.number) h.reply); held = tt }
 
 -- planning's answer, where the buffers are long enough
-pub planned-listed : (m : Mesh) → m.nodes ≤ max_listed_nodes → (answer : PlanAnswer) (found left : Buffers) → Roomy (capacity found) → Planned 1 m answer found left
+pub planned-listed : (m : Mesh) → m.nodes ≤ max_listed_nodes → (answer : Result Plan Refusal) (found left : Buffers) → Roomy (capacity found) → Planned 1 m answer found left
     → Listed answer left (mesh_text m)
 unfolding planning mesh_text
 planned-listed m few answer found left room h =

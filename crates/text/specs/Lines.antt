@@ -1,8 +1,10 @@
 -- The lines of the listing by what they say, and the plan that the lent slices hold.
 use mathlib.Core.List.{List, [], ◌∷◌, ◌++◌, map, flatten}
 use Rattle.std.specs.Prelude.{ℕ, ◌≤◌, ◌<◌, length, take}
-use Rattle.plan.specs.declared.PlanAnswer.{PlanAnswer}
-use Rattle.plan.specs.declared.PlanAnswer.TheVariants.{Accepted, Refused}
+use Rattle.std.specs.Prelude.{Result, Ok, Err}
+use Rattle.plan.specs.declared.Plan.{Plan}
+use Rattle.plan.specs.declared.refusal.Refusal.{Refusal}
+use Rattle.plan.specs.Refusals.{number_of}
 use Rattle.plan.specs.Lists.{below}
 use Rattle.plan.specs.Refusals.{first_fault}
 use Rattle.plan.specs.Mesh.{Mesh, mesh_checks}
@@ -47,14 +49,14 @@ pub record PlanWithin (n p : ℕ) (order sizes column_starts rows : List ℕ) : 
   pub columns : (j : ℕ) → j < n → ListWithin column_starts rows j
 
 -- what is listed for an answer of planning: the plan in the buffers, or the refusal
-unfoldable pub answer_text : PlanAnswer → List ℕ → List ℕ → List ℕ → List ℕ → List ℕ
-answer_text (Accepted p) order sizes column_starts rows = print 0 (lent_plan p.nodes p.parts p.slots order sizes column_starts rows)
-answer_text (Refused k) order sizes column_starts rows = refusal_line k
+unfoldable pub answer_text : Result Plan Refusal → List ℕ → List ℕ → List ℕ → List ℕ → List ℕ
+answer_text (Ok p) order sizes column_starts rows = print 0 (lent_plan p.nodes p.parts p.slots order sizes column_starts rows)
+answer_text (Err r) order sizes column_starts rows = refusal_line (number_of r)
 
 -- where a plan is, the buffers hold it
-unfoldable pub AnswerWithin : PlanAnswer → List ℕ → List ℕ → List ℕ → List ℕ → Type 0
-AnswerWithin (Accepted p) order sizes column_starts rows = PlanWithin p.nodes p.parts order sizes column_starts rows
-AnswerWithin (Refused k) order sizes column_starts rows = Unit {0}
+unfoldable pub AnswerWithin : Result Plan Refusal → List ℕ → List ℕ → List ℕ → List ℕ → Type 0
+AnswerWithin (Ok p) order sizes column_starts rows = PlanWithin p.nodes p.parts order sizes column_starts rows
+AnswerWithin (Err r) order sizes column_starts rows = Unit {0}
 
 -- the listing of a mesh: its plan, or the number of its first fault
 unfoldable pub mesh_text : Mesh → List ℕ

@@ -5,7 +5,6 @@ ghost use Rattle.plan.specs.File.{decode16};
 ghost use Rattle.plan.specs.Listing.{neighbours_at, entry_count, input_mesh, bad_input};
 
 use coding::{read16, read16s, read32};
-use mesh::wide;
 
 // the most nodes of a mesh that is listed
 pub(crate) const LISTED_NODES: usize = 256;
@@ -17,7 +16,7 @@ pub(crate) fn node_count(input: &[u8]) -> usize
     requires { 2 ≤ length input.now }
     ensures { (result ≡ decode16 input.now 0) × (result < 65536) }
 {
-    wide(read16(input, 0))
+    read16(input, 0) as usize
 }
 
 // Where the neighbours begin. O(1).

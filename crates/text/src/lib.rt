@@ -6,15 +6,17 @@ mod listed;
 mod output;
 
 ghost use Rattle.std.specs.Prelude.{◌≡◌, false, [], ◌≤◌};
-ghost use Rattle.plan.specs.Mesh.{lent};
 ghost use Rattle.plan.specs.Listing.{max_listed_nodes, input_mesh, bad_input, listing};
+ghost use Rattle.mesh.specs.Lent.{lent_by};
 ghost use Rattle.text.specs.Lines.{mesh_text};
 
 use crate::input::{
     LISTED_ENTRIES, LISTED_NODES, bad_input, entry_count, node_count, read_neighbours, read_starts,
 };
 use crate::listed::put_answer;
+use mesh::LentMesh;
 pub use output::Text;
+use plan::Refusal;
 
 // the unknowns for each node that the plan of a listing is for
 const LISTED_UNKNOWNS: usize = 1;
@@ -22,9 +24,9 @@ const LISTED_UNKNOWNS: usize = 1;
 const LISTED_SLOTS: usize = 32640;
 
 // The listing of a mesh: its plan, or the number of its first fault. O(planning + n · parts + slots · digits).
-fn put_mesh(text: &mut Text, n: usize, starts: &[u32], neighbours: &[u16])
-    requires { (n ≤ max_listed_nodes) × (text.old ≡ []) }
-    ensures { text.new ≡ mesh_text (lent n starts.now neighbours.now) }
+fn put_mesh(text: &mut Text, mesh: &LentMesh)
+    requires { (mesh.now.nodes ≤ max_listed_nodes) × (text.old ≡ []) }
+    ensures { text.new ≡ mesh_text (lent_by mesh.now) }
 {
     let mut order = [0; LISTED_NODES];
     let mut positions = [0; LISTED_NODES];
@@ -34,9 +36,7 @@ fn put_mesh(text: &mut Text, n: usize, starts: &[u32], neighbours: &[u16])
     let mut rows = [0; LISTED_SLOTS];
     let answer = planner::plan(
         LISTED_UNKNOWNS,
-        n,
-        starts,
-        neighbours,
+        mesh,
         &mut order,
         &mut positions,
         &mut sizes,
@@ -58,7 +58,12 @@ fn put_input(text: &mut Text, input: &[u8])
     read_neighbours(input, &mut neighbours);
     let n = node_count(input);
     let entries = entry_count(input);
-    put_mesh(text, n, &starts[..n + 1], &neighbours[..entries]);
+    let mesh = LentMesh {
+        nodes: n,
+        starts: &starts[..n + 1],
+        neighbours: &neighbours[..entries],
+    };
+    put_mesh(text, &mesh);
 }
 
 // The listing, whole: what the program writes when it has read these bytes: check 20, then the mesh. O(planning + n · parts + slots · digits).
@@ -67,7 +72,7 @@ pub fn list(input: &[u8]) -> Text
 {
     let mut text = Text::new();
     if bad_input(input) {
-        text.refusal(20);
+        text.refusal(Refusal::Input);
     } else {
         put_input(&mut text, input);
     }

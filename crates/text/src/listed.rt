@@ -8,7 +8,7 @@ ghost use Rattle.text.specs.Room.{longest};
 
 use crate::output::Text;
 use mesh::list;
-use plan::{Plan, PlanAnswer};
+use plan::{Plan, Refusal};
 
 // The part in which position i lies: "Parts take the positions in turn, each as many as its size." O(parts).
 fn part_of(sizes: &[u16], i: usize) -> usize
@@ -63,7 +63,7 @@ fn put_plan(
 // What is listed for an answer of planning: the plan in the buffers, or the refusal. O(n · parts + slots · digits).
 pub(crate) fn put_answer(
     text: &mut Text,
-    answer: PlanAnswer,
+    answer: Result<Plan, Refusal>,
     order: &[u16],
     sizes: &[u16],
     column_starts: &[u32],
@@ -74,9 +74,9 @@ pub(crate) fn put_answer(
     ensures { text.new ≡ text.old ++ answer_text answer order.now sizes.now column_starts.now rows.now }
 {
     match answer {
-        PlanAnswer::Accepted(counts) => {
+        Ok(counts) => {
             put_plan(text, counts, order, sizes, column_starts, rows);
         }
-        PlanAnswer::Refused(number) => text.refusal(number),
+        Err(refusal) => text.refusal(refusal),
     }
 }

@@ -1,12 +1,13 @@
 // The text that is written: each method puts what it is named for behind what the text holds.
 ghost use Rattle.std.specs.Prelude.{◌≡◌, List, ℕ, [], ◌∷◌, ◌++◌, ◌+◌, ◌≤◌, length};
+ghost use Rattle.plan.specs.Refusals.{number_of};
 ghost use Rattle.plan.specs.Listing.{decimal, spaced, line_of, refusal_line};
 ghost use Rattle.text.specs.Lines.{labelled, head_of};
 ghost use Rattle.text.specs.Room.{longest};
 
 use arrayvec::ArrayString;
 use itoa::Buffer;
-use plan::Plan;
+use plan::{Plan, Refusal};
 use std::marker::Model;
 
 // How many bytes the text has room for. No listing is longer: the first line has at most 32 bytes, each of 256 lines at most 12 besides its rows, and
@@ -110,11 +111,11 @@ impl Text {
     }
 
     // A refusal: "refused" and its number. O(digits).
-    pub(crate) fn refusal(&mut self, number: u32)
-        requires { length self.old + length (refusal_line number) ≤ longest }
-        ensures { self.new ≡ self.old ++ refusal_line number }
+    pub(crate) fn refusal(&mut self, refusal: Refusal)
+        requires { length self.old + length (refusal_line (number_of refusal)) ≤ longest }
+        ensures { self.new ≡ self.old ++ refusal_line (number_of refusal) }
     {
-        self.labelled("refused", number);
+        self.labelled("refused", refusal.number());
         self.word("\n");
     }
 }

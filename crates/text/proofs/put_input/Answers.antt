@@ -26,14 +26,14 @@ entry_count-entries-requires c = (passes (goal.at.entry_count-entries-requires c
 pub slice_bounds-starts-end : goal.slice_bounds-starts-end
 slice_bounds-starts-end c = starts-room c.args.input.now _ c.read_starts.new.starts c.node_count-n.result c.node_count-n.ensures.0 c.read_starts.ensures
 
-pub slice_bounds-put_mesh-end : goal.slice_bounds-put_mesh-end
-slice_bounds-put_mesh-end c = sym (length-take-le _ _ (starts-room c.args.input.now _ c.read_starts.new.starts c.node_count-n.result c.node_count-n.ensures.0 c.read_starts.ensures))
+pub slice_bounds-mesh-end : goal.slice_bounds-mesh-end
+slice_bounds-mesh-end c = sym (length-take-le _ _ (starts-room c.args.input.now _ c.read_starts.new.starts c.node_count-n.result c.node_count-n.ensures.0 c.read_starts.ensures))
 
 pub slice_bounds-neighbours-end : goal.slice_bounds-neighbours-end
 slice_bounds-neighbours-end c = entries-room c.args.input.now _ c.read_neighbours.new.neighbours c.entry_count-entries.result c.entry_count-entries.ensures c.read_neighbours.ensures
 
-pub slice_bounds-put_mesh-end-2 : goal.slice_bounds-put_mesh-end-2
-slice_bounds-put_mesh-end-2 c = sym (length-take-le _ _ (entries-room c.args.input.now _ c.read_neighbours.new.neighbours c.entry_count-entries.result c.entry_count-entries.ensures c.read_neighbours.ensures))
+pub slice_bounds-mesh-end-2 : goal.slice_bounds-mesh-end-2
+slice_bounds-mesh-end-2 c = sym (length-take-le _ _ (entries-room c.args.input.now _ c.read_neighbours.new.neighbours c.entry_count-entries.result c.entry_count-entries.ensures c.read_neighbours.ensures))
 
 pub put_mesh-requires : goal.put_mesh-requires
 put_mesh-requires c = (omega (arith, (passes (goal.at.put_mesh-requires c).Start).nodes, c.node_count-n.ensures.0), c.requires.1)
