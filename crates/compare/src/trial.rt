@@ -1,113 +1,66 @@
 // One mesh planned by both planners.
-use meshes::{Case, Held, Lengths, first16, first32, front16, front32};
-use naive::NaivePlan;
+use mesh::LentMesh;
+use meshes::{Buffers, Held, Lengths, front};
+use naive::{NodeLists, Refused, Room};
 
-// The refusal, or 0, whether both planners answer the same and leave the same, and whether the planner's plan keeps the rule for uncut parts.
+// The naive refusal, if there is one, whether both planners answer the same and leave the same, and whether the planner's plan keeps the rule for uncut
+// parts.
 #[derive(Clone, Copy)]
 pub(crate) struct Outcome {
-    pub(crate) refusal: u32,
+    pub(crate) refusal: Option<Refused>,
     pub(crate) same: bool,
     pub(crate) cliques: bool,
 }
 
-// The length of the rows where there are so many slots.
-fn rows_length(l: Lengths, slots: u32) -> usize {
-    let most = slots as usize + l.rows_more % 65536;
-    if most < l.rows_less {
-        return 0;
-    }
-    most - l.rows_less
-}
-
-fn plan_naively(
-    unknowns: usize,
-    n: usize,
-    starts: &[u32],
-    neighbours: &[u16],
-    l: Lengths,
-    rows: usize,
-) -> NaivePlan {
-    naive::plan(
+// What the planner leaves.
+fn plan(unknowns: usize, mesh: NodeLists, room: Room) -> Held {
+    let mut buffers = Buffers::new();
+    let lent = LentMesh {
+        nodes: mesh.nodes,
+        starts: mesh.starts,
+        neighbours: mesh.entries,
+    };
+    let answer = planner::plan(
         unknowns,
-        n,
-        starts,
-        neighbours,
-        l.order,
-        l.positions,
-        l.sizes,
-        l.parents,
-        l.column_starts,
-        rows,
-    )
+        &lent,
+        front(&mut buffers.order, room.order),
+        front(&mut buffers.positions, room.positions),
+        front(&mut buffers.sizes, room.sizes),
+        front(&mut buffers.parents, room.parents),
+        front(&mut buffers.column_starts, room.column_starts),
+        front(&mut buffers.rows, room.rows),
+    );
+    Held { answer, buffers }
 }
 
 // Whether every uncut part of the plan that was handed out is a clique. A refusal hands out none.
-fn keeps_cliques(starts: &[u32], neighbours: &[u16], h: Held) -> bool {
-    if h.refusal != 0 {
-        return true;
+fn keeps_cliques(mesh: NodeLists, h: &Held) -> bool {
+    match h.answer {
+        Ok(p) => naive::uncut_cliques(mesh, h.buffers.lists_of(&p)),
+        Err(_) => true,
     }
-    let parts = h.parts as usize;
-    let order = h.order;
-    let sizes = h.sizes;
-    let parents = h.parents;
-    naive::uncut_cliques(starts, neighbours, parts, &order, &sizes, &parents)
+}
+
+// The lengths of the results that are lent for a mesh. Their rows go by the slots of its plan, if it has one.
+fn room_for(unknowns: usize, mesh: NodeLists, l: Lengths) -> Room {
+    let enough = Room {
+        rows: 2016,
+        ..l.room(0)
+    };
+    match naive::plan(unknowns, mesh, enough) {
+        Ok(p) => l.room(p.slots as usize),
+        Err(_) => l.room(0),
+    }
 }
 
 // Lends both planners the same. Entries that are not used should stay as found, past a result's length too.
-pub(crate) fn try_lent(
-    unknowns: usize,
-    n: usize,
-    starts: &[u32],
-    neighbours: &[u16],
-    l: Lengths,
-) -> Outcome {
-    let room = plan_naively(unknowns, n, starts, neighbours, l, 2016);
-    let rows_room = rows_length(l, room.slots);
-    let p = plan_naively(unknowns, n, starts, neighbours, l, rows_room);
-    let mut order = [meshes::STALE_ORDER; 80];
-    let mut positions = [meshes::STALE_POSITIONS; 80];
-    let mut sizes = [meshes::STALE_SIZES; 80];
-    let mut parents = [meshes::STALE_PARENTS; 80];
-    let mut column_starts = [meshes::STALE_COLUMN_STARTS; 80];
-    let mut rows = [meshes::STALE_ROWS; 2100];
-    let answer = planner::plan(
-        unknowns,
-        n,
-        starts,
-        neighbours,
-        front16(&mut order, l.order),
-        front16(&mut positions, l.positions),
-        front16(&mut sizes, l.sizes),
-        front16(&mut parents, l.parents),
-        front32(&mut column_starts, l.column_starts),
-        front16(&mut rows, rows_room),
-    );
-    let h = meshes::answered(
-        answer,
-        order,
-        positions,
-        sizes,
-        parents,
-        column_starts,
-        rows,
-    );
+pub(crate) fn try_lent(unknowns: usize, mesh: NodeLists, l: Lengths) -> Outcome {
+    let room = room_for(unknowns, mesh, l);
+    let want = naive::plan(unknowns, mesh, room);
+    let h = plan(unknowns, mesh, room);
     Outcome {
-        refusal: p.refusal,
-        same: meshes::agrees(h, p),
-        cliques: keeps_cliques(starts, neighbours, h),
+        refusal: want.err(),
+        same: h.agrees(&want),
+        cliques: keeps_cliques(mesh, &h),
     }
-}
-
-pub(crate) fn try_case(unknowns: usize, c: Case) -> Outcome {
-    let starts = c.starts;
-    let neighbours = c.neighbours;
-    let start_count = c.start_count;
-    let entry_count = c.entry_count;
-    try_lent(
-        unknowns,
-        c.n,
-        first32(&starts, start_count),
-        first16(&neighbours, entry_count),
-        c.lengths,
-    )
 }
