@@ -1,11 +1,8 @@
 -- `planfile::lent::UsedPlan::check` meets its contract: its tests are checks 15 to 19, in their order, and those passed tell what the next one
 -- requires.
-use mathlib.Core.Path.{◌≡◌, sym, ◌∙◌}
-use mathlib.Core.Bool.{false}
+use mathlib.Core.Path.{sym, ◌∙◌}
 use native.Mathlib.Omega.{arith}
 use Rattle.std.proofs.lemmas.Result.{err_from_is_err_and}
-use Rattle.plan.specs.Refusals.{first_fault}
-use Rattle.plan.specs.Mesh.{bad_starts}
 use Rattle.theory.proofs.Refusals.{number-suc}
 use Rattle.filechecks.proofs.Fields.{order_checks}
 use Rattle.planfile.specs.LentPlans.{used_by}
