@@ -4,3 +4,4 @@ pub mod Following
 pub mod Merging
 pub mod MergedLists
 pub mod Joined
+pub mod Handed

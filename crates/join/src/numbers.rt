@@ -2,20 +2,21 @@
 ghost use Rattle.std.specs.Prelude.{◌≡◌, true, false, cond, ℕ, ◌≤◌, ◌<◌, length, take, get_or};
 ghost use Rattle.plan.specs.Lists.{is_in, index_of, twice};
 ghost use Rattle.plan.specs.Mesh.{max_nodes};
-ghost use Rattle.plan.specs.Joining.{pairing};
 ghost use Rattle.theory.specs.Pairings.{Paired};
 ghost use Rattle.join.specs.Numbers.{following, Destinations};
+ghost use Rattle.join.specs.Pairings.{pairing_of};
 
+use crate::Pairing;
 use mesh::{NONE, filled};
 use plan::Plan;
 
 // Each paired node of the second mesh goes to its node of the first. O(pairs).
-fn put_paired(first: &[u16], second: &[u16], goes: &mut [u16])
-    requires { (length first.now ≡ length second.now) × (twice second.now ≡ false) × ((w : ℕ) → is_in w second.now ≡ true → w < length goes.old) }
-    ensures { (length goes.new ≡ length goes.old) × ((w : ℕ) → get_or goes.new w 0 ≡ cond (is_in w second.now) (get_or first.now (index_of w second.now) 0) (get_or goes.old w 0)) }
+fn put_paired(pairs: &Pairing, goes: &mut [u16])
+    requires { (length pairs.now.first.now ≡ length pairs.now.second.now) × (twice pairs.now.second.now ≡ false) × ((w : ℕ) → is_in w pairs.now.second.now ≡ true → w < length goes.old) }
+    ensures { (length goes.new ≡ length goes.old) × ((w : ℕ) → get_or goes.new w 0 ≡ cond (is_in w pairs.now.second.now) (get_or pairs.now.first.now (index_of w pairs.now.second.now) 0) (get_or goes.old w 0)) }
 {
-    for (k, &w) in second.iter().enumerate() {
-        goes[w as usize] = first[k];
+    for (k, &w) in pairs.second.iter().enumerate() {
+        goes[w as usize] = pairs.first[k];
     }
 }
 
@@ -34,17 +35,12 @@ fn put_unpaired(n1: usize, n2: usize, goes: &mut [u16])
 }
 
 // Where each node of the second mesh goes. O(4,096 + n2 + pairs).
-pub(crate) fn destinations(
-    n1: usize,
-    n2: usize,
-    first: &[u16],
-    second: &[u16],
-) -> [u16; Plan::NODES]
-    requires { (n1 ≤ max_nodes) × (n2 ≤ max_nodes) × Paired n1 n2 (pairing first.now second.now) }
-    ensures { Destinations n1 n2 (pairing first.now second.now) result }
+pub(crate) fn destinations(n1: usize, n2: usize, pairs: &Pairing) -> [u16; Plan::NODES]
+    requires { (n1 ≤ max_nodes) × (n2 ≤ max_nodes) × Paired n1 n2 (pairing_of pairs.now) }
+    ensures { Destinations n1 n2 (pairing_of pairs.now) result }
 {
     let mut goes = filled(NONE);
-    put_paired(first, second, &mut goes);
+    put_paired(pairs, &mut goes);
     put_unpaired(n1, n2, &mut goes);
     goes
 }

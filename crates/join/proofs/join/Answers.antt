@@ -1,90 +1,74 @@
--- `join` meets its contract.
-use mathlib.Core.Path.{◌≡◌, sym, ap, subst, ◌∙◌}
-use mathlib.Core.Bool.{false}
-use Prim.Native.Nat.{ℕ, ◌+◌, ◌-◌, ◌≤◌}
+-- `join` meets its contract: each check tells that the next one is the first fault, and behind all the lists are merged.
+use mathlib.Core.Path.{◌≡◌, sym, ◌∙◌}
 use native.Mathlib.Omega.{arith}
-use lib.ListN.{length}
+use Rattle.std.proofs.lemmas.Result.{err_from_is_err_and}
 use Rattle.plan.specs.Refusals.{first_fault}
-use Rattle.plan.specs.Mesh.{max_nodes, Mesh, lent, bad_node_count}
-use Rattle.plan.specs.MadeMesh.{mesh_of, mesh_buffers}
-use Rattle.plan.specs.Joining.{pairing, joined_nodes, lent_checks}
-use Rattle.theory.proofs.Checked.{node_count}
-use Rattle.theory.proofs.JoinedMesh.{LentPassed, lent-passed}
-use Rattle.join.specs.Lists.{merged_lists, Mergeable}
-use Rattle.join.specs.Checks.{ListsHanded}
-use Rattle.join.proofs.Joined.{refused-lent, refused_1, handed_join, nodes_counted, goes_once, goes_few, mergeable, merged-mesh}
-use Rattle.join.proofs.join.Goals.{Else-fault-ne0, Else-bad_node_count}
+use Rattle.plan.specs.Joining.{lent_checks}
+use Rattle.plan.specs.Mesh.{mesh_checks}
+use Rattle.plan.specs.MadeMesh.{mesh_buffers}
+use Rattle.mesh.specs.Lent.{lent_by, as_lent}
+use Rattle.join.specs.Pairings.{pairing_of}
+use Rattle.join.proofs.Joined.{behind-second, refused_pairs, carried, carried_clear, passed, nodes_counted, refused_count, goes_once, goes_few, mergeable, handed_join}
+use Rattle.join.proofs.join.Goals.{In_ok-second, In_ok-check}
 use Rattle.join.proofs.join.Goals as goal
 
-pub returns-then-fault-ne0 : goal.returns-then-fault-ne0
-returns-then-fault-ne0 c = refused-lent (lent c.args.n1 c.args.starts1.now c.args.neighbours1.now) (lent c.args.n2 c.args.starts2.now c.args.neighbours2.now) (pairing c.args.first.now c.args.second.now) (mesh_buffers c.args.starts.now c.args.neighbours.now) c.lent_refusal-fault.result (omega arith) c.lent_refusal-fault.ensures
+-- neither mesh has a fault
+clear1 : (c : In_ok-second) → 0 ≡ first_fault (mesh_checks (as_lent c.in_ok-first.first))
+clear1 c = carried_clear (lent_by c.args.a.now) (as_lent c.in_ok-first.first) c.in_ok-first.ensures.passed c.in_ok-first.ensures.fault
 
-clear : (c : Else-fault-ne0) → first_fault (lent_checks (lent c.args.n1 c.args.starts1.now c.args.neighbours1.now) (lent c.args.n2 c.args.starts2.now c.args.neighbours2.now) (pairing c.args.first.now c.args.second.now)) ≡ 0
-clear c = sym c.lent_refusal-fault.ensures ∙ c.if-fault-ne0.false
+clear2 : (c : In_ok-second) → 0 ≡ first_fault (mesh_checks (as_lent c.in_ok-second.second))
+clear2 c = carried_clear (lent_by c.args.b.now) (as_lent c.in_ok-second.second) c.in_ok-second.ensures.passed c.in_ok-second.ensures.fault
 
-clear_at_else_bad_node_count : (c : Else-bad_node_count) → first_fault (lent_checks (lent c.args.n1 c.args.starts1.now c.args.neighbours1.now) (lent c.args.n2 c.args.starts2.now c.args.neighbours2.now) (pairing c.args.first.now c.args.second.now)) ≡ 0
-clear_at_else_bad_node_count c = sym c.lent_refusal-fault.ensures ∙ c.if-fault-ne0.false
+-- nor have the pairs
+clear : (c : In_ok-check) → first_fault (lent_checks (as_lent c.in_ok-first.first) (as_lent c.in_ok-second.second) (pairing_of c.args.pairs.now)) ≡ 0
+clear c =
+    behind-second (as_lent c.in_ok-first.first) (as_lent c.in_ok-second.second) (pairing_of c.args.pairs.now)
+    (carried_clear (lent_by c.args.a.now) (as_lent c.in_ok-first.first) c.in_ok-first.ensures.passed c.in_ok-first.ensures.fault)
+    (carried_clear (lent_by c.args.b.now) (as_lent c.in_ok-second.second) c.in_ok-second.ensures.passed c.in_ok-second.ensures.fault)
+    ∙ sym c.in_ok-check.ensures
 
-passed : (c : Else-fault-ne0) → LentPassed (lent c.args.n1 c.args.starts1.now c.args.neighbours1.now) (lent c.args.n2 c.args.starts2.now c.args.neighbours2.now) (pairing c.args.first.now c.args.second.now)
-passed c = lent-passed (lent c.args.n1 c.args.starts1.now c.args.neighbours1.now) (lent c.args.n2 c.args.starts2.now c.args.neighbours2.now) (pairing c.args.first.now c.args.second.now) (clear c)
+pub returns-in_err-check : goal.returns-in_err-check
+returns-in_err-check c =
+    let o = (goal.at.returns-in_err-check c).In_ok-second in
+    let q = err_from_is_err_and c.from_residual-in_err-check.result c.from_residual-in_err-check.ensures.1 in
+    rw (q.1, q.2)
+    (carried (lent_by c.args.a.now) (lent_by c.args.b.now) (as_lent c.in_ok-first.first) (as_lent c.in_ok-second.second) (pairing_of c.args.pairs.now) c.in_ok-first.ensures.passed c.in_ok-second.ensures.passed _ _ _
+    (refused_pairs (as_lent c.in_ok-first.first) (as_lent c.in_ok-second.second) (pairing_of c.args.pairs.now) (mesh_buffers c.args.starts.now c.args.neighbours.now) c.in_err-check.field-0.0 (clear1 o) (clear2 o) c.in_err-check.ensures))
 
-passed_at_else_bad_node_count : (c : Else-bad_node_count) → LentPassed (lent c.args.n1 c.args.starts1.now c.args.neighbours1.now) (lent c.args.n2 c.args.starts2.now c.args.neighbours2.now) (pairing c.args.first.now c.args.second.now)
-passed_at_else_bad_node_count c = lent-passed (lent c.args.n1 c.args.starts1.now c.args.neighbours1.now) (lent c.args.n2 c.args.starts2.now c.args.neighbours2.now) (pairing c.args.first.now c.args.second.now) (clear_at_else_bad_node_count c)
-
-counted : (c : Else-fault-ne0) → (length c.args.first.now ≤ c.args.n1 + c.args.n2) × ((c.args.n1 + c.args.n2 - length c.args.first.now) ≡ joined_nodes c.args.n1 c.args.n2 (pairing c.args.first.now c.args.second.now))
-counted c = nodes_counted (lent c.args.n1 c.args.starts1.now c.args.neighbours1.now) (lent c.args.n2 c.args.starts2.now c.args.neighbours2.now) (pairing c.args.first.now c.args.second.now) (passed c)
-
-counted_at_else_bad_node_count : (c : Else-bad_node_count) → (length c.args.first.now ≤ c.args.n1 + c.args.n2) × ((c.args.n1 + c.args.n2 - length c.args.first.now) ≡ joined_nodes c.args.n1 c.args.n2 (pairing c.args.first.now c.args.second.now))
-counted_at_else_bad_node_count c = nodes_counted (lent c.args.n1 c.args.starts1.now c.args.neighbours1.now) (lent c.args.n2 c.args.starts2.now c.args.neighbours2.now) (pairing c.args.first.now c.args.second.now) (passed_at_else_bad_node_count c)
+pub overflow_sub-nodes : goal.overflow_sub-nodes
+overflow_sub-nodes c = (nodes_counted (as_lent c.in_ok-first.first) (as_lent c.in_ok-second.second) (pairing_of c.args.pairs.now) (clear (goal.at.overflow_sub-nodes c).In_ok-check)).0
 
 pub returns-then-bad_node_count : goal.returns-then-bad_node_count
 returns-then-bad_node_count c =
-    refused_1 (lent c.args.n1 c.args.starts1.now c.args.neighbours1.now) (lent c.args.n2 c.args.starts2.now c.args.neighbours2.now) (pairing c.args.first.now c.args.second.now) (mesh_buffers c.args.starts.now c.args.neighbours.now) (clear (goal.at.returns-then-bad_node_count c).Else-fault-ne0)
-    (ap bad_node_count (sym (counted (goal.at.returns-then-bad_node_count c).Else-fault-ne0).1) ∙ sym c.bad_node_count.ensures ∙ c.if-bad_node_count.true)
-
--- ---- nor has their number
-good : (c : Else-bad_node_count) → bad_node_count (joined_nodes c.args.n1 c.args.n2 (pairing c.args.first.now c.args.second.now)) ≡ false
-good c = ap bad_node_count (sym (counted_at_else_bad_node_count c).1) ∙ sym c.bad_node_count.ensures ∙ c.if-bad_node_count.false
-
-few : (c : Else-bad_node_count) → joined_nodes c.args.n1 c.args.n2 (pairing c.args.first.now c.args.second.now) ≤ max_nodes
-few c = (node_count (joined_nodes c.args.n1 c.args.n2 (pairing c.args.first.now c.args.second.now)) (good c)).1
+    carried (lent_by c.args.a.now) (lent_by c.args.b.now) (as_lent c.in_ok-first.first) (as_lent c.in_ok-second.second) (pairing_of c.args.pairs.now) c.in_ok-first.ensures.passed c.in_ok-second.ensures.passed _ _ _
+    (refused_count (as_lent c.in_ok-first.first) (as_lent c.in_ok-second.second) (pairing_of c.args.pairs.now) (clear (goal.at.returns-then-bad_node_count c).In_ok-check) (mesh_buffers c.args.starts.now c.args.neighbours.now) (sym c.bad_node_count.ensures ∙ c.if-bad_node_count.true))
 
 pub destinations-goes-requires : goal.destinations-goes-requires
-destinations-goes-requires c = let h = passed (goal.at.destinations-goes-requires c).Else-fault-ne0 in (h.first.few, h.second.few, h.pairs)
+destinations-goes-requires c =
+    let h = passed (as_lent c.in_ok-first.first) (as_lent c.in_ok-second.second) (pairing_of c.args.pairs.now) (clear (goal.at.destinations-goes-requires c).In_ok-check) in
+    (h.first.few, h.second.few, h.pairs)
 
 pub origins-from-requires : goal.origins-from-requires
 origins-from-requires c =
-    let h = passed (goal.at.origins-from-requires c).Else-fault-ne0 in (
-      h.second.few,
-      omega (arith, c.destinations-goes.ensures.long, h.second.few),
-      goes_once (lent c.args.n1 c.args.starts1.now c.args.neighbours1.now) (lent c.args.n2 c.args.starts2.now c.args.neighbours2.now) (pairing c.args.first.now c.args.second.now) h (few (goal.at.origins-from-requires c).Else-bad_node_count) c.destinations-goes.result c.destinations-goes.ensures,
-      goes_few (lent c.args.n1 c.args.starts1.now c.args.neighbours1.now) (lent c.args.n2 c.args.starts2.now c.args.neighbours2.now) (pairing c.args.first.now c.args.second.now) h (few (goal.at.origins-from-requires c).Else-bad_node_count) c.destinations-goes.result c.destinations-goes.ensures,
+    let one = as_lent c.in_ok-first.first in
+    let other = as_lent c.in_ok-second.second in
+    let none = clear (goal.at.origins-from-requires c).In_ok-check in
+    let good = sym c.bad_node_count.ensures ∙ c.if-bad_node_count.false in
+    let few = c.in_ok-second.second.checked.few in (
+      few,
+      omega (arith, c.destinations-goes.ensures.long, few),
+      goes_once one other (pairing_of c.args.pairs.now) none good c.destinations-goes.result c.destinations-goes.ensures,
+      goes_few one other (pairing_of c.args.pairs.now) none good c.destinations-goes.result c.destinations-goes.ensures,
     )
 
-pub hand_out-requires : goal.hand_out-requires
-hand_out-requires c =
-    subst (λ (n : ℕ). Mergeable (lent c.args.n1 c.args.starts1.now c.args.neighbours1.now) (lent c.args.n2 c.args.starts2.now c.args.neighbours2.now) c.destinations-goes.result c.origins-from.result n) (sym (counted (goal.at.hand_out-requires c).Else-fault-ne0).1)
-    (mergeable (lent c.args.n1 c.args.starts1.now c.args.neighbours1.now) (lent c.args.n2 c.args.starts2.now c.args.neighbours2.now) (pairing c.args.first.now c.args.second.now) (passed (goal.at.hand_out-requires c).Else-fault-ne0) (few (goal.at.hand_out-requires c).Else-bad_node_count) c.destinations-goes.result c.destinations-goes.ensures c.origins-from.result c.origins-from.ensures.0 c.origins-from.ensures.1)
+pub invariant_of-merging : goal.invariant_of-merging
+invariant_of-merging c = record {
+  mergeable = mergeable (as_lent c.in_ok-first.first) (as_lent c.in_ok-second.second) (pairing_of c.args.pairs.now) (clear (goal.at.invariant_of-merging c).In_ok-check) (sym c.bad_node_count.ensures ∙ c.if-bad_node_count.false)
+      c.destinations-goes.result c.destinations-goes.ensures c.origins-from.result c.origins-from.ensures.0 c.origins-from.ensures.1;
+}
 
 pub returns : goal.returns
 returns c =
-    handed_join (lent c.args.n1 c.args.starts1.now c.args.neighbours1.now) (lent c.args.n2 c.args.starts2.now c.args.neighbours2.now) (pairing c.args.first.now c.args.second.now) (mesh_buffers c.args.starts.now c.args.neighbours.now) (clear (goal.at.returns c).Else-fault-ne0) (good (goal.at.returns c).Else-bad_node_count) _ _
-    (subst (λ (m : Mesh). ListsHanded m c.hand_out.result (mesh_buffers c.args.starts.now c.args.neighbours.now) (mesh_buffers c.hand_out.new.starts c.hand_out.new.neighbours))
-    (ap (λ (n : ℕ). mesh_of n (merged_lists (lent c.args.n1 c.args.starts1.now c.args.neighbours1.now) (lent c.args.n2 c.args.starts2.now c.args.neighbours2.now) c.destinations-goes.result c.origins-from.result n)) (counted (goal.at.returns c).Else-fault-ne0).1
-    ∙ merged-mesh (lent c.args.n1 c.args.starts1.now c.args.neighbours1.now) (lent c.args.n2 c.args.starts2.now c.args.neighbours2.now) (pairing c.args.first.now c.args.second.now) (passed (goal.at.returns c).Else-fault-ne0) (few (goal.at.returns c).Else-bad_node_count) c.destinations-goes.result c.destinations-goes.ensures c.origins-from.result c.origins-from.ensures.0 c.origins-from.ensures.1)
-    c.hand_out.ensures)
-
-pub overflow_add-n : goal.overflow_add-n
-overflow_add-n c = let h = passed (goal.at.overflow_add-n c).Else-fault-ne0 in omega (arith, h.first.few, h.second.few)
-
-pub overflow_sub-n : goal.overflow_sub-n
-overflow_sub-n c = (counted (goal.at.overflow_sub-n c).Else-fault-ne0).0
-
-pub slice_bounds-origins-end : goal.slice_bounds-origins-end
-slice_bounds-origins-end c = sym c.destinations-goes.ensures.long
-
-pub slice_bounds-hand_out-end : goal.slice_bounds-hand_out-end
-slice_bounds-hand_out-end c = sym c.destinations-goes.ensures.long
-
-pub slice_bounds-hand_out-end-2 : goal.slice_bounds-hand_out-end-2
-slice_bounds-hand_out-end-2 c = sym c.origins-from.ensures.0
+    carried (lent_by c.args.a.now) (lent_by c.args.b.now) (as_lent c.in_ok-first.first) (as_lent c.in_ok-second.second) (pairing_of c.args.pairs.now) c.in_ok-first.ensures.passed c.in_ok-second.ensures.passed _ _ _
+    (handed_join (as_lent c.in_ok-first.first) (as_lent c.in_ok-second.second) (pairing_of c.args.pairs.now) (clear (goal.at.returns c).In_ok-check) (sym c.bad_node_count.ensures ∙ c.if-bad_node_count.false)
+    c.destinations-goes.result c.destinations-goes.ensures c.origins-from.result c.origins-from.ensures.0 c.origins-from.ensures.1 _ _ _ c.hand_out.ensures)

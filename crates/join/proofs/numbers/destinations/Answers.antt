@@ -21,8 +21,8 @@ put_unpaired-requires c = search rules
 
 pub returns : goal.returns
 returns c =
-    let first : List ℕ = c.args.first.now in
-    let second : List ℕ = c.args.second.now in
+    let first : List ℕ = c.args.pairs.now.first.now in
+    let second : List ℕ = c.args.pairs.now.second.now in
     let goes : List ℕ = c.put_paired.new.goes in
     let paired : (w : ℕ) → w < c.args.n2 → get_or goes w 0 ≡ cond (is_in w second) (get_or first (index_of w second) 0) none =
     λ w lt. c.put_paired.ensures.1 w

@@ -10,12 +10,12 @@ use Rattle.join.proofs.numbers.put_paired.Goals.{In-loop-k}
 use Rattle.join.proofs.numbers.put_paired.Goals as goal
 
 pub loop-k-init : goal.loop-k-init
-loop-k-init c = scattered_none c.args.second.now (λ i. get_or c.args.first.now i 0) c.args.goes.now
+loop-k-init c = scattered_none c.args.pairs.now.second.now (λ i. get_or c.args.pairs.now.first.now i 0) c.args.goes.now
 
 -- the node that goes has a place
-inside : (c : In-loop-k) → get_or c.args.second.now c.loop-k.k 0 < length c.args.goes.now
+inside : (c : In-loop-k) → get_or c.args.pairs.now.second.now c.loop-k.k 0 < length c.args.goes.now
 inside c =
-    let second : List ℕ = c.args.second.now in
+    let second : List ℕ = c.args.pairs.now.second.now in
     omega (arith, c.requires.2 (get_or second c.loop-k.k 0) (is_in-get_or second c.loop-k.k 0 (omega arith)))
 
 pub loop-k-preserved : goal.loop-k-preserved

@@ -1,4 +1,4 @@
--- `join::checks::repeats` meets its contract: each node met is marked, and one that is met again stands twice.
+-- `join::pairing::repeats` meets its contract: each node met is marked, and one that is met again stands twice.
 use mathlib.Core.Path.{refl, sym, ap, ◌∙◌}
 use mathlib.Core.List.{List}
 use Prim.Native.Nat.{ℕ, ◌<◌}
@@ -8,8 +8,8 @@ use Rattle.plan.specs.Mesh.{max_nodes}
 use Rattle.theory.proofs.Lists.{is_in-get_or}
 use Rattle.mesh.proofs.Lists.{filled_at}
 use Rattle.join.proofs.Seen.{seen_all, seen_again, seen_more}
-use Rattle.join.proofs.checks.repeats.Goals.{In-loop-v}
-use Rattle.join.proofs.checks.repeats.Goals as goal
+use Rattle.join.proofs.pairing.repeats.Goals.{In-loop-v}
+use Rattle.join.proofs.pairing.repeats.Goals as goal
 
 pub loop-v-init : goal.loop-v-init
 loop-v-init c = record { long = c.filled-seen.ensures.1; once = refl; marked = λ v l. ap (λ (marks : List ℕ). get_or marks v 0) c.filled-seen.ensures.0 ∙ filled_at 0 v l }
