@@ -1,6 +1,5 @@
 -- `hand_out` meets its contract.
 use mathlib.Core.Path.{◌≡◌, refl, ap, sym, ◌∙◌}
-use mathlib.Core.Bool.{false}
 use native.Mathlib.Omega.{arith}
 use lib.Dec.{ltb}
 use Rattle.plan.specs.Lists.{exists}
@@ -9,7 +8,7 @@ use Rattle.plan.specs.MadeMesh.{mesh_of, mesh_buffers, mesh_capacity, mesh_buffe
 use Rattle.theory.proofs.HandedMesh.{mesh-fits}
 use Rattle.matrix_market.specs.SortedPairs.{key_lists}
 use Rattle.matrix_market.proofs.Reading.{lists_long, refused_26, refused_8, accepted_lists}
-use Rattle.matrix_market.proofs.hand_out.Goals.{After-too_long, After-too_short, Else-too_short}
+use Rattle.matrix_market.proofs.hand_out.Goals.{After-too_long, After-too_short}
 use Rattle.matrix_market.proofs.hand_out.Goals as goal
 
 -- 26 is told by the lengths of the lists
@@ -24,46 +23,20 @@ short : (c : After-too_short) → mesh_buffers_too_short (mesh_of c.args.n (key_
 unfolding mesh_of mesh_capacity
 short c = sym (c.too_short.ensures (mesh_of c.args.n (key_lists c.args.n c.args.keys.now)) refl c.requires.2)
 
--- 8 by those of the buffers
-short_at_else_too_short : (c : Else-too_short) → mesh_buffers_too_short (mesh_of c.args.n (key_lists c.args.n c.args.keys.now)) (mesh_capacity (mesh_buffers c.args.starts.now c.args.neighbours.now)) ≡ c.too_short.result
-unfolding mesh_of mesh_capacity
-short_at_else_too_short c = sym (c.too_short.ensures (mesh_of c.args.n (key_lists c.args.n c.args.keys.now)) refl c.requires.2)
-
 pub returns-then-too_long : goal.returns-then-too_long
-returns-then-too_long c = refused_26 (mesh_of c.args.n (key_lists c.args.n c.args.keys.now)) (mesh_buffers c.args.starts.now c.args.neighbours.now) (long (goal.at.returns-then-too_long c).After-too_long ∙ c.if-too_long.true)
+returns-then-too_long c = refused_26 _ _ (long (goal.at.returns-then-too_long c).After-too_long ∙ c.if-too_long.true)
 
 pub returns-then-too_short : goal.returns-then-too_short
-returns-then-too_short c = refused_8 (mesh_of c.args.n (key_lists c.args.n c.args.keys.now)) (mesh_buffers c.args.starts.now c.args.neighbours.now) (long (goal.at.returns-then-too_short c).After-too_long ∙ c.if-too_long.false) (short (goal.at.returns-then-too_short c).After-too_short ∙ c.if-too_short.true)
-
-fits : (c : Else-too_short) → mesh_buffers_too_short (mesh_of c.args.n (key_lists c.args.n c.args.keys.now)) (mesh_capacity (mesh_buffers c.args.starts.now c.args.neighbours.now)) ≡ false
-fits c = short_at_else_too_short c ∙ c.if-too_short.false
+returns-then-too_short c = refused_8 _ _ (long (goal.at.returns-then-too_short c).After-too_long ∙ c.if-too_long.false) (short (goal.at.returns-then-too_short c).After-too_short ∙ c.if-too_short.true)
 
 pub write_lists-requires : goal.write_lists-requires
 unfolding mesh_of
 write_lists-requires c =
     record {
       sorted_pairs = (c.requires.0, omega (arith, c.count_entries-counts.ensures.0, c.requires.0.few), c.count_entries-counts.ensures.1);
-      n_in_bounds = mesh-fits (mesh_of c.args.n (key_lists c.args.n c.args.keys.now)) (mesh_buffers c.args.starts.now c.args.neighbours.now) (fits (goal.at.write_lists-requires c).Else-too_short);
+      n_in_bounds = mesh-fits (mesh_of c.args.n (key_lists c.args.n c.args.keys.now)) (mesh_buffers c.args.starts.now c.args.neighbours.now) (short (goal.at.write_lists-requires c).After-too_short ∙ c.if-too_short.false);
     }
 
 pub returns : goal.returns
 unfolding mesh_of
-returns c = accepted_lists (mesh_of c.args.n (key_lists c.args.n c.args.keys.now)) (mesh_buffers c.args.starts.now c.args.neighbours.now) _ _ (long (goal.at.returns c).After-too_long ∙ c.if-too_long.false) (fits (goal.at.returns c).Else-too_short) refl (sym c.requires.2) c.write_lists.ensures.starts_after c.write_lists.ensures.neighbours_after
-
-pub count_entries-counts-requires : goal.count_entries-counts-requires
-count_entries-counts-requires c = c.requires.0
-
-pub slice_bounds-too_long-end : goal.slice_bounds-too_long-end
-slice_bounds-too_long-end c = sym c.count_entries-counts.ensures.0
-
-pub too_long-requires : goal.too_long-requires
-too_long-requires c = omega (arith, c.count_entries-counts.ensures.0, c.requires.0.few)
-
-pub slice_bounds-write_lists-end : goal.slice_bounds-write_lists-end
-slice_bounds-write_lists-end c = sym c.count_entries-counts.ensures.0
-
-pub overflow_cast-result : goal.overflow_cast-result
-overflow_cast-result c = omega (arith, c.requires.0.few)
-
-pub overflow_cast-result-2 : goal.overflow_cast-result-2
-overflow_cast-result-2 c = omega (arith, c.requires.1)
+returns c = accepted_lists (mesh_of c.args.n (key_lists c.args.n c.args.keys.now)) _ _ _ (long (goal.at.returns c).After-too_long ∙ c.if-too_long.false) (short (goal.at.returns c).After-too_short ∙ c.if-too_short.false) refl (sym c.requires.2) c.write_lists.ensures.starts_after c.write_lists.ensures.neighbours_after
