@@ -6,6 +6,7 @@ ghost use Rattle.plan.specs.Factoring.{column_operations, zero_report, open_repo
 ghost use Rattle.factor.specs.Working.{Lent, Reached};
 
 use crate::column::factor_column;
+use crate::table::Columns;
 use plan::{FactorAnswer, Plan, Report};
 
 // A refusal, with a report of zeros. O(1).
@@ -34,22 +35,21 @@ fn work(c: usize) -> u64
 }
 
 // The multiplications and divisions of column j. O(1).
-fn operations(starts: &[u32], j: usize) -> u64
-    requires { (j + 1 < length starts.now) × (get_or starts.now j 0 ≤ get_or starts.now (j + 1) 0) × (get_or starts.now (j + 1) 0 - get_or starts.now j 0 ≤ max_nodes) }
-    ensures { result ≡ column_operations starts.now j }
+fn operations(columns: &Columns, j: usize) -> u64
+    requires { (j + 1 < length columns.now.starts.now) × (get_or columns.now.starts.now j 0 ≤ get_or columns.now.starts.now (j + 1) 0) × (get_or columns.now.starts.now (j + 1) 0 - get_or columns.now.starts.now j 0 ≤ max_nodes) }
+    ensures { result ≡ column_operations columns.now.starts.now j }
 {
-    work(starts[j + 1] as usize - starts[j] as usize)
+    work(columns.starts[j + 1] as usize - columns.starts[j] as usize)
 }
 
 // The columns, with the report after each. O(4,096 + multiplications + rows of the columns that are run down).
 pub(crate) fn factor_columns(
-    starts: &[u32],
-    rows: &[u16],
+    columns: &Columns,
     diagonal: &mut [f64],
     values: &mut [f64],
 ) -> FactorAnswer
-    requires { Lent starts.now rows.now diagonal.old values.old }
-    ensures { Reached (factor_from starts.now rows.now 0 (length diagonal.old) open_report
+    requires { Lent columns.now.starts.now columns.now.rows.now diagonal.old values.old }
+    ensures { Reached (factor_from columns.now.starts.now columns.now.rows.now 0 (length diagonal.old) open_report
         (record { diagonal = diagonal.old; values = values.old })) result diagonal.new values.new }
 {
     let mut kept = [0.0; Plan::NODES];
@@ -62,8 +62,7 @@ pub(crate) fn factor_columns(
             return refused(31);
         }
         factor_column(
-            starts,
-            rows,
+            columns,
             diagonal,
             values,
             &mut kept,
@@ -72,7 +71,7 @@ pub(crate) fn factor_columns(
             j,
             d,
         );
-        report = report.after(d, operations(starts, j));
+        report = report.after(d, operations(columns, j));
     }
     FactorAnswer { refusal: 0, report }
 }

@@ -5,6 +5,7 @@ ghost use Rattle.plan.specs.Planning.{contents};
 ghost use Rattle.plan.specs.Factoring.{bad_filling, factor_checks, Factored};
 
 use crate::columns::{factor_columns, refused};
+use crate::table::Columns;
 use plan::FactorAnswer;
 use planfile::supplied_refusal;
 
@@ -91,5 +92,9 @@ pub fn factor(
         return refused(fault);
     }
     let end = n + 1;
-    factor_columns(&column_starts[..end], &rows[..s], diagonal, values)
+    let columns = Columns {
+        starts: &column_starts[..end],
+        rows: &rows[..s],
+    };
+    factor_columns(&columns, diagonal, values)
 }

@@ -9,6 +9,7 @@ mod held;
 mod passes;
 mod rows;
 mod solution;
+mod table;
 
 pub use entry::factor;
 pub use held::held_at;

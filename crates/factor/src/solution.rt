@@ -7,6 +7,7 @@ ghost use Rattle.plan.specs.Solving.{bad_pivot, solve_checks, Solved};
 use crate::columns::is_pivot;
 use crate::entry::refusal;
 use crate::passes::{backward_columns, forward_columns, scale};
+use crate::table::Columns;
 
 // Check 31: a pivot is not both finite and above zero. O(n).
 #[tactic(auto, unfolding(plan::specs::Solving::bad_pivot))]
@@ -95,10 +96,12 @@ pub fn solve(
         return fault;
     }
     let end = n + 1;
-    let starts = &column_starts[..end];
-    let slots = &rows[..s];
-    forward_columns(starts, slots, values, vector);
+    let columns = Columns {
+        starts: &column_starts[..end],
+        rows: &rows[..s],
+    };
+    forward_columns(&columns, values, vector);
     scale(diagonal, vector);
-    backward_columns(starts, slots, values, vector);
+    backward_columns(&columns, values, vector);
     0
 }

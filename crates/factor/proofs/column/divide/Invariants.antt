@@ -1,5 +1,4 @@
 -- `factor::column::divide` meets its contract: slot after slot, each value is kept, then divided, and what comes of it is kept too.
-use Prim.Native.Nat.{◌-◌}
 use Rattle.factor.proofs.ColumnSteps.{Dividing}
 use Rattle.factor.proofs.column.divide.Given as goal
 

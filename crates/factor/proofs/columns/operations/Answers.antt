@@ -4,4 +4,4 @@ use Rattle.theory.proofs.Factoring.{column-planned}
 use Rattle.factor.proofs.columns.operations.Goals as goal
 
 pub returns : goal.returns
-returns c = c.work.ensures ∙ sym (column-planned c.args.starts.now c.args.j)
+returns c = c.work.ensures ∙ sym (column-planned c.args.columns.now.starts.now c.args.j)

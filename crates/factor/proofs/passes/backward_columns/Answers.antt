@@ -1,5 +1,4 @@
 -- `factor::passes::backward_columns` meets its contract: the columns below j are left.
-use native.Mathlib.Omega.{arith}
 use lib.ListN.{length}
 use Rattle.plan.specs.Solving.{backward_column, backward}
 use Rattle.factor.proofs.PassSteps.{descending_ends}
@@ -7,4 +6,4 @@ use Rattle.factor.proofs.passes.backward_columns.Goals as goal
 
 pub returns : goal.returns
 unfolding backward
-returns c = descending_ends (backward_column c.args.starts.now c.args.rows.now c.args.values.now) (length c.args.vector.now) c.args.vector.now c.loop-j.j c.loop-j.vector c.loop-j.invariant c.loop-j-test.false
+returns c = descending_ends (backward_column c.args.columns.now.starts.now c.args.columns.now.rows.now c.args.values.now) (length c.args.vector.now) c.args.vector.now c.loop-j.j c.loop-j.vector c.loop-j.invariant c.loop-j-test.false

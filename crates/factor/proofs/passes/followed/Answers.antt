@@ -14,19 +14,19 @@ and_false : (a b : Bool) → b ≡ false → (a && b) ≡ false
 and_false true b e = e
 and_false false b e = refl
 
-pub returns-then-starts-j : goal.returns-then-starts-j
+pub returns-then-columns-j : goal.returns-then-columns-j
 unfolding continued
-returns-then-starts-j c =
-    let none : get_or c.args.starts.now (c.args.j + 1) 0 - get_or c.args.starts.now c.args.j 0 ≡ 0 = omega (arith, c.if-starts-j.true) in
-    rw none (sym (and_false (eqb (get_or c.args.rows.now (get_or c.args.starts.now c.args.j 0) 0) (c.args.j + 1)) _ (ne_eqb 0 (get_or c.args.starts.now (c.args.j + 1 + 1) 0 - get_or c.args.starts.now (c.args.j + 1) 0 + 1) (λ e. omega (arith, e)))))
+returns-then-columns-j c =
+    let none : get_or c.args.columns.now.starts.now (c.args.j + 1) 0 - get_or c.args.columns.now.starts.now c.args.j 0 ≡ 0 = omega (arith, c.if-columns-j.true) in
+    rw none (sym (and_false (eqb (get_or c.args.columns.now.rows.now (get_or c.args.columns.now.starts.now c.args.j 0) 0) (c.args.j + 1)) _ (ne_eqb 0 (get_or c.args.columns.now.starts.now (c.args.j + 1 + 1) 0 - get_or c.args.columns.now.starts.now (c.args.j + 1) 0 + 1) (λ e. omega (arith, e)))))
 
 pub continues-requires : goal.continues-requires
 continues-requires c =
-    let slots = slot_inside c.args.n c.args.starts.now c.args.rows.now c.requires.0.plan c.args.j c.requires.1 in
-    let some : get_or c.args.starts.now c.args.j 0 < get_or c.args.starts.now (c.args.j + 1) 0 = omega (arith, slots, c.if-starts-j.false) in
-    let row = slot_after c.args.n c.args.starts.now c.args.rows.now c.requires.0.plan c.args.j c.requires.1 (get_or c.args.starts.now c.args.j 0) (omega arith) some in
+    let slots = slot_inside c.args.n c.args.columns.now.starts.now c.args.columns.now.rows.now c.requires.0.plan c.args.j c.requires.1 in
+    let some : get_or c.args.columns.now.starts.now c.args.j 0 < get_or c.args.columns.now.starts.now (c.args.j + 1) 0 = omega (arith, slots, c.if-columns-j.false) in
+    let row = slot_after c.args.n c.args.columns.now.starts.now c.args.columns.now.rows.now c.requires.0.plan c.args.j c.requires.1 (get_or c.args.columns.now.starts.now c.args.j 0) (omega arith) some in
     let next : c.args.j + 1 < c.args.n = omega (arith, row) in
-    let slotsNext = slot_inside c.args.n c.args.starts.now c.args.rows.now c.requires.0.plan (c.args.j + 1) next in
+    let slotsNext = slot_inside c.args.n c.args.columns.now.starts.now c.args.columns.now.rows.now c.requires.0.plan (c.args.j + 1) next in
     record {
       known = omega (arith, c.requires.0.plan.starts.many, c.requires.1);
       known_next = omega (arith, c.requires.0.plan.starts.many, next);

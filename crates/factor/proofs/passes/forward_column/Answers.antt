@@ -13,33 +13,33 @@ use Rattle.factor.proofs.passes.forward_column.Goals as goal
 
 pub loop-s-init : goal.loop-s-init
 loop-s-init c = (
-  turning_begins (less_row c.args.rows.now c.args.values.now c.args.j) (get_or c.args.starts.now c.args.j 0) (get_or c.args.starts.now (c.args.j + 1) 0) c.args.vector.now
-      (slot_inside (length c.args.vector.now) c.args.starts.now c.args.rows.now c.requires.0.plan c.args.j c.requires.1).0,
+  turning_begins (less_row c.args.columns.now.rows.now c.args.values.now c.args.j) (get_or c.args.columns.now.starts.now c.args.j 0) (get_or c.args.columns.now.starts.now (c.args.j + 1) 0) c.args.vector.now
+      (slot_inside (length c.args.vector.now) c.args.columns.now.starts.now c.args.columns.now.rows.now c.requires.0.plan c.args.j c.requires.1).0,
   refl,
 )
 
 -- slot s and its row are inside
-inside : (c : In-loop-s) → (c.loop-s.s < length c.args.rows.now) × (c.loop-s.s < length c.args.values.now) × (get_or c.args.rows.now c.loop-s.s 0 < length c.loop-s.vector)
+inside : (c : In-loop-s) → (c.loop-s.s < length c.args.columns.now.rows.now) × (c.loop-s.s < length c.args.values.now) × (get_or c.args.columns.now.rows.now c.loop-s.s 0 < length c.loop-s.vector)
 inside c =
-    let ends = slot_inside (length c.args.vector.now) c.args.starts.now c.args.rows.now c.requires.0.plan c.args.j c.requires.1 in
-    let row = slot_after (length c.args.vector.now) c.args.starts.now c.args.rows.now c.requires.0.plan c.args.j c.requires.1 c.loop-s.s c.loop-s.invariant.0.low c.loop-s-test.true in
+    let ends = slot_inside (length c.args.vector.now) c.args.columns.now.starts.now c.args.columns.now.rows.now c.requires.0.plan c.args.j c.requires.1 in
+    let row = slot_after (length c.args.vector.now) c.args.columns.now.starts.now c.args.columns.now.rows.now c.requires.0.plan c.args.j c.requires.1 c.loop-s.s c.loop-s.invariant.0.low c.loop-s-test.true in
     (omega (arith, ends), omega (arith, ends, c.requires.0.slots), omega (arith, row, c.loop-s.invariant.0.long))
 
 pub loop-s-preserved : goal.loop-s-preserved
 loop-s-preserved c =
-    row-steps (length c.args.vector.now) c.args.starts.now c.args.rows.now c.requires.0.plan c.args.values.now c.args.j c.requires.1 c.args.vector.now c.loop-s.vector c.loop-s.s _ c.loop-s.invariant.0 c.loop-s.invariant.1 c.loop-s-test.true
+    row-steps (length c.args.vector.now) c.args.columns.now.starts.now c.args.columns.now.rows.now c.requires.0.plan c.args.values.now c.args.j c.requires.1 c.args.vector.now c.loop-s.vector c.loop-s.s _ c.loop-s.invariant.0 c.loop-s.invariant.1 c.loop-s-test.true
 
 pub returns : goal.returns
 unfolding forward_column slots_of
 returns c =
-    turning_ends (less_row c.args.rows.now c.args.values.now c.args.j) (get_or c.args.starts.now c.args.j 0) (get_or c.args.starts.now (c.args.j + 1) 0) c.args.vector.now c.loop-s.s c.loop-s.vector c.loop-s.invariant.0
+    turning_ends (less_row c.args.columns.now.rows.now c.args.values.now c.args.j) (get_or c.args.columns.now.starts.now c.args.j 0) (get_or c.args.columns.now.starts.now (c.args.j + 1) 0) c.args.vector.now c.loop-s.s c.loop-s.vector c.loop-s.invariant.0
     c.loop-s-test.false
 
-pub offset_bounds-rows-s : goal.offset_bounds-rows-s
-offset_bounds-rows-s c = search (rules, inside (goal.at.offset_bounds-rows-s c).In-loop-s)
+pub offset_bounds-columns-s : goal.offset_bounds-columns-s
+offset_bounds-columns-s c = search (rules, inside (goal.at.offset_bounds-columns-s c).In-loop-s)
 
-pub bounds-rows-s : goal.bounds-rows-s
-bounds-rows-s c = search (rules, inside (goal.at.bounds-rows-s c).In-loop-s)
+pub bounds-columns-s : goal.bounds-columns-s
+bounds-columns-s c = search (rules, inside (goal.at.bounds-columns-s c).In-loop-s)
 
 pub offset_bounds-vector-i : goal.offset_bounds-vector-i
 offset_bounds-vector-i c = search (rules, inside (goal.at.offset_bounds-vector-i c).In-loop-s)

@@ -9,5 +9,5 @@ use Rattle.factor.proofs.passes.forward_column.Given as goal
 
 abbrev pub invariant-loop-s : goal.invariant-loop-s
 invariant-loop-s l =
-    Turning (less_row l.rows l.values l.j) (get_or l.starts l.j 0) (get_or l.starts (l.j + 1) 0) l.initial.vector l.s l.vector
+    Turning (less_row l.columns.rows.now l.values l.j) (get_or l.columns.starts.now l.j 0) (get_or l.columns.starts.now (l.j + 1) 0) l.initial.vector l.s l.vector
     × (l.x ≡ get_or l.vector l.j nan)

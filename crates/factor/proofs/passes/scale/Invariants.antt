@@ -1,5 +1,4 @@
 -- `factor::passes::scale` meets its contract: the entries from j on are left to divide.
-use Prim.Native.Nat.{◌-◌}
 use lib.ListN.{length}
 use Rattle.plan.specs.Solving.{by_pivot}
 use Rattle.factor.proofs.PassSteps.{Turning}

@@ -10,16 +10,16 @@ use Rattle.factor.proofs.rows.less_down.Goals as goal
 
 pub loop-t-init : goal.loop-t-init
 loop-t-init c = (
-  lessening_begins c.args.starts.now c.args.rows.now c.args.values.now c.args.lower.now c.args.k c.args.first c.args.from c.args.to c.args.v c.requires.0,
-  running_begins c.args.starts.now c.args.rows.now c.args.k c.args.first c.args.from c.args.to (length c.args.values.now) (length c.args.lower.now) c.requires.0,
+  lessening_begins c.args.columns.now.starts.now c.args.columns.now.rows.now c.args.values.now c.args.lower.now c.args.k c.args.first c.args.from c.args.to c.args.v c.requires.0,
+  running_begins c.args.columns.now.starts.now c.args.columns.now.rows.now c.args.k c.args.first c.args.from c.args.to (length c.args.values.now) (length c.args.lower.now) c.requires.0,
   λ t a b. absurd (omega arith),
   refl,
 )
 
 -- column k goes on
-inside : (c : In-loop-t) → (c.loop-t.u < get_or c.args.starts.now (c.args.k + 1) 0) × (get_or c.args.starts.now (c.args.k + 1) 0 ≤ length c.args.rows.now) × (length c.args.rows.now ≡ length c.loop-t.values) × (length c.args.rows.now < above32)
+inside : (c : In-loop-t) → (c.loop-t.u < get_or c.args.columns.now.starts.now (c.args.k + 1) 0) × (get_or c.args.columns.now.starts.now (c.args.k + 1) 0 ≤ length c.args.columns.now.rows.now) × (length c.args.columns.now.rows.now ≡ length c.loop-t.values) × (length c.args.columns.now.rows.now < above32)
 inside c = (
-  room-left c.args.starts.now c.args.rows.now c.args.k c.args.first c.args.from c.args.to (length c.args.values.now) (length c.args.lower.now) c.requires.0 c.loop-t.t c.loop-t.u c.loop-t.invariant.1 c.loop-t-test.true,
+  room-left c.args.columns.now.starts.now c.args.columns.now.rows.now c.args.k c.args.first c.args.from c.args.to (length c.args.values.now) (length c.args.lower.now) c.requires.0 c.loop-t.t c.loop-t.u c.loop-t.invariant.1 c.loop-t-test.true,
   c.requires.0.inside,
   omega (arith, c.requires.0.filled, c.loop-t.invariant.0.long),
   c.requires.0.few,
@@ -32,10 +32,10 @@ kept c = (
   omega (arith, c.requires.1, c.requires.0.begin, c.loop-t.invariant.0.low, c.loop-t-test.true, c.loop-t.invariant.3),
 )
 
-pub loop-t-preserved-then-rows-u : goal.loop-t-preserved-then-rows-u
-loop-t-preserved-then-rows-u c = (
+pub loop-t-preserved-then-columns-u : goal.loop-t-preserved-then-columns-u
+loop-t-preserved-then-columns-u c = (
   c.loop-t.invariant.0,
-  running_skips c.args.starts.now c.args.rows.now c.args.k c.args.first c.args.from c.args.to (length c.args.values.now) (length c.args.lower.now) c.requires.0 c.loop-t.t c.loop-t.u c.loop-t.invariant.1 c.loop-t-test.true c.if-rows-u.true,
+  running_skips c.args.columns.now.starts.now c.args.columns.now.rows.now c.args.k c.args.first c.args.from c.args.to (length c.args.values.now) (length c.args.lower.now) c.requires.0 c.loop-t.t c.loop-t.u c.loop-t.invariant.1 c.loop-t-test.true c.if-columns-u.true,
   c.loop-t.invariant.2,
   c.loop-t.invariant.3,
 )
@@ -44,25 +44,25 @@ pub loop-t-preserved : goal.loop-t-preserved
 loop-t-preserved c =
     let n = length c.args.values.now in
     let m = length c.args.lower.now in
-    let place = slot_found_lem c.args.starts.now c.args.rows.now c.args.k c.args.first c.args.from c.args.to n m c.requires.0 c.loop-t.t c.loop-t.u c.loop-t.invariant.1 c.loop-t-test.true c.if-rows-u.false in (
-      lessening_steps c.args.starts.now c.args.rows.now c.args.values.now c.args.lower.now c.args.k c.args.first c.args.from c.args.to c.args.v c.requires.0 c.loop-t.values c.loop-t.t c.loop-t.invariant.0 c.loop-t-test.true c.loop-t.u place,
-      running_steps c.args.starts.now c.args.rows.now c.args.k c.args.first c.args.from c.args.to n m c.requires.0 c.loop-t.t c.loop-t.u c.loop-t.invariant.1 c.loop-t-test.true c.if-rows-u.false,
-      placed_one c.loop-t.places c.args.starts.now c.args.rows.now c.args.k c.args.first c.args.from c.loop-t.t c.loop-t.u c.requires.0.begin c.loop-t.invariant.0.low (kept (goal.at.loop-t-preserved c).In-loop-t).1 place c.loop-t.invariant.2,
+    let place = slot_found_lem c.args.columns.now.starts.now c.args.columns.now.rows.now c.args.k c.args.first c.args.from c.args.to n m c.requires.0 c.loop-t.t c.loop-t.u c.loop-t.invariant.1 c.loop-t-test.true c.if-columns-u.false in (
+      lessening_steps c.args.columns.now.starts.now c.args.columns.now.rows.now c.args.values.now c.args.lower.now c.args.k c.args.first c.args.from c.args.to c.args.v c.requires.0 c.loop-t.values c.loop-t.t c.loop-t.invariant.0 c.loop-t-test.true c.loop-t.u place,
+      running_steps c.args.columns.now.starts.now c.args.columns.now.rows.now c.args.k c.args.first c.args.from c.args.to n m c.requires.0 c.loop-t.t c.loop-t.u c.loop-t.invariant.1 c.loop-t-test.true c.if-columns-u.false,
+      placed_one c.loop-t.places c.args.columns.now.starts.now c.args.columns.now.rows.now c.args.k c.args.first c.args.from c.loop-t.t c.loop-t.u c.requires.0.begin c.loop-t.invariant.0.low (kept (goal.at.loop-t-preserved c).In-loop-t).1 place c.loop-t.invariant.2,
       length-set c.loop-t.places (c.loop-t.t - c.args.first) c.loop-t.u ∙ c.loop-t.invariant.3,
     )
 
 pub returns : goal.returns
 returns c =
     record {
-      values_after = lessening_ends c.args.starts.now c.args.rows.now c.args.values.now c.args.lower.now c.args.k c.args.first c.args.from c.args.to c.args.v c.requires.0 c.loop-t.values c.loop-t.t c.loop-t.invariant.0 c.loop-t-test.false;
+      values_after = lessening_ends c.args.columns.now.starts.now c.args.columns.now.rows.now c.args.values.now c.args.lower.now c.args.k c.args.first c.args.from c.args.to c.args.v c.requires.0 c.loop-t.values c.loop-t.t c.loop-t.invariant.0 c.loop-t-test.false;
       placed = λ t a b. c.loop-t.invariant.2 t a (omega (arith, c.loop-t-test.false));
     }
 
-pub bounds-rows-u : goal.bounds-rows-u
-bounds-rows-u c = omega (arith, inside (goal.at.bounds-rows-u c).In-loop-t)
+pub bounds-columns-u : goal.bounds-columns-u
+bounds-columns-u c = omega (arith, inside (goal.at.bounds-columns-u c).In-loop-t)
 
-pub loop-t-smaller-then-rows-u : goal.loop-t-smaller-then-rows-u
-loop-t-smaller-then-rows-u c = omega (arith, inside (goal.at.loop-t-smaller-then-rows-u c).In-loop-t)
+pub loop-t-smaller-then-columns-u : goal.loop-t-smaller-then-columns-u
+loop-t-smaller-then-columns-u c = omega (arith, inside (goal.at.loop-t-smaller-then-columns-u c).In-loop-t)
 
 pub bounds-values-u : goal.bounds-values-u
 bounds-values-u c = omega (arith, inside (goal.at.bounds-values-u c).In-loop-t)

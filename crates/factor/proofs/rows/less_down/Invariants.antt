@@ -9,8 +9,8 @@ use Rattle.factor.proofs.rows.less_down.Given as goal
 -- the slots up to t are noted
 abbrev pub invariant-loop-t : goal.invariant-loop-t
 invariant-loop-t l =
-    Lessening l.starts l.rows l.initial.values l.lower l.k l.first l.from l.to l.v l.values l.t × Running l.starts l.rows l.k l.to l.t l.u
-    × Placed l.places l.starts l.rows l.k l.first (get_or l.starts l.k 0) l.from l.t × (length l.places ≡ length l.initial.places)
+    Lessening l.columns.starts.now l.columns.rows.now l.initial.values l.lower l.k l.first l.from l.to l.v l.values l.t × Running l.columns.starts.now l.columns.rows.now l.k l.to l.t l.u
+    × Placed l.places l.columns.starts.now l.columns.rows.now l.k l.first (get_or l.columns.starts.now l.k 0) l.from l.t × (length l.places ≡ length l.initial.places)
 
 abbrev pub decreases-loop-t : goal.decreases-loop-t
-decreases-loop-t l = get_or l.starts (l.k + 1) 0 - l.u
+decreases-loop-t l = get_or l.columns.starts.now (l.k + 1) 0 - l.u

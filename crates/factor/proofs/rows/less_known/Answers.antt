@@ -9,14 +9,14 @@ use Rattle.factor.proofs.rows.less_known.Goals.{In-loop-t}
 use Rattle.factor.proofs.rows.less_known.Goals as goal
 
 pub loop-t-init : goal.loop-t-init
-loop-t-init c = lessening_begins c.args.starts.now c.args.rows.now c.args.values.now c.args.lower.now c.args.k c.args.first c.args.from c.args.to c.args.v c.requires.beside.0
+loop-t-init c = lessening_begins c.args.columns.now.starts.now c.args.columns.now.rows.now c.args.values.now c.args.lower.now c.args.k c.args.first c.args.from c.args.to c.args.v c.requires.beside.0
 
 -- the slot of t's row
-place : (c : In-loop-t) → (slot_in c.args.starts.now c.args.rows.now c.args.k (get_or c.args.rows.now c.loop-t.t 0) ≡ get_or c.args.places.now (c.loop-t.t - c.args.first) 0 + c.args.shift)
-    × (slot_in c.args.starts.now c.args.rows.now c.args.k (get_or c.args.rows.now c.loop-t.t 0) < length c.loop-t.values)
+place : (c : In-loop-t) → (slot_in c.args.columns.now.starts.now c.args.columns.now.rows.now c.args.k (get_or c.args.columns.now.rows.now c.loop-t.t 0) ≡ get_or c.args.places.now (c.loop-t.t - c.args.first) 0 + c.args.shift)
+    × (slot_in c.args.columns.now.starts.now c.args.columns.now.rows.now c.args.k (get_or c.args.columns.now.rows.now c.loop-t.t 0) < length c.loop-t.values)
     × (length c.loop-t.values < above32)
 place c =
-    let within = slot_within c.args.starts.now c.args.rows.now c.args.k c.args.first c.args.from c.args.to (length c.args.values.now) (length c.args.lower.now) c.requires.beside.0 c.loop-t.t c.loop-t.invariant.low c.loop-t-test.true in (
+    let within = slot_within c.args.columns.now.starts.now c.args.columns.now.rows.now c.args.k c.args.first c.args.from c.args.to (length c.args.values.now) (length c.args.lower.now) c.requires.beside.0 c.loop-t.t c.loop-t.invariant.low c.loop-t-test.true in (
       omega (arith, c.requires.shift_bound.0, c.requires.shift_bound.1 c.loop-t.t c.loop-t.invariant.low c.loop-t-test.true, within.0),
       omega (arith, within.1, c.requires.beside.0.inside, c.requires.beside.0.filled, c.loop-t.invariant.long),
       omega (arith, c.requires.beside.0.filled, c.requires.beside.0.few, c.loop-t.invariant.long),
@@ -30,10 +30,10 @@ kept c = (
 )
 
 pub loop-t-preserved : goal.loop-t-preserved
-loop-t-preserved c = lessening_steps c.args.starts.now c.args.rows.now c.args.values.now c.args.lower.now c.args.k c.args.first c.args.from c.args.to c.args.v c.requires.beside.0 c.loop-t.values c.loop-t.t c.loop-t.invariant c.loop-t-test.true (get_or c.args.places.now (c.loop-t.t - c.args.first) 0 + c.args.shift) (place (goal.at.loop-t-preserved c).In-loop-t).0
+loop-t-preserved c = lessening_steps c.args.columns.now.starts.now c.args.columns.now.rows.now c.args.values.now c.args.lower.now c.args.k c.args.first c.args.from c.args.to c.args.v c.requires.beside.0 c.loop-t.values c.loop-t.t c.loop-t.invariant c.loop-t-test.true (get_or c.args.places.now (c.loop-t.t - c.args.first) 0 + c.args.shift) (place (goal.at.loop-t-preserved c).In-loop-t).0
 
 pub returns : goal.returns
-returns c = lessening_ends c.args.starts.now c.args.rows.now c.args.values.now c.args.lower.now c.args.k c.args.first c.args.from c.args.to c.args.v c.requires.beside.0 c.loop-t.values c.loop-t.t c.loop-t.invariant c.loop-t-test.false
+returns c = lessening_ends c.args.columns.now.starts.now c.args.columns.now.rows.now c.args.values.now c.args.lower.now c.args.k c.args.first c.args.from c.args.to c.args.v c.requires.beside.0 c.loop-t.values c.loop-t.t c.loop-t.invariant c.loop-t-test.false
 
 pub bounds-places-t : goal.bounds-places-t
 bounds-places-t c = (kept (goal.at.bounds-places-t c).In-loop-t).1

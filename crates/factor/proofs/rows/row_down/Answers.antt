@@ -9,27 +9,27 @@ use Rattle.factor.proofs.rows.row_down.Goals.{Start}
 use Rattle.factor.proofs.rows.row_down.Goals as goal
 
 -- the row in slot s is a position
-inside : (c : Start) → (c.args.s < length c.args.rows.now) × (length c.args.rows.now < above32) × (get_or c.args.rows.now c.args.s 0 < length c.args.diagonal.now) × (get_or c.args.rows.now c.args.s 0 + 1 < length c.args.starts.now)
+inside : (c : Start) → (c.args.s < length c.args.columns.now.rows.now) × (length c.args.columns.now.rows.now < above32) × (get_or c.args.columns.now.rows.now c.args.s 0 < length c.args.diagonal.now) × (get_or c.args.columns.now.rows.now c.args.s 0 + 1 < length c.args.columns.now.starts.now)
 inside c =
-    let i = row_inside c.args.starts.now c.args.rows.now (length c.args.diagonal.now) (length c.args.values.now) (length c.args.kept.now) (length c.args.lower.now) c.args.first c.args.s c.args.to c.requires.0 in
+    let i = row_inside c.args.columns.now.starts.now c.args.columns.now.rows.now (length c.args.diagonal.now) (length c.args.values.now) (length c.args.kept.now) (length c.args.lower.now) c.args.first c.args.s c.args.to c.requires.0 in
     (i.0, i.1, i.2, i.3)
 
 pub less_down-requires : goal.less_down-requires
 less_down-requires c =
-    (row_beside c.args.starts.now c.args.rows.now (length c.args.diagonal.now) (length c.args.values.now) (length c.args.kept.now) (length c.args.lower.now) c.args.first c.args.s c.args.to c.requires.0, c.requires.1)
+    (row_beside c.args.columns.now.starts.now c.args.columns.now.rows.now (length c.args.diagonal.now) (length c.args.values.now) (length c.args.kept.now) (length c.args.lower.now) c.args.first c.args.s c.args.to c.requires.0, c.requires.1)
 
 pub returns : goal.returns
 returns c =
     record {
-      advanced = row_advances c.args.starts.now c.args.rows.now c.args.kept.now c.args.lower.now c.args.diagonal.now c.args.values.now c.less_down.new.values c.args.first c.args.s c.args.to c.requires.0 c.less_down.auto.values c.less_down.ensures.values_after;
+      advanced = row_advances c.args.columns.now.starts.now c.args.columns.now.rows.now c.args.kept.now c.args.lower.now c.args.diagonal.now c.args.values.now c.less_down.new.values c.args.first c.args.s c.args.to c.requires.0 c.less_down.auto.values c.less_down.ensures.values_after;
       placed = c.less_down.ensures.placed;
     }
 
-pub offset_bounds-rows-s : goal.offset_bounds-rows-s
-offset_bounds-rows-s c = omega (arith, inside (goal.at.offset_bounds-rows-s c).Start)
+pub offset_bounds-columns-s : goal.offset_bounds-columns-s
+offset_bounds-columns-s c = omega (arith, inside (goal.at.offset_bounds-columns-s c).Start)
 
-pub bounds-rows-s : goal.bounds-rows-s
-bounds-rows-s c = omega (arith, inside (goal.at.bounds-rows-s c).Start)
+pub bounds-columns-s : goal.bounds-columns-s
+bounds-columns-s c = omega (arith, inside (goal.at.bounds-columns-s c).Start)
 
 pub offset_bounds-diagonal-k : goal.offset_bounds-diagonal-k
 offset_bounds-diagonal-k c = search (rules, (inside (goal.at.offset_bounds-diagonal-k c).Start).2)
