@@ -3,10 +3,20 @@ use mathlib.Core.Path.{◌≡◌, refl, sym, ap, ◌∙◌}
 use mathlib.Core.List.{List}
 use Prim.Native.Nat.{ℕ, zero, suc, ◌+◌, ◌-◌, ◌≤◌, ◌<◌}
 use native.Mathlib.Omega.{arith}
-use lib.ListN.{length, get_or, set}
-use lib.Seq.{set-get_or}
+use lib.ListN.{length, get_or, set, drop, length-drop, length-take}
+use lib.Seq.{set-get_or, get_or-take, get_or-drop}
+use denote.Ref.{Bor}
+use Rattle.std.proofs.Common.{Iter}
+use Rattle.std.specs.declared.iter.Zip.{Zip}
+use Rattle.std.specs.Iterator.{Yields}
+use Rattle.std.specs.Iterator.Adapters.{zip_first, zip_second}
+use Rattle.std.specs.Slice.Iter.{iter_rest}
+use Rattle.std.proofs.iter.Yields.{fronts}
+use Rattle.std.proofs.lemmas.Iterator.{zips}
+use Rattle.std.proofs.lemmas.Slice.Zip.{zip_turn, zip_end}
+use Rattle.std.specs.Prelude.{Option, Some, None}
 use lib.Ieee.{Float, nan, sub, mul, binary64}
-use Rattle.plan.specs.Lists.{in_turn, up_from, below, down_from}
+use Rattle.plan.specs.Lists.{segment, in_turn, up_from, below, down_from}
 use Rattle.plan.specs.Filling.{slots_of}
 use Rattle.plan.specs.Factoring.{less}
 use Rattle.plan.specs.Solving.{less_row, less_column, backward_column}
@@ -68,6 +78,27 @@ module _ (rule : ℕ → List Float → List Float) (n : ℕ) (found : List Floa
   pub descending_ends : (j : ℕ) (y : List Float) → Descending rule n found j y → j ≤ 0 → y ≡ in_turn rule (down_from n) found
   descending_ends zero y h le = h.same
   descending_ends (suc j) y h le = absurd (omega arith)
+
+-- ---- the rows in some slots side by side with their values
+
+module _ (rows : List ℕ) (l : List Float) (from to : ℕ) (y : List (Bor ℕ × Bor Float)) (s t u : Zip (Iter ℕ) (Iter Float)) (r : Option (Bor ℕ × Bor Float))
+    (begin : iter_rest (zip_first s) ≡ segment rows from to) (begin_values : iter_rest (zip_second s) ≡ segment l from to) (before : Yields (zips fronts fronts) s y t) where
+  -- a turn takes the next slot
+  pub slot_turn : (p : Bor ℕ × Bor Float) → r ≡ Some p → zips fronts fronts t r u
+      → (from + length y < to) × (p.0.now ≡ get_or rows (from + length y) 0) × (p.1.now ≡ get_or l (from + length y) nan)
+  slot_turn p e h =
+      let place = zip_turn (segment rows from to) (segment l from to) y s t u r begin begin_values before p e h in
+      let few : length y < to - from = omega (arith, place.0, length-take (to - from) (drop from rows)) in (
+        omega (arith, few),
+        place.2 0 ∙ get_or-take (to - from) (drop from rows) (length y) 0 few ∙ get_or-drop from rows (length y) 0,
+        place.3 nan ∙ get_or-take (to - from) (drop from l) (length y) nan few ∙ get_or-drop from l (length y) nan,
+      )
+
+  -- where there is no turn, none is left
+  pub slots_end : to ≤ length rows → to ≤ length l → r ≡ None → zips fronts fronts t r u → to ≤ from + length y
+  slots_end inside inside_values e h =
+      let all = zip_end (segment rows from to) (segment l from to) y s t u r begin begin_values before e h in
+      omega (arith, all, length-take (to - from) (drop from rows), length-take (to - from) (drop from l), length-drop from rows, length-drop from l)
 
 -- ---- one column, whose entry x is kept beside the vector
 

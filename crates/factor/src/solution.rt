@@ -7,7 +7,7 @@ ghost use Rattle.plan.specs.Solving.{bad_pivot, solve_checks, Solved};
 use crate::columns::is_pivot;
 use crate::entry::refusal;
 use crate::passes::{backward_columns, forward_columns, scale};
-use crate::table::Columns;
+use crate::table::{Columns, FilledColumns};
 
 // Check 31: a pivot is not both finite and above zero. O(n).
 #[tactic(auto, unfolding(plan::specs::Solving::bad_pivot))]
@@ -96,12 +96,16 @@ pub fn solve(
         return fault;
     }
     let end = n + 1;
-    let columns = Columns {
-        starts: &column_starts[..end],
-        rows: &rows[..s],
+    let filled = FilledColumns {
+        nodes: n,
+        columns: Columns {
+            starts: &column_starts[..end],
+            rows: &rows[..s],
+        },
+        values,
     };
-    forward_columns(&columns, values, vector);
+    forward_columns(&filled, vector);
     scale(diagonal, vector);
-    backward_columns(&columns, values, vector);
+    backward_columns(&filled, vector);
     0
 }

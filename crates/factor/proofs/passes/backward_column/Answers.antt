@@ -1,47 +1,47 @@
--- `factor::passes::backward_column` meets its contract: with x in the column's place, the rows from slot s on are left.
-use Prim.Native.Nat.{◌<◌}
+-- `factor::passes::backward_column` meets its contract: with x in the column's place, the rows behind those yielded are left.
+use mathlib.Core.Path.{◌≡◌, sym, ap, ◌∙◌}
+use mathlib.Core.List.{[], ◌∷◌, ◌++◌}
+use Prim.Native.Nat.{◌+◌}
 use native.Mathlib.Omega.{arith}
 use borrow.Author.Rules.{rules}
-use lib.ListN.{length, get_or}
+use lib.ListN.{length, get_or, length-append}
+use Rattle.std.specs.Iterator.Adapters.{zip_first, zip_second}
+use Rattle.std.specs.Slice.Iter.{iter_rest}
+use Rattle.plan.specs.Lists.{segment}
 use Rattle.theory.proofs.FactorPlaces.{slot_inside, slot_after}
-use Rattle.factor.proofs.PassSteps.{summing_begins, summing_steps, summing_ends}
-use Rattle.factor.proofs.passes.backward_column.Goals.{In-loop-s}
+use Rattle.factor.proofs.PassSteps.{slot_turn, slots_end, summing_begins, summing_steps, summing_ends}
+use Rattle.factor.proofs.passes.backward_column.Goals.{After-into_iter-row-iterator}
 use Rattle.factor.proofs.passes.backward_column.Goals as goal
 
-pub loop-s-init : goal.loop-s-init
-loop-s-init c =
-    summing_begins (length c.args.vector.now) c.args.columns.now.starts.now c.args.columns.now.rows.now c.requires.0.plan c.args.values.now c.args.j c.requires.1 c.args.vector.now
+-- what is walked
+rows_begin : (c : After-into_iter-row-iterator) → iter_rest (zip_first c.into_iter-row-iterator.result) ≡ segment c.args.filled.now.columns.rows.now (get_or c.args.filled.now.columns.starts.now c.args.j 0) (get_or c.args.filled.now.columns.starts.now (c.args.j + 1) 0)
+rows_begin c = ap (λ z. iter_rest (zip_first z)) c.into_iter-row-iterator.ensures.into_iter_gives ∙ ap iter_rest c.zip-row-items.ensures.first ∙ c.iter.ensures.rest ∙ c.rows_of.ensures
 
--- slot s and its row are inside
-inside : (c : In-loop-s) → (c.loop-s.s < length c.args.columns.now.rows.now) × (c.loop-s.s < length c.args.values.now) × (get_or c.args.columns.now.rows.now c.loop-s.s 0 < length c.args.vector.now)
-inside c =
-    let ends = slot_inside (length c.args.vector.now) c.args.columns.now.starts.now c.args.columns.now.rows.now c.requires.0.plan c.args.j c.requires.1 in
-    let row = slot_after (length c.args.vector.now) c.args.columns.now.starts.now c.args.columns.now.rows.now c.requires.0.plan c.args.j c.requires.1 c.loop-s.s c.loop-s.invariant.low c.loop-s-test.true in
-    (omega (arith, ends), omega (arith, ends, c.requires.0.slots), omega (arith, row))
+values_begin : (c : After-into_iter-row-iterator) → iter_rest (zip_second c.into_iter-row-iterator.result) ≡ segment c.args.filled.now.values.now (get_or c.args.filled.now.columns.starts.now c.args.j 0) (get_or c.args.filled.now.columns.starts.now (c.args.j + 1) 0)
+values_begin c =
+    let zipped : iter_rest (zip_second c.zip-row-items.result) ≡ segment c.args.filled.now.values.now (get_or c.args.filled.now.columns.starts.now c.args.j 0) (get_or c.args.filled.now.columns.starts.now (c.args.j + 1) 0) = search (rules, c.zip-row-items.ensures.second, c.values_of.ensures) in
+    ap (λ z. iter_rest (zip_second z)) c.into_iter-row-iterator.ensures.into_iter_gives ∙ zipped
 
-pub loop-s-preserved : goal.loop-s-preserved
-loop-s-preserved c =
-    summing_steps (length c.args.vector.now) c.args.columns.now.starts.now c.args.columns.now.rows.now c.requires.0.plan c.args.values.now c.args.j c.requires.1 c.args.vector.now c.loop-s.s c.loop-s.x c.requires.1 c.loop-s.invariant c.loop-s-test.true
+pub loop-row-init : goal.loop-row-init
+loop-row-init c =
+    let none : get_or c.args.filled.now.columns.starts.now c.args.j 0 + 0 ≡ get_or c.args.filled.now.columns.starts.now c.args.j 0 = omega arith in
+    rw none (summing_begins c.args.filled.now.nodes c.args.filled.now.columns.starts.now c.args.filled.now.columns.rows.now c.args.filled.now.filled.plan c.args.filled.now.values.now c.args.j c.requires.1 c.args.vector.now)
+
+pub bounds-vector-row : goal.bounds-vector-row
+bounds-vector-row c =
+    let turn = slot_turn c.args.filled.now.columns.rows.now c.args.filled.now.values.now (get_or c.args.filled.now.columns.starts.now c.args.j 0) (get_or c.args.filled.now.columns.starts.now (c.args.j + 1) 0) c.loop-row.yielded c.into_iter-row-iterator.result c.loop-row.row-iterator c.next.new.self c.next.result (rows_begin (goal.at.bounds-vector-row c).After-into_iter-row-iterator) (values_begin (goal.at.bounds-vector-row c).After-into_iter-row-iterator) c.loop-row.yielded_by (c.in-Some.row, c.in-Some.value) c.in-Some.is c.next.ensures.steps in
+    let row = slot_after c.args.filled.now.nodes c.args.filled.now.columns.starts.now c.args.filled.now.columns.rows.now c.args.filled.now.filled.plan c.args.j c.requires.1 (get_or c.args.filled.now.columns.starts.now c.args.j 0 + length c.loop-row.yielded) c.loop-row.invariant.low turn.0 in
+    omega (arith, turn.1, row, c.requires.0)
+
+pub loop-row-preserved : goal.loop-row-preserved
+loop-row-preserved c =
+    let turn = slot_turn c.args.filled.now.columns.rows.now c.args.filled.now.values.now (get_or c.args.filled.now.columns.starts.now c.args.j 0) (get_or c.args.filled.now.columns.starts.now (c.args.j + 1) 0) c.loop-row.yielded c.into_iter-row-iterator.result c.loop-row.row-iterator c.next.new.self c.next.result (rows_begin (goal.at.loop-row-preserved c).After-into_iter-row-iterator) (values_begin (goal.at.loop-row-preserved c).After-into_iter-row-iterator) c.loop-row.yielded_by (c.in-Some.row, c.in-Some.value) c.in-Some.is c.next.ensures.steps in
+    let on : get_or c.args.filled.now.columns.starts.now c.args.j 0 + length (c.loop-row.yielded ++ ((c.in-Some.row, c.in-Some.value) ∷ [])) ≡ get_or c.args.filled.now.columns.starts.now c.args.j 0 + length c.loop-row.yielded + 1 = omega (arith, length-append c.loop-row.yielded ((c.in-Some.row, c.in-Some.value) ∷ [])) in
+    rw (on, turn.1, turn.2)
+    (summing_steps c.args.filled.now.nodes c.args.filled.now.columns.starts.now c.args.filled.now.columns.rows.now c.args.filled.now.filled.plan c.args.filled.now.values.now c.args.j c.requires.1 c.args.vector.now (get_or c.args.filled.now.columns.starts.now c.args.j 0 + length c.loop-row.yielded) c.loop-row.x (omega (arith, c.requires)) c.loop-row.invariant turn.0)
 
 pub returns : goal.returns
 returns c =
-    summing_ends (length c.args.vector.now) c.args.columns.now.starts.now c.args.columns.now.rows.now c.requires.0.plan c.args.values.now c.args.j c.requires.1 c.args.vector.now c.loop-s.s c.loop-s.x c.loop-s.invariant
-    c.loop-s-test.false
-
-pub offset_bounds-values-s : goal.offset_bounds-values-s
-offset_bounds-values-s c = search (rules, inside (goal.at.offset_bounds-values-s c).In-loop-s)
-
-pub bounds-values-s : goal.bounds-values-s
-bounds-values-s c = search (rules, inside (goal.at.bounds-values-s c).In-loop-s)
-
-pub offset_bounds-columns-s : goal.offset_bounds-columns-s
-offset_bounds-columns-s c = search (rules, inside (goal.at.offset_bounds-columns-s c).In-loop-s)
-
-pub bounds-columns-s : goal.bounds-columns-s
-bounds-columns-s c = search (rules, inside (goal.at.bounds-columns-s c).In-loop-s)
-
-pub offset_bounds-vector-columns : goal.offset_bounds-vector-columns
-offset_bounds-vector-columns c = search (rules, inside (goal.at.offset_bounds-vector-columns c).In-loop-s)
-
-pub bounds-vector-columns : goal.bounds-vector-columns
-bounds-vector-columns c = search (rules, inside (goal.at.bounds-vector-columns c).In-loop-s)
+    let places = slot_inside c.args.filled.now.nodes c.args.filled.now.columns.starts.now c.args.filled.now.columns.rows.now c.args.filled.now.filled.plan c.args.j c.requires.1 in
+    summing_ends c.args.filled.now.nodes c.args.filled.now.columns.starts.now c.args.filled.now.columns.rows.now c.args.filled.now.filled.plan c.args.filled.now.values.now c.args.j c.requires.1 c.args.vector.now (get_or c.args.filled.now.columns.starts.now c.args.j 0 + length c.loop-row.yielded) c.loop-row.x c.loop-row.invariant
+    (slots_end c.args.filled.now.columns.rows.now c.args.filled.now.values.now (get_or c.args.filled.now.columns.starts.now c.args.j 0) (get_or c.args.filled.now.columns.starts.now (c.args.j + 1) 0) c.loop-row.yielded c.into_iter-row-iterator.result c.loop-row.row-iterator c.next.new.self c.next.result (rows_begin (goal.at.returns c).After-into_iter-row-iterator) (values_begin (goal.at.returns c).After-into_iter-row-iterator) c.loop-row.yielded_by places.2 (omega (arith, places.2, c.args.filled.now.filled.slots)) c.in-None.is c.next.ensures.steps)

@@ -6,4 +6,4 @@ use Rattle.factor.proofs.passes.backward_columns.Goals as goal
 
 pub returns : goal.returns
 unfolding backward
-returns c = descending_ends (backward_column c.args.columns.now.starts.now c.args.columns.now.rows.now c.args.values.now) (length c.args.vector.now) c.args.vector.now c.loop-j.j c.loop-j.vector c.loop-j.invariant c.loop-j-test.false
+returns c = descending_ends (backward_column c.args.filled.now.columns.starts.now c.args.filled.now.columns.rows.now c.args.filled.now.values.now) (length c.args.vector.now) c.args.vector.now c.loop-j.j c.loop-j.vector c.loop-j.invariant c.loop-j-test.false

@@ -5,4 +5,4 @@ use Rattle.factor.proofs.PassSteps.{Descending}
 use Rattle.factor.proofs.passes.backward_columns.Given as goal
 
 abbrev pub invariant-loop-j : goal.invariant-loop-j
-invariant-loop-j l = Descending (backward_column l.columns.starts.now l.columns.rows.now l.values) (length l.initial.vector) l.initial.vector l.j l.vector
+invariant-loop-j l = Descending (backward_column l.filled.columns.starts.now l.filled.columns.rows.now l.filled.values.now) (length l.initial.vector) l.initial.vector l.j l.vector

@@ -14,25 +14,25 @@ and_false : (a b : Bool) → b ≡ false → (a && b) ≡ false
 and_false true b e = e
 and_false false b e = refl
 
-pub returns-then-columns-j : goal.returns-then-columns-j
+pub returns-then-filled-j : goal.returns-then-filled-j
 unfolding continued
-returns-then-columns-j c =
-    let none : get_or c.args.columns.now.starts.now (c.args.j + 1) 0 - get_or c.args.columns.now.starts.now c.args.j 0 ≡ 0 = omega (arith, c.if-columns-j.true) in
-    rw none (sym (and_false (eqb (get_or c.args.columns.now.rows.now (get_or c.args.columns.now.starts.now c.args.j 0) 0) (c.args.j + 1)) _ (ne_eqb 0 (get_or c.args.columns.now.starts.now (c.args.j + 1 + 1) 0 - get_or c.args.columns.now.starts.now (c.args.j + 1) 0 + 1) (λ e. omega (arith, e)))))
+returns-then-filled-j c =
+    let none : get_or c.args.filled.now.columns.starts.now (c.args.j + 1) 0 - get_or c.args.filled.now.columns.starts.now c.args.j 0 ≡ 0 = omega (arith, c.if-filled-j.true) in
+    rw none (sym (and_false (eqb (get_or c.args.filled.now.columns.rows.now (get_or c.args.filled.now.columns.starts.now c.args.j 0) 0) (c.args.j + 1)) _ (ne_eqb 0 (get_or c.args.filled.now.columns.starts.now (c.args.j + 1 + 1) 0 - get_or c.args.filled.now.columns.starts.now (c.args.j + 1) 0 + 1) (λ e. omega (arith, e)))))
 
 pub continues-requires : goal.continues-requires
 continues-requires c =
-    let slots = slot_inside c.args.n c.args.columns.now.starts.now c.args.columns.now.rows.now c.requires.0.plan c.args.j c.requires.1 in
-    let some : get_or c.args.columns.now.starts.now c.args.j 0 < get_or c.args.columns.now.starts.now (c.args.j + 1) 0 = omega (arith, slots, c.if-columns-j.false) in
-    let row = slot_after c.args.n c.args.columns.now.starts.now c.args.columns.now.rows.now c.requires.0.plan c.args.j c.requires.1 (get_or c.args.columns.now.starts.now c.args.j 0) (omega arith) some in
-    let next : c.args.j + 1 < c.args.n = omega (arith, row) in
-    let slotsNext = slot_inside c.args.n c.args.columns.now.starts.now c.args.columns.now.rows.now c.requires.0.plan (c.args.j + 1) next in
+    let slots = slot_inside c.args.filled.now.nodes c.args.filled.now.columns.starts.now c.args.filled.now.columns.rows.now c.args.filled.now.filled.plan c.args.j c.requires in
+    let some : get_or c.args.filled.now.columns.starts.now c.args.j 0 < get_or c.args.filled.now.columns.starts.now (c.args.j + 1) 0 = omega (arith, slots, c.if-filled-j.false) in
+    let row = slot_after c.args.filled.now.nodes c.args.filled.now.columns.starts.now c.args.filled.now.columns.rows.now c.args.filled.now.filled.plan c.args.j c.requires (get_or c.args.filled.now.columns.starts.now c.args.j 0) (omega arith) some in
+    let next : c.args.j + 1 < c.args.filled.now.nodes = omega (arith, row) in
+    let slotsNext = slot_inside c.args.filled.now.nodes c.args.filled.now.columns.starts.now c.args.filled.now.columns.rows.now c.args.filled.now.filled.plan (c.args.j + 1) next in
     record {
-      known = omega (arith, c.requires.0.plan.starts.many, c.requires.1);
-      known_next = omega (arith, c.requires.0.plan.starts.many, next);
+      known = omega (arith, c.args.filled.now.filled.plan.starts.many, c.requires);
+      known_next = omega (arith, c.args.filled.now.filled.plan.starts.many, next);
       rising = slots.0;
       rising_next = slotsNext.0;
       some = omega (arith, some, slots);
       inside_next = slotsNext.2;
-      few = c.requires.0.few;
+      few = c.args.filled.now.filled.few;
     }

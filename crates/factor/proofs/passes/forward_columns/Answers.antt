@@ -13,38 +13,38 @@ use Rattle.factor.proofs.passes.forward_columns.Goals.{Then-followed}
 use Rattle.factor.proofs.passes.forward_columns.Goals as goal
 
 pub loop-j-init : goal.loop-j-init
-loop-j-init c = turning_begins (forward_column c.args.columns.now.starts.now c.args.columns.now.rows.now c.args.values.now) 0 (length c.args.vector.now) c.args.vector.now (omega arith)
+loop-j-init c = turning_begins (forward_column c.args.filled.now.columns.starts.now c.args.filled.now.columns.rows.now c.args.filled.now.values.now) 0 (length c.args.vector.now) c.args.vector.now (omega arith)
 
 pub followed-requires : goal.followed-requires
-followed-requires c = (record { plan = rw c.loop-j.invariant.long c.requires.plan; slots = refl; few = c.requires.few }, c.loop-j-test.true)
+followed-requires c = omega (arith, c.loop-j-test.true, c.loop-j.invariant.long, c.requires)
 
 -- column j is followed by the next, which is a column too
-two : (c : Then-followed) → (continued c.args.columns.now.starts.now c.args.columns.now.rows.now c.loop-j.j (c.loop-j.j + 1) ≡ true) × (c.loop-j.j + 1 < length c.args.vector.now)
+two : (c : Then-followed) → (continued c.args.filled.now.columns.starts.now c.args.filled.now.columns.rows.now c.loop-j.j (c.loop-j.j + 1) ≡ true) × (c.loop-j.j + 1 < c.args.filled.now.nodes)
 two c =
     let follows = sym c.followed.ensures ∙ c.if-followed.true in
-    (follows, next-inside (length c.args.vector.now) c.args.columns.now.starts.now c.args.columns.now.rows.now c.requires.plan c.loop-j.j (omega (arith, c.loop-j-test.true, c.loop-j.invariant.long)) follows)
+    (follows, next-inside c.args.filled.now.nodes c.args.filled.now.columns.starts.now c.args.filled.now.columns.rows.now c.args.filled.now.filled.plan c.loop-j.j (omega (arith, c.loop-j-test.true, c.loop-j.invariant.long, c.requires)) follows)
 
 pub forward_two-requires : goal.forward_two-requires
 forward_two-requires c =
     record {
-      filled = (rw c.loop-j.invariant.long c.requires, omega (arith, (two (goal.at.forward_two-requires c).Then-followed).1, c.loop-j.invariant.long));
+      vector_length = (c.loop-j.invariant.long ∙ c.requires, (two (goal.at.forward_two-requires c).Then-followed).1);
       j_value = (two (goal.at.forward_two-requires c).Then-followed).0;
     }
 
 pub loop-j-preserved-then-followed : goal.loop-j-preserved-then-followed
 loop-j-preserved-then-followed c =
     rw c.forward_two.ensures
-    (turning_steps_two (forward_column c.args.columns.now.starts.now c.args.columns.now.rows.now c.args.values.now) 0 (length c.args.vector.now) c.args.vector.now (forward_column_keeps c.args.columns.now.starts.now c.args.columns.now.rows.now c.args.values.now) c.loop-j.j c.loop-j.vector c.loop-j.invariant (two (goal.at.loop-j-preserved-then-followed c).Then-followed).1)
+    (turning_steps_two (forward_column c.args.filled.now.columns.starts.now c.args.filled.now.columns.rows.now c.args.filled.now.values.now) 0 (length c.args.vector.now) c.args.vector.now (forward_column_keeps c.args.filled.now.columns.starts.now c.args.filled.now.columns.rows.now c.args.filled.now.values.now) c.loop-j.j c.loop-j.vector c.loop-j.invariant (omega (arith, (two (goal.at.loop-j-preserved-then-followed c).Then-followed).1, c.requires)))
 
 pub forward_column-requires : goal.forward_column-requires
-forward_column-requires c = (rw c.loop-j.invariant.long c.requires, c.loop-j-test.true)
+forward_column-requires c = (c.loop-j.invariant.long ∙ c.requires, omega (arith, c.loop-j-test.true, c.loop-j.invariant.long, c.requires))
 
 pub loop-j-preserved : goal.loop-j-preserved
 loop-j-preserved c =
     rw c.forward_column.ensures
-    (turning_steps (forward_column c.args.columns.now.starts.now c.args.columns.now.rows.now c.args.values.now) 0 (length c.args.vector.now) c.args.vector.now (forward_column_keeps c.args.columns.now.starts.now c.args.columns.now.rows.now c.args.values.now) c.loop-j.j c.loop-j.vector c.loop-j.invariant
+    (turning_steps (forward_column c.args.filled.now.columns.starts.now c.args.filled.now.columns.rows.now c.args.filled.now.values.now) 0 (length c.args.vector.now) c.args.vector.now (forward_column_keeps c.args.filled.now.columns.starts.now c.args.filled.now.columns.rows.now c.args.filled.now.values.now) c.loop-j.j c.loop-j.vector c.loop-j.invariant
     (omega (arith, c.loop-j-test.true, c.loop-j.invariant.long)))
 
 pub returns : goal.returns
 unfolding forward
-returns c = turned (forward_column c.args.columns.now.starts.now c.args.columns.now.rows.now c.args.values.now) (length c.args.vector.now) c.args.vector.now c.loop-j.j c.loop-j.vector c.loop-j.invariant (omega (arith, c.loop-j-test.false, c.loop-j.invariant.long))
+returns c = turned (forward_column c.args.filled.now.columns.starts.now c.args.filled.now.columns.rows.now c.args.filled.now.values.now) (length c.args.vector.now) c.args.vector.now c.loop-j.j c.loop-j.vector c.loop-j.invariant (omega (arith, c.loop-j-test.false, c.loop-j.invariant.long))

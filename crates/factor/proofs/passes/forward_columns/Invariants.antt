@@ -6,7 +6,7 @@ use Rattle.factor.proofs.PassSteps.{Turning}
 use Rattle.factor.proofs.passes.forward_columns.Given as goal
 
 abbrev pub invariant-loop-j : goal.invariant-loop-j
-invariant-loop-j l = Turning (forward_column l.columns.starts.now l.columns.rows.now l.values) 0 (length l.initial.vector) l.initial.vector l.j l.vector
+invariant-loop-j l = Turning (forward_column l.filled.columns.starts.now l.filled.columns.rows.now l.filled.values.now) 0 (length l.initial.vector) l.initial.vector l.j l.vector
 
 abbrev pub decreases-loop-j : goal.decreases-loop-j
 decreases-loop-j l = length l.initial.vector - l.j

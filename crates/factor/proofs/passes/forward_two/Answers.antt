@@ -9,8 +9,8 @@ use Rattle.factor.proofs.passes.forward_two.Goals.{In-loop-s, Start}
 use Rattle.factor.proofs.passes.forward_two.Goals as goal
 
 -- column j has a row
-some : (c : Start) → get_or c.args.columns.now.starts.now c.args.j 0 < get_or c.args.columns.now.starts.now (c.args.j + 1) 0
-some c = has-row (length c.args.vector.now) c.args.columns.now.starts.now c.args.columns.now.rows.now c.requires.filled.0.plan c.args.values.now c.args.j c.requires.filled.1 c.requires.j_value
+some : (c : Start) → get_or c.args.filled.now.columns.starts.now c.args.j 0 < get_or c.args.filled.now.columns.starts.now (c.args.j + 1) 0
+some c = has-row c.args.filled.now.nodes c.args.filled.now.columns.starts.now c.args.filled.now.columns.rows.now c.args.filled.now.filled.plan c.args.filled.now.values.now c.args.j c.requires.vector_length.1 c.requires.j_value
 
 pub overflow_sub-ahead : goal.overflow_sub-ahead
 overflow_sub-ahead c = omega (arith, some (goal.at.overflow_sub-ahead c).Start)
@@ -20,45 +20,45 @@ overflow_sub-ahead-2 c = omega (arith, some (goal.at.overflow_sub-ahead-2 c).Sta
 
 pub loop-s-init : goal.loop-s-init
 loop-s-init c =
-    let behind : get_or c.args.columns.now.starts.now c.args.j 0 + 1 + (get_or c.args.columns.now.starts.now (c.args.j + 1) 0 - get_or c.args.columns.now.starts.now c.args.j 0 - 1) ≡ get_or c.args.columns.now.starts.now (c.args.j + 1) 0 = omega (arith, some (goal.at.loop-s-init c).Start) in
+    let behind : get_or c.args.filled.now.columns.starts.now c.args.j 0 + 1 + (get_or c.args.filled.now.columns.starts.now (c.args.j + 1) 0 - get_or c.args.filled.now.columns.starts.now c.args.j 0 - 1) ≡ get_or c.args.filled.now.columns.starts.now (c.args.j + 1) 0 = omega (arith, some (goal.at.loop-s-init c).Start) in
     rw behind
-    (both-begins (length c.args.vector.now) c.args.columns.now.starts.now c.args.columns.now.rows.now c.requires.filled.0.plan c.args.values.now c.args.j c.requires.filled.1 c.requires.j_value c.args.vector.now refl)
+    (both-begins c.args.filled.now.nodes c.args.filled.now.columns.starts.now c.args.filled.now.columns.rows.now c.args.filled.now.filled.plan c.args.filled.now.values.now c.args.j c.requires.vector_length.1 c.requires.j_value c.args.vector.now c.requires.vector_length.0)
 
 -- the slots and their row are inside
-inside : (c : In-loop-s) → (c.loop-s.s < length c.args.values.now) × ((c.loop-s.s + (get_or c.args.columns.now.starts.now (c.args.j + 1) 0 - get_or c.args.columns.now.starts.now c.args.j 0 - 1)) < length c.args.columns.now.rows.now) × ((c.loop-s.s + (get_or c.args.columns.now.starts.now (c.args.j + 1) 0 - get_or c.args.columns.now.starts.now c.args.j 0 - 1)) < length c.args.values.now) × (get_or c.args.columns.now.rows.now (c.loop-s.s + (get_or c.args.columns.now.starts.now (c.args.j + 1) 0 - get_or c.args.columns.now.starts.now c.args.j 0 - 1)) 0 < length c.loop-s.vector) × (length c.loop-s.vector ≡ length c.args.vector.now)
+inside : (c : In-loop-s) → (c.loop-s.s < length c.args.filled.now.values.now) × ((c.loop-s.s + (get_or c.args.filled.now.columns.starts.now (c.args.j + 1) 0 - get_or c.args.filled.now.columns.starts.now c.args.j 0 - 1)) < length c.args.filled.now.columns.rows.now) × ((c.loop-s.s + (get_or c.args.filled.now.columns.starts.now (c.args.j + 1) 0 - get_or c.args.filled.now.columns.starts.now c.args.j 0 - 1)) < length c.args.filled.now.values.now) × (get_or c.args.filled.now.columns.rows.now (c.loop-s.s + (get_or c.args.filled.now.columns.starts.now (c.args.j + 1) 0 - get_or c.args.filled.now.columns.starts.now c.args.j 0 - 1)) 0 < length c.loop-s.vector) × (length c.loop-s.vector ≡ length c.args.vector.now)
 inside c =
-    let n = length c.args.vector.now in
-    let taken : c.loop-s.s < get_or c.args.columns.now.starts.now (c.args.j + 1) 0 = c.loop-s-test.true in
-    let b = both-inside n c.args.columns.now.starts.now c.args.columns.now.rows.now c.requires.filled.0.plan c.args.values.now c.args.j c.requires.filled.1 c.requires.j_value _ c.loop-s.vector c.loop-s.s (c.loop-s.s + (get_or c.args.columns.now.starts.now (c.args.j + 1) 0 - get_or c.args.columns.now.starts.now c.args.j 0 - 1)) _ _ (length-set c.args.vector.now (c.args.j + 1) _) c.loop-s.invariant taken in
-    (omega (arith, b, c.requires.filled.0.slots), b.1, omega (arith, b, c.requires.filled.0.slots), b.2, c.loop-s.invariant.long ∙ length-set c.args.vector.now (c.args.j + 1) _)
+    let n = c.args.filled.now.nodes in
+    let taken : c.loop-s.s < get_or c.args.filled.now.columns.starts.now (c.args.j + 1) 0 = c.loop-s-test.true in
+    let b = both-inside n c.args.filled.now.columns.starts.now c.args.filled.now.columns.rows.now c.args.filled.now.filled.plan c.args.filled.now.values.now c.args.j c.requires.vector_length.1 c.requires.j_value _ c.loop-s.vector c.loop-s.s (c.loop-s.s + (get_or c.args.filled.now.columns.starts.now (c.args.j + 1) 0 - get_or c.args.filled.now.columns.starts.now c.args.j 0 - 1)) _ _ (length-set c.args.vector.now (c.args.j + 1) _ ∙ c.requires.vector_length.0) c.loop-s.invariant taken in
+    (omega (arith, b, c.args.filled.now.filled.slots), b.1, omega (arith, b, c.args.filled.now.filled.slots), b.2, c.loop-s.invariant.long ∙ length-set c.args.vector.now (c.args.j + 1) _)
 
 pub loop-s-preserved : goal.loop-s-preserved
 loop-s-preserved c =
-    let on : c.loop-s.s + 1 + (get_or c.args.columns.now.starts.now (c.args.j + 1) 0 - get_or c.args.columns.now.starts.now c.args.j 0 - 1) ≡ (c.loop-s.s + (get_or c.args.columns.now.starts.now (c.args.j + 1) 0 - get_or c.args.columns.now.starts.now c.args.j 0 - 1)) + 1 = omega arith in
+    let on : c.loop-s.s + 1 + (get_or c.args.filled.now.columns.starts.now (c.args.j + 1) 0 - get_or c.args.filled.now.columns.starts.now c.args.j 0 - 1) ≡ (c.loop-s.s + (get_or c.args.filled.now.columns.starts.now (c.args.j + 1) 0 - get_or c.args.filled.now.columns.starts.now c.args.j 0 - 1)) + 1 = omega arith in
     rw on
-    (both-steps (length c.args.vector.now) c.args.columns.now.starts.now c.args.columns.now.rows.now c.requires.filled.0.plan c.args.values.now c.args.j c.requires.filled.1 c.requires.j_value _ c.loop-s.vector c.loop-s.s (c.loop-s.s + (get_or c.args.columns.now.starts.now (c.args.j + 1) 0 - get_or c.args.columns.now.starts.now c.args.j 0 - 1)) _ _ (length-set c.args.vector.now (c.args.j + 1) _) c.loop-s.invariant c.loop-s-test.true)
+    (both-steps c.args.filled.now.nodes c.args.filled.now.columns.starts.now c.args.filled.now.columns.rows.now c.args.filled.now.filled.plan c.args.filled.now.values.now c.args.j c.requires.vector_length.1 c.requires.j_value _ c.loop-s.vector c.loop-s.s (c.loop-s.s + (get_or c.args.filled.now.columns.starts.now (c.args.j + 1) 0 - get_or c.args.filled.now.columns.starts.now c.args.j 0 - 1)) _ _ (length-set c.args.vector.now (c.args.j + 1) _ ∙ c.requires.vector_length.0) c.loop-s.invariant c.loop-s-test.true)
 
 pub shape_of-vector : goal.shape_of-vector
 shape_of-vector c = c.loop-s.invariant.long ∙ length-set c.args.vector.now (c.args.j + 1) _
 
 pub returns : goal.returns
-returns c = both_ends (length c.args.vector.now) c.args.columns.now.starts.now c.args.columns.now.rows.now c.requires.filled.0.plan c.args.values.now c.args.j c.requires.filled.1 c.requires.j_value c.args.vector.now c.loop-s.vector c.loop-s.s (c.loop-s.s + (get_or c.args.columns.now.starts.now (c.args.j + 1) 0 - get_or c.args.columns.now.starts.now c.args.j 0 - 1)) _ _ c.loop-s.invariant c.loop-s-test.false
+returns c = both_ends c.args.filled.now.nodes c.args.filled.now.columns.starts.now c.args.filled.now.columns.rows.now c.args.filled.now.filled.plan c.args.filled.now.values.now c.args.j c.requires.vector_length.1 c.requires.j_value c.args.vector.now c.loop-s.vector c.loop-s.s (c.loop-s.s + (get_or c.args.filled.now.columns.starts.now (c.args.j + 1) 0 - get_or c.args.filled.now.columns.starts.now c.args.j 0 - 1)) _ _ c.loop-s.invariant c.loop-s-test.false
 
 -- column j has a row
-begins : (c : Start) → get_or c.args.columns.now.starts.now c.args.j 0 < length c.args.values.now
-begins c = omega (arith, c.requires.filled.0.slots, first-inside (length c.args.vector.now) c.args.columns.now.starts.now c.args.columns.now.rows.now c.requires.filled.0.plan c.args.values.now c.args.j c.requires.filled.1 c.requires.j_value)
+begins : (c : Start) → get_or c.args.filled.now.columns.starts.now c.args.j 0 < length c.args.filled.now.values.now
+begins c = omega (arith, c.args.filled.now.filled.slots, first-inside c.args.filled.now.nodes c.args.filled.now.columns.starts.now c.args.filled.now.columns.rows.now c.args.filled.now.filled.plan c.args.filled.now.values.now c.args.j c.requires.vector_length.1 c.requires.j_value)
 
-pub offset_bounds-values-from : goal.offset_bounds-values-from
-offset_bounds-values-from c = search (rules, begins (goal.at.offset_bounds-values-from c).Start)
+pub offset_bounds-filled-from : goal.offset_bounds-filled-from
+offset_bounds-filled-from c = search (rules, begins (goal.at.offset_bounds-filled-from c).Start)
 
-pub bounds-values-from : goal.bounds-values-from
-bounds-values-from c = search (rules, begins (goal.at.bounds-values-from c).Start)
+pub bounds-filled-from : goal.bounds-filled-from
+bounds-filled-from c = search (rules, begins (goal.at.bounds-filled-from c).Start)
 
-pub offset_bounds-columns-t : goal.offset_bounds-columns-t
-offset_bounds-columns-t c = search (rules, inside (goal.at.offset_bounds-columns-t c).In-loop-s)
+pub offset_bounds-filled-t : goal.offset_bounds-filled-t
+offset_bounds-filled-t c = search (rules, inside (goal.at.offset_bounds-filled-t c).In-loop-s)
 
-pub bounds-columns-t : goal.bounds-columns-t
-bounds-columns-t c = search (rules, inside (goal.at.bounds-columns-t c).In-loop-s)
+pub bounds-filled-t : goal.bounds-filled-t
+bounds-filled-t c = search (rules, inside (goal.at.bounds-filled-t c).In-loop-s)
 
 pub offset_bounds-vector-i : goal.offset_bounds-vector-i
 offset_bounds-vector-i c = search (rules, inside (goal.at.offset_bounds-vector-i c).In-loop-s)
@@ -66,17 +66,17 @@ offset_bounds-vector-i c = search (rules, inside (goal.at.offset_bounds-vector-i
 pub bounds-vector-i : goal.bounds-vector-i
 bounds-vector-i c = search (rules, inside (goal.at.bounds-vector-i c).In-loop-s)
 
-pub offset_bounds-values-s : goal.offset_bounds-values-s
-offset_bounds-values-s c = search (rules, inside (goal.at.offset_bounds-values-s c).In-loop-s)
+pub offset_bounds-filled-s : goal.offset_bounds-filled-s
+offset_bounds-filled-s c = search (rules, inside (goal.at.offset_bounds-filled-s c).In-loop-s)
 
-pub bounds-values-s : goal.bounds-values-s
-bounds-values-s c = search (rules, inside (goal.at.bounds-values-s c).In-loop-s)
+pub bounds-filled-s : goal.bounds-filled-s
+bounds-filled-s c = search (rules, inside (goal.at.bounds-filled-s c).In-loop-s)
 
-pub offset_bounds-values-t : goal.offset_bounds-values-t
-offset_bounds-values-t c = search (rules, inside (goal.at.offset_bounds-values-t c).In-loop-s)
+pub offset_bounds-filled-t-in-loop-s : goal.offset_bounds-filled-t-in-loop-s
+offset_bounds-filled-t-in-loop-s c = search (rules, inside (goal.at.offset_bounds-filled-t-in-loop-s c).In-loop-s)
 
-pub bounds-values-t : goal.bounds-values-t
-bounds-values-t c = search (rules, inside (goal.at.bounds-values-t c).In-loop-s)
+pub bounds-filled-t-in-loop-s : goal.bounds-filled-t-in-loop-s
+bounds-filled-t-in-loop-s c = search (rules, inside (goal.at.bounds-filled-t-in-loop-s c).In-loop-s)
 
 pub offset_bounds-vector-i-in-loop-s : goal.offset_bounds-vector-i-in-loop-s
 offset_bounds-vector-i-in-loop-s c = search (rules, inside (goal.at.offset_bounds-vector-i-in-loop-s c).In-loop-s)

@@ -4,4 +4,4 @@ use Rattle.factor.proofs.TwoColumns.{Both}
 use Rattle.factor.proofs.passes.forward_two.Given as goal
 
 abbrev pub invariant-loop-s : goal.invariant-loop-s
-invariant-loop-s l = Both l.columns.starts.now l.columns.rows.now l.values l.j l.initial.vector l.s (l.s + l.ahead) l.x l.z l.vector
+invariant-loop-s l = Both l.filled.columns.starts.now l.filled.columns.rows.now l.filled.values.now l.j l.initial.vector l.s (l.s + l.ahead) l.x l.z l.vector

@@ -43,13 +43,13 @@ pub overflow_add-end : goal.overflow_add-end
 unfolding used
 overflow_add-end c = omega (arith, nodes-few (contents c.args.unknowns c.args.n c.args.p c.args.s c.args.order.now c.args.sizes.now c.args.parents.now c.args.column_starts.now c.args.rows.now) (record { diagonal = c.args.diagonal.now; values = c.args.values.now }) (factor_none (contents c.args.unknowns c.args.n c.args.p c.args.s c.args.order.now c.args.sizes.now c.args.parents.now c.args.column_starts.now c.args.rows.now) (record { diagonal = c.args.diagonal.now; values = c.args.values.now }) c.args.vector.now (none (goal.at.overflow_add-end c).Else-fault-ne0)))
 
-pub slice_bounds-columns-end : goal.slice_bounds-columns-end
+pub slice_bounds-filled-end : goal.slice_bounds-filled-end
 unfolding used
-slice_bounds-columns-end c = sym (starts-long (contents c.args.unknowns c.args.n c.args.p c.args.s c.args.order.now c.args.sizes.now c.args.parents.now c.args.column_starts.now c.args.rows.now) (record { diagonal = c.args.diagonal.now; values = c.args.values.now }) (factor_none (contents c.args.unknowns c.args.n c.args.p c.args.s c.args.order.now c.args.sizes.now c.args.parents.now c.args.column_starts.now c.args.rows.now) (record { diagonal = c.args.diagonal.now; values = c.args.values.now }) c.args.vector.now (none (goal.at.slice_bounds-columns-end c).Else-fault-ne0)))
+slice_bounds-filled-end c = sym (starts-long (contents c.args.unknowns c.args.n c.args.p c.args.s c.args.order.now c.args.sizes.now c.args.parents.now c.args.column_starts.now c.args.rows.now) (record { diagonal = c.args.diagonal.now; values = c.args.values.now }) (factor_none (contents c.args.unknowns c.args.n c.args.p c.args.s c.args.order.now c.args.sizes.now c.args.parents.now c.args.column_starts.now c.args.rows.now) (record { diagonal = c.args.diagonal.now; values = c.args.values.now }) c.args.vector.now (none (goal.at.slice_bounds-filled-end c).Else-fault-ne0)))
 
-pub slice_bounds-columns-end-2 : goal.slice_bounds-columns-end-2
+pub slice_bounds-filled-end-2 : goal.slice_bounds-filled-end-2
 unfolding used
-slice_bounds-columns-end-2 c = sym (rows_long (contents c.args.unknowns c.args.n c.args.p c.args.s c.args.order.now c.args.sizes.now c.args.parents.now c.args.column_starts.now c.args.rows.now) (record { diagonal = c.args.diagonal.now; values = c.args.values.now }) (factor_none (contents c.args.unknowns c.args.n c.args.p c.args.s c.args.order.now c.args.sizes.now c.args.parents.now c.args.column_starts.now c.args.rows.now) (record { diagonal = c.args.diagonal.now; values = c.args.values.now }) c.args.vector.now (none (goal.at.slice_bounds-columns-end-2 c).Else-fault-ne0)))
+slice_bounds-filled-end-2 c = sym (rows_long (contents c.args.unknowns c.args.n c.args.p c.args.s c.args.order.now c.args.sizes.now c.args.parents.now c.args.column_starts.now c.args.rows.now) (record { diagonal = c.args.diagonal.now; values = c.args.values.now }) (factor_none (contents c.args.unknowns c.args.n c.args.p c.args.s c.args.order.now c.args.sizes.now c.args.parents.now c.args.column_starts.now c.args.rows.now) (record { diagonal = c.args.diagonal.now; values = c.args.values.now }) c.args.vector.now (none (goal.at.slice_bounds-filled-end-2 c).Else-fault-ne0)))
 
 pub forward_columns-requires : goal.forward_columns-requires
 unfolding used
