@@ -15,12 +15,14 @@ use lib.Ieee.Fits.{up_pos}
 use borrow.Author.Tests.{lt-ltb}
 use Rattle.plan.specs.Mesh.{max_nodes}
 use Rattle.plan.specs.Filling.{Filling}
-use Rattle.plan.specs.Factoring.{column_operations, after_column, open_report, zero_report, FactorOutcome, factored, not_factored, factor_from}
+use Rattle.plan.specs.Factoring.{column_operations, after_column, open_report, FactorOutcome, factored, not_factored, factor_from}
 use Rattle.plan.specs.declared.Report.{Report}
 use Rattle.theory.specs.Covering.{Covering}
 use Rattle.theory.proofs.Factoring.{column-planned}
 use Rattle.factor.specs.Working.{Worked, Reached}
-use Rattle.plan.specs.declared.FactorAnswer.{FactorAnswer}
+use Rattle.std.specs.Prelude.{Result, Ok, Err}
+use Rattle.plan.specs.declared.refusal.Refusal.{Refusal}
+use Rattle.plan.specs.declared.refusal.Refusal.TheVariants as refusal
 use Rattle.factor.proofs.ColumnSteps.{column_fits}
 
 zero_below : (m : ℕ) (x : ℤ) → lt (of_bits binary64 0) (fin false m x) ≡ ltb 0 m
@@ -117,7 +119,7 @@ module _ (starts rows : List ℕ) (diagonal₀ values₀ : List Float) (report�
 
   module _ (diagonal values kept lower : List Float) (places : List ℕ) (report : Report) (j : ℕ) (h : Columns starts rows diagonal₀ values₀ report₀ diagonal values kept lower places report j) where
     -- what is reached from here is what is reached
-    reached : (o : FactorOutcome) (answer : FactorAnswer) → report₀ ≡ open_report → factor_from starts rows j (n - j) report (record { diagonal = diagonal; values = values }) ≡ o
+    reached : (o : FactorOutcome) (answer : Result Report Refusal) → report₀ ≡ open_report → factor_from starts rows j (n - j) report (record { diagonal = diagonal; values = values }) ≡ o
         → Reached o answer diagonal values → Reached (all open_report) answer diagonal values
     reached o answer e here r =
         let whole : all open_report ≡ o = ap all (sym e) ∙ h.same ∙ here in
@@ -127,15 +129,14 @@ module _ (starts rows : List ℕ) (diagonal₀ values₀ : List Float) (report�
           values_left = r.values_left ∙ ap (λ (x : FactorOutcome). x.filling.values) (sym whole);
         }
 
-    pub columns_stop : report₀ ≡ open_report → j < n → positive (get_or diagonal j nan) ≡ false → (answer : FactorAnswer) → answer ≡ record { refusal = 31; report = zero_report }
-        → Reached (all open_report) answer diagonal values
-    columns_stop e lt t answer z =
-        reached (not_factored 31 (record { diagonal = diagonal; values = values })) answer e (from_stop starts rows j n report diagonal values lt t)
-        (record { reply = z; diagonal_left = refl; values_left = refl })
+    pub columns_stop : report₀ ≡ open_report → j < n → positive (get_or diagonal j nan) ≡ false → Reached (all open_report) (Err refusal.Pivot) diagonal values
+    columns_stop e lt t =
+        reached (not_factored 31 (record { diagonal = diagonal; values = values })) (Err refusal.Pivot) e (from_stop starts rows j n report diagonal values lt t)
+        (record { reply = refl; diagonal_left = refl; values_left = refl })
 
-    pub columns-end : report₀ ≡ open_report → n ≤ j → Reached (all open_report) (record { refusal = 0; report = report }) diagonal values
+    pub columns-end : report₀ ≡ open_report → n ≤ j → Reached (all open_report) (Ok report) diagonal values
     columns-end e ge =
-        reached (factored report (record { diagonal = diagonal; values = values })) (record { refusal = 0; report = report }) e (from_end starts rows j n report diagonal values ge)
+        reached (factored report (record { diagonal = diagonal; values = values })) (Ok report) e (from_end starts rows j n report diagonal values ge)
         (record { reply = refl; diagonal_left = refl; values_left = refl })
 
     pub columns-next : Covering n starts rows → n ≤ max_nodes → j < n → positive (get_or diagonal j nan) ≡ true → (diagonal' values' kept' lower' : List Float) (places' : List ℕ) (report' : Report) (count : ℕ)

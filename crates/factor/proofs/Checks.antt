@@ -1,19 +1,20 @@
 -- The checks before the first column, one by one, and what follows where none finds a fault.
 use mathlib.Core.Path.{◌≡◌, refl, sym, ap, ◌∙◌}
-use mathlib.Core.Bool.{true, false}
 use mathlib.Core.List.{[], ◌∷◌}
 use Prim.Native.Nat.{ℕ, zero, suc, ◌+◌, ◌≤◌}
 use native.Mathlib.Omega.{arith}
 use lib.ListN.{length}
-use Rattle.plan.specs.declared.FactorAnswer.{FactorAnswer}
-use Rattle.plan.specs.Refusals.{Checks, first_fault}
+use Rattle.std.specs.Prelude.{Result, Err}
+use Rattle.plan.specs.declared.Report.{Report}
+use Rattle.plan.specs.declared.refusal.Refusal.{Refusal}
+use Rattle.plan.specs.Refusals.{number_of, Checks, first_fault}
 use Rattle.plan.specs.Mesh.{max_nodes}
 use Rattle.plan.specs.Planning.{Contents}
 use Rattle.plan.specs.File.{contents_checks}
 use Rattle.plan.specs.Writing.{used, supplied_checks}
 use Rattle.plan.specs.Filling.{Filling}
-use Rattle.plan.specs.Factoring.{zero_report, open_report, FactorOutcome, factor_from, many_unknowns, bad_filling, factor_checks, factor_out, factoring, Factored}
-use Rattle.theory.proofs.Refusals.{fault_here, fault_later, first_nil, first_some, first-none}
+use Rattle.plan.specs.Factoring.{open_report, FactorOutcome, not_factored, factor_from, many_unknowns, bad_filling, factor_checks, factor_out, factoring, Factored}
+use Rattle.theory.proofs.Refusals.{number-suc, first_some, first-none}
 use Rattle.theory.proofs.Fitting.{counts-few}
 use Rattle.theory.proofs.RoundTrips.{supplied_sound}
 use Rattle.theory.proofs.Factoring.{supplied_covering, FactorPassed, factor_passed}
@@ -24,43 +25,31 @@ module _ (c : Contents) (f : Filling) where
   later = (29, many_unknowns c.unknowns) ∷ (30, bad_filling c.nodes c.slots f) ∷ []
 
   -- a fault of the plan's own checks
-  pub plan-faulty : (k : ℕ) → k ≡ first_fault (supplied_checks c) → (k ≡ 0 → ⊥) → k ≡ first_fault (factor_checks c f)
+  pub plan_refused : (r : Refusal) → number_of r ≡ first_fault (supplied_checks c) → number_of r ≡ first_fault (factor_checks c f)
   unfolding factor_checks
-  plan-faulty k e some = e ∙ sym (first_some (supplied_checks c) later (λ z. some (e ∙ z)))
+  plan_refused r e = let one = number-suc r in e ∙ sym (first_some (supplied_checks c) later (λ z. omega (arith, e, z, one.1)))
 
   -- none of them: 29 and 30 are left
-  module _ (passed : first_fault (supplied_checks c) ≡ 0) where
-    left : first_fault (factor_checks c f) ≡ first_fault later
-    unfolding factor_checks supplied_checks contents_checks
-    left = first-none (supplied_checks c) later refl passed
-
-    pub many-unknowns : many_unknowns c.unknowns ≡ true → 29 ≡ first_fault (factor_checks c f)
-    many-unknowns many = sym (left ∙ fault_here 29 (many_unknowns c.unknowns) _ many)
-
-    module _ (one : many_unknowns c.unknowns ≡ false) where
-      pub other_length : bad_filling c.nodes c.slots f ≡ true → 30 ≡ first_fault (factor_checks c f)
-      other_length bad = sym (left ∙ fault_later 29 (many_unknowns c.unknowns) _ one ∙ fault_here 30 (bad_filling c.nodes c.slots f) _ bad)
-
-      pub no_fault_found : bad_filling c.nodes c.slots f ≡ false → 0 ≡ first_fault (factor_checks c f)
-      no_fault_found good = sym (left ∙ fault_later 29 (many_unknowns c.unknowns) _ one ∙ fault_later 30 (bad_filling c.nodes c.slots f) _ good ∙ first_nil)
+  pub plan_passed : 0 ≡ first_fault (supplied_checks c) → first_fault (factor_checks c f) ≡ first_fault later
+  unfolding factor_checks supplied_checks contents_checks
+  plan_passed passed = first-none (supplied_checks c) later refl (sym passed)
 
   -- a refusal leaves both buffers as found
-  pub factor_refused : (k : ℕ) → k ≡ first_fault (factor_checks c f) → (k ≡ 0 → ⊥) → (answer : FactorAnswer) → answer ≡ record { refusal = k; report = zero_report } → Factored c answer f f
+  pub factor_refused : (r : Refusal) → number_of r ≡ first_fault (factor_checks c f) → Factored c (Err r) f f
   unfolding factoring factor_out
-  factor_refused k e some answer told = go k some (ap (λ (i : ℕ). factor_out i c f) (sym e)) told
-    where
-      go : (k : ℕ) → (k ≡ 0 → ⊥) → factoring c f ≡ factor_out k c f → answer ≡ record { refusal = k; report = zero_report } → Factored c answer f f
-      go zero some whole told = absurd (some refl)
-      go (suc k) some whole told = record {
-        reply = told ∙ sym (ap (λ (o : FactorOutcome). o.answer) whole);
+  factor_refused r e =
+      let one = number-suc r in
+      let whole : factoring c f ≡ not_factored (number_of r) f = ap (λ (i : ℕ). factor_out i c f) (sym e ∙ one.1) ∙ ap (λ (i : ℕ). not_factored i f) (sym one.1) in
+      record {
+        reply = sym (ap (λ (o : FactorOutcome). o.answer) whole);
         diagonal = sym (ap (λ (o : FactorOutcome). o.filling.diagonal) whole);
         values = sym (ap (λ (o : FactorOutcome). o.filling.values) whole);
       }
 
   -- no fault: what the columns ask, and what they reach
-  module _ (none : first_fault (factor_checks c f) ≡ 0) where
+  module _ (none : 0 ≡ first_fault (factor_checks c f)) where
     passed : FactorPassed c f
-    passed = factor_passed c f none
+    passed = factor_passed c f (sym none)
 
     pub nodes-few : c.nodes ≤ max_nodes
     unfolding used
@@ -86,12 +75,12 @@ module _ (c : Contents) (f : Filling) where
       slots = rows_long ∙ sym passed.values;
     }
 
-    pub factor_reached : (answer : FactorAnswer) (g : Filling)
+    pub factor_reached : (answer : Result Report Refusal) (g : Filling)
         → Reached (factor_from (used c).column_starts (used c).rows 0 (length f.diagonal) open_report f) answer g.diagonal g.values → Factored c answer f g
     unfolding factoring factor_out
     factor_reached answer g r =
         let whole : factoring c f ≡ factor_from (used c).column_starts (used c).rows 0 (length f.diagonal) open_report f =
-        ap (λ (i : ℕ). factor_out i c f) none ∙ ap (λ (n : ℕ). factor_from (used c).column_starts (used c).rows 0 n open_report f) (sym passed.diagonal) in
+        ap (λ (i : ℕ). factor_out i c f) (sym none) ∙ ap (λ (n : ℕ). factor_from (used c).column_starts (used c).rows 0 n open_report f) (sym passed.diagonal) in
         record {
           reply = r.reply ∙ sym (ap (λ (o : FactorOutcome). o.answer) whole);
           diagonal = r.diagonal_left ∙ sym (ap (λ (o : FactorOutcome). o.filling.diagonal) whole);

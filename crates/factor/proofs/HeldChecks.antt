@@ -9,10 +9,12 @@ use lib.Dec.{eqb}
 use lib.ListN.{length, get_or}
 use lib.Ieee.{nan}
 use borrow.Author.Tests.{eqb-true, eq-eqb, ne_eqb, not-false}
+use Rattle.std.specs.Prelude.{Result, Ok, Err}
+use Rattle.plan.specs.declared.refusal.Refusal.{Refusal}
 use Rattle.plan.specs.declared.PairAnswer.{PairAnswer}
 use Rattle.plan.specs.declared.PairAnswer.TheVariants as pair
 use Rattle.plan.specs.Lists.{is_in, index_of, list_at}
-use Rattle.plan.specs.Refusals.{Checks, first_fault}
+use Rattle.plan.specs.Refusals.{number_of, fault_of, Checks, first_fault}
 use Rattle.plan.specs.Answers.{Reply, accepted, slot_case, diagonal_case, no_slot_case, pair_reply, held_case, slotless_case}
 use Rattle.plan.specs.Questions.{layout_checks, position_outside, position_checks, question_checks, pair_found, pair_question}
 use Rattle.plan.specs.Filling.{Filling, Place, on_diagonal, in_slot, no_place, place_below, place_of, held_at}
@@ -22,7 +24,7 @@ use Rattle.plan.specs.Held.{held_checks, held_found, held_question}
 use Rattle.theory.proofs.Bools.{cond_true, cond_false, tested, eq_or_ne, or_false_left, or_false_right}
 use Rattle.theory.proofs.Lists.{is_in-head, is_in_tail, index_of_lt}
 use Rattle.theory.proofs.Ascending.{falls-get_or}
-use Rattle.theory.proofs.Refusals.{no_such, fault_here, fault_later, first_some, first-none}
+use Rattle.theory.proofs.Refusals.{number-suc, no_such, fault_here, fault_later, first_some, first-none}
 use Rattle.theory.proofs.Checked.{good-starts}
 use Rattle.theory.proofs.Compressed.{list_length}
 use Rattle.theory.proofs.Asked.{GoodLayout, good_layout, layout_fault, position_fault, no_question_fault, good_question}
@@ -43,11 +45,12 @@ place_cases starts rows a b = elim (tested (eqb a b)) [
   ]
 ]
 
--- every place has a kind
-kind-some : (at : Place) → 0 < get_or (place_values at) 0 0
-kind-some (on_diagonal i) = omega arith
-kind-some (in_slot s) = omega arith
-kind-some no_place = omega arith
+-- the number of an answer, as its reply tells it
+reply_number : (answer : Result PairAnswer Refusal) → fault_of answer ≡ (pair_reply answer).number
+reply_number (Ok (pair.Slot s)) = refl
+reply_number (Ok pair.Diagonal) = refl
+reply_number (Ok pair.NoSlot) = refl
+reply_number (Err r) = refl
 
 module _ (n : ℕ) (starts rows : List ℕ) (f : Filling) (a b : ℕ) where
   abbrev asked : Checks
@@ -71,12 +74,12 @@ module _ (n : ℕ) (starts rows : List ℕ) (f : Filling) (a b : ℕ) where
       go zero some = absurd (some refl)
       go (suc k) some = refl
 
-  module _ (answer : PairAnswer) (told : pair_reply answer ≡ pair_question n starts rows a b) where
+  module _ (answer : Result PairAnswer Refusal) (told : pair_reply answer ≡ pair_question n starts rows a b) where
     abbrev number : ℕ
-    number = (pair_reply answer).number
+    number = fault_of answer
 
     number-first : number ≡ first_fault asked
-    number-first = ap (λ (r : Reply). r.number) told ∙ pair-number
+    number-first = reply_number answer ∙ ap (λ (r : Reply). r.number) told ∙ pair-number
 
     -- what is left of the number where 21 counts for none
     abbrev before : ℕ
@@ -105,16 +108,18 @@ module _ (n : ℕ) (starts rows : List ℕ) (f : Filling) (a b : ℕ) where
     unfolding held_checks
     behind some = first_some (layout_checks n starts rows) _ some
 
-    pub layout_faulty : (k : ℕ) → k ≡ before → (k ≡ 0 → ⊥) → record { number = k; kind = 0; held = [] } ≡ held_question n starts rows f a b
-    layout_faulty k e some = elim clear_or_first [
-      | inl clear ↦ absurd (some (e ∙ none_before clear))
-      | inr first ↦ refused_by k some (behind first.1 ∙ sym (e ∙ first.0))
-    ]
+    pub layout_faulty : (r : Refusal) → number_of r ≡ before → record { number = number_of r; kind = 0; held = [] } ≡ held_question n starts rows f a b
+    layout_faulty r e =
+        let one = number-suc r in
+        elim clear_or_first [
+          | inl clear ↦ absurd (omega (arith, e, none_before clear, one.1))
+          | inr first ↦ refused_by (number_of r) (λ z. omega (arith, z, one.1)) (behind first.1 ∙ sym (e ∙ first.0))
+        ]
 
-    pub layout_clear : (k : ℕ) → k ≡ before → k ≡ 0 → first_fault (layout_checks n starts rows) ≡ 0
-    layout_clear k e none = elim clear_or_first [
+    pub layout_clear : 0 ≡ before → first_fault (layout_checks n starts rows) ≡ 0
+    layout_clear none = elim clear_or_first [
       | inl clear ↦ clear
-      | inr first ↦ sym first.0 ∙ sym e ∙ none
+      | inr first ↦ sym first.0 ∙ sym none
     ]
 
     -- a layout without a fault: the lengths are left, and the positions
@@ -189,10 +194,11 @@ module _ (n : ℕ) (starts rows : List ℕ) (f : Filling) (a b : ℕ) where
               )
 
         -- by the four answers
-        pub held_slot : (s : ℕ) → answer ≡ pair.Slot s
+        pub held_slot : (s : ℕ) (found : PairAnswer) → answer ≡ Ok found → found ≡ pair.Slot s
             → (s < length f.values) × (record { number = 0; kind = held_case; held = get_or f.values s nan ∷ [] } ≡ held_question n starts rows f a b)
         unfolding held_found held_at
-        held_slot s e =
+        held_slot s found whole here =
+            let e : answer ≡ Ok (pair.Slot s) = rw here at whole in
             let none : number ≡ 0 = rw e in
             let told : get_or (place_values (place_of starts rows a b)) 0 0 ≡ slot_case = sym (kind none) ∙ rw e in
             let slot : s ≡ get_or (place_values (place_of starts rows a b)) 1 0 = rw e at (ap (λ (r : Reply). get_or r.values 1 0) (there none)) in
@@ -200,16 +206,17 @@ module _ (n : ℕ) (starts rows : List ℕ) (f : Filling) (a b : ℕ) where
               | inl same ↦ absurd (omega (arith, rw same at told))
               | inr apart ↦ elim apart [
                 | inl has ↦
-                    let here : s ≡ get_or starts (min a b) 0 + index_of (max a b) (list_at starts rows (min a b)) = rw has.1 at slot in
-                    (omega (arith, here, values-long, slot_below none has.0), answered none (in_slot s) (has.1 ∙ ap in_slot (sym here)))
+                    let its : s ≡ get_or starts (min a b) 0 + index_of (max a b) (list_at starts rows (min a b)) = rw has.1 at slot in
+                    (omega (arith, its, values-long, slot_below none has.0), answered none (in_slot s) (has.1 ∙ ap in_slot (sym its)))
                 | inr empty ↦ absurd (omega (arith, rw empty at told))
               ]
             ]
 
-        pub held-diagonal : answer ≡ pair.Diagonal
+        pub held-diagonal : (found : PairAnswer) → answer ≡ Ok found → found ≡ pair.Diagonal
             → (a < length f.diagonal) × (record { number = 0; kind = held_case; held = get_or f.diagonal a nan ∷ [] } ≡ held_question n starts rows f a b)
         unfolding held_found held_at
-        held-diagonal e =
+        held-diagonal found whole here =
+            let e : answer ≡ Ok pair.Diagonal = rw here at whole in
             let none : number ≡ 0 = rw e in
             let told : get_or (place_values (place_of starts rows a b)) 0 0 ≡ diagonal_case = sym (kind none) ∙ rw e in
             elim (place_cases starts rows a b) [
@@ -220,9 +227,10 @@ module _ (n : ℕ) (starts rows : List ℕ) (f : Filling) (a b : ℕ) where
               ]
             ]
 
-        pub held_none : answer ≡ pair.NoSlot → record { number = 0; kind = slotless_case; held = [] } ≡ held_question n starts rows f a b
+        pub held_none : (found : PairAnswer) → answer ≡ Ok found → found ≡ pair.NoSlot → record { number = 0; kind = slotless_case; held = [] } ≡ held_question n starts rows f a b
         unfolding held_found held_at
-        held_none e =
+        held_none found whole here =
+            let e : answer ≡ Ok pair.NoSlot = rw here at whole in
             let none : number ≡ 0 = rw e in
             let told : get_or (place_values (place_of starts rows a b)) 0 0 ≡ no_slot_case = sym (kind none) ∙ rw e in
             elim (place_cases starts rows a b) [
@@ -233,7 +241,7 @@ module _ (n : ℕ) (starts rows : List ℕ) (f : Filling) (a b : ℕ) where
               ]
             ]
 
-        pub held-refused : (k : ℕ) → answer ≡ pair.Refused k → record { number = k; kind = 0; held = [] } ≡ held_question n starts rows f a b
-        held-refused k e =
-            let here : k ≡ first_fault asked = rw e at number-first in
-            refused_by k (λ z. omega (arith, rw e at (kind (rw e z)), kind-some (place_of starts rows a b))) (fault ∙ sym here)
+        pub held-refused : (r : Refusal) → answer ≡ Err r → record { number = number_of r; kind = 0; held = [] } ≡ held_question n starts rows f a b
+        held-refused r e =
+            let here : number_of r ≡ first_fault asked = rw e at number-first in
+            refused_by (number_of r) (λ z. omega (arith, z, (number-suc r).1)) (fault ∙ sym here)

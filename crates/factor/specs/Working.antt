@@ -1,9 +1,10 @@
 -- A column at work and all columns: what is asked of the plan and of both buffers, and what the buffers hold on the way and afterwards.
-use Rattle.std.specs.Prelude.{◌≡◌, List, ℕ, ◌+◌, ◌-◌, ◌≤◌, ◌<◌, length, get_or, Float}
-use Rattle.plan.specs.declared.FactorAnswer.{FactorAnswer}
+use Rattle.std.specs.Prelude.{◌≡◌, List, ℕ, ◌+◌, ◌-◌, ◌≤◌, ◌<◌, length, get_or, Float, Result}
+use Rattle.plan.specs.declared.Report.{Report}
+use Rattle.plan.specs.declared.refusal.Refusal.{Refusal}
 use Rattle.plan.specs.Lists.{up_from}
 use Rattle.plan.specs.Mesh.{max_nodes}
-use Rattle.plan.specs.Factoring.{pairs, subtracted, factor_column, FactorOutcome}
+use Rattle.plan.specs.Factoring.{pairs, subtracted, factor_column, factor_reply, FactorOutcome}
 use Rattle.theory.specs.Covering.{Covering}
 use Rattle.factor.specs.Down.{Keeps, above32}
 
@@ -70,7 +71,7 @@ pub record Lent (starts rows : List ℕ) (diagonal values : List Float) : Type 0
   pub slots : length rows ≡ length values
 
 -- the answer and both buffers of an outcome
-pub record Reached (o : FactorOutcome) (answer : FactorAnswer) (diagonal values : List Float) : Type 0 where
-  pub reply : answer ≡ o.answer
+pub record Reached (o : FactorOutcome) (answer : Result Report Refusal) (diagonal values : List Float) : Type 0 where
+  pub reply : factor_reply answer ≡ o.answer
   pub diagonal_left : diagonal ≡ o.filling.diagonal
   pub values_left : values ≡ o.filling.values

@@ -2,22 +2,12 @@
 ghost use Rattle.std.specs.Prelude.{◌≡◌, ◌+◌, ◌-◌, ◌*◌, ◌/◌, ◌≤◌, ◌<◌, length, get_or};
 ghost use Rattle.std.specs.Float.Ieee.Positive.{positive};
 ghost use Rattle.plan.specs.Mesh.{max_nodes};
-ghost use Rattle.plan.specs.Factoring.{column_operations, zero_report, open_report, factor_from};
+ghost use Rattle.plan.specs.Factoring.{column_operations, open_report, factor_from};
 ghost use Rattle.factor.specs.Working.{Lent, Reached};
 
 use crate::column::factor_column;
 use crate::table::Columns;
-use plan::{FactorAnswer, Plan, Report};
-
-// A refusal, with a report of zeros. O(1).
-pub(crate) fn refused(number: u32) -> FactorAnswer
-    ensures { result ≡ record { refusal = number; report = zero_report } }
-{
-    FactorAnswer {
-        refusal: number,
-        report: Report::zero(),
-    }
-}
+use plan::{Plan, Refusal, Report};
 
 // Whether d is both finite and above zero. O(1).
 pub(crate) fn is_pivot(d: f64) -> bool
@@ -47,7 +37,7 @@ pub(crate) fn factor_columns(
     columns: &Columns,
     diagonal: &mut [f64],
     values: &mut [f64],
-) -> FactorAnswer
+) -> Result<Report, Refusal>
     requires { Lent columns.now.starts.now columns.now.rows.now diagonal.old values.old }
     ensures { Reached (factor_from columns.now.starts.now columns.now.rows.now 0 (length diagonal.old) open_report
         (record { diagonal = diagonal.old; values = values.old })) result diagonal.new values.new }
@@ -59,7 +49,7 @@ pub(crate) fn factor_columns(
     for j in 0..diagonal.len() {
         let d = diagonal[j];
         if !is_pivot(d) {
-            return refused(31);
+            return Err(Refusal::Pivot);
         }
         factor_column(
             columns,
@@ -73,5 +63,5 @@ pub(crate) fn factor_columns(
         );
         report = report.after(d, operations(columns, j));
     }
-    FactorAnswer { refusal: 0, report }
+    Ok(report)
 }

@@ -1,21 +1,20 @@
 // Reading the factor at a pair of positions, for display.
 ghost use Rattle.std.specs.Prelude.{◌≡◌, cond, eqb};
-ghost use Rattle.plan.specs.Answers.{pair_reply, held_reply};
+ghost use Rattle.plan.specs.Refusals.{fault_of};
+ghost use Rattle.plan.specs.Answers.{held_reply};
 ghost use Rattle.plan.specs.Held.{held_question};
 
 use crate::entry::bad_filling;
 use layout::slot_of_pair;
-use plan::{HeldAnswer, PairAnswer};
+use plan::{HeldAnswer, PairAnswer, Refusal};
 
-// The number of a refusal by a check before 21, which are 1 and 22, and 0 for any other answer. O(1).
-fn refused_before(answer: PairAnswer) -> u32
-    ensures { result ≡ cond (eqb (pair_reply answer).number 21) 0 (pair_reply answer).number }
+// The refusal by a check before 21, which are 1 and 22, and none for any other answer. O(1).
+fn refused_before(answer: Result<PairAnswer, Refusal>) -> Result<(), Refusal>
+    ensures { fault_of result ≡ cond (eqb (fault_of answer) 21) 0 (fault_of answer) }
 {
     match answer {
-        PairAnswer::Slot(_) => 0,
-        PairAnswer::Diagonal => 0,
-        PairAnswer::NoSlot => 0,
-        PairAnswer::Refused(number) => { if number == 21 { 0 } else { number } }
+        Err(refusal) if refusal != Refusal::PositionOutside => Err(refusal),
+        _ => Ok(()),
     }
 }
 
@@ -33,17 +32,16 @@ pub fn held_at(
 {
     let answer = slot_of_pair(n, column_starts, rows, a, b);
     // 30 comes behind 1 and 22, and before 21
-    let fault = refused_before(answer);
-    if fault != 0 {
-        return HeldAnswer::Refused(fault);
+    if let Err(refusal) = refused_before(answer) {
+        return HeldAnswer::Refused(refusal.number());
     }
     if bad_filling(n, column_starts[n] as usize, diagonal, values) {
-        return HeldAnswer::Refused(30);
+        return HeldAnswer::Refused(Refusal::ValueCount.number());
     }
     match answer {
-        PairAnswer::Slot(s) => HeldAnswer::Value(values[s as usize]),
-        PairAnswer::Diagonal => HeldAnswer::Value(diagonal[a]),
-        PairAnswer::NoSlot => HeldAnswer::NoSlot,
-        PairAnswer::Refused(number) => HeldAnswer::Refused(number),
+        Ok(PairAnswer::Slot(s)) => HeldAnswer::Value(values[s as usize]),
+        Ok(PairAnswer::Diagonal) => HeldAnswer::Value(diagonal[a]),
+        Ok(PairAnswer::NoSlot) => HeldAnswer::NoSlot,
+        Err(refusal) => HeldAnswer::Refused(refusal.number()),
     }
 }

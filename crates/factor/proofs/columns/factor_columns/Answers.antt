@@ -14,7 +14,7 @@ pub loop-j-init : goal.loop-j-init
 loop-j-init c = columns-begin c.args.columns.now.starts.now c.args.columns.now.rows.now c.args.diagonal.now c.args.values.now c.open-report.result _ _ _ (search rules) (search rules) (search rules) c.open-report.ensures
 
 pub returns-then-not-is_pivot : goal.returns-then-not-is_pivot
-returns-then-not-is_pivot c = columns_stop c.args.columns.now.starts.now c.args.columns.now.rows.now c.args.diagonal.now c.args.values.now c.open-report.result c.loop-j.diagonal c.loop-j.values c.loop-j.kept c.loop-j.lower c.loop-j.places c.loop-j.report c.loop-j.j c.loop-j.invariant c.open-report.ensures c.loop-j-test.true (sym c.is_pivot.ensures ∙ not-true c.is_pivot.result (ap not c.if-not-is_pivot.true)) c.refused.result c.refused.ensures
+returns-then-not-is_pivot c = columns_stop c.args.columns.now.starts.now c.args.columns.now.rows.now c.args.diagonal.now c.args.values.now c.open-report.result c.loop-j.diagonal c.loop-j.values c.loop-j.kept c.loop-j.lower c.loop-j.places c.loop-j.report c.loop-j.j c.loop-j.invariant c.open-report.ensures c.loop-j-test.true (sym c.is_pivot.ensures ∙ not-true c.is_pivot.result (ap not c.if-not-is_pivot.true))
 
 pub factor_column-requires : goal.factor_column-requires
 factor_column-requires c =

@@ -12,75 +12,59 @@ use Rattle.plan.specs.Questions.{layout_checks}
 use Rattle.plan.specs.Factoring.{bad_filling}
 use Rattle.plan.specs.Held.{held_question}
 use Rattle.factor.proofs.HeldChecks.{layout_faulty, layout_clear, starts-many, lengths_wrong, held_slot, held-diagonal, held_none, held-refused}
-use Rattle.factor.proofs.held.held_at.Goals.{Else-fault-ne0, Else-bad_filling, In-Slot, In-Diagonal}
+use Rattle.factor.proofs.held.held_at.Goals.{In_default, Else-bad_filling, In-Ok-Slot, In-Ok-Diagonal}
 use Rattle.factor.proofs.held.held_at.Goals as goal
 
-pub returns-then-fault-ne0 : goal.returns-then-fault-ne0
-returns-then-fault-ne0 c = layout_faulty c.args.n c.args.column_starts.now c.args.rows.now (record { diagonal = c.args.diagonal.now; values = c.args.values.now }) c.args.a c.args.b c.slot_of_pair-answer.result c.slot_of_pair-answer.ensures c.refused_before-fault.result c.refused_before-fault.ensures c.if-fault-ne0.true
+pub returns-in-Err : goal.returns-in-Err
+returns-in-Err c = rw c.number.ensures (layout_faulty c.args.n c.args.column_starts.now c.args.rows.now (record { diagonal = c.args.diagonal.now; values = c.args.values.now }) c.args.a c.args.b c.slot_of_pair-answer.result c.slot_of_pair-answer.ensures c.in-Err.refusal c.in-Err.ensures)
 
 -- the layout has no fault
-clear : (c : Else-fault-ne0) → first_fault (layout_checks c.args.n c.args.column_starts.now c.args.rows.now) ≡ 0
-clear c = layout_clear c.args.n c.args.column_starts.now c.args.rows.now (record { diagonal = c.args.diagonal.now; values = c.args.values.now }) c.args.a c.args.b c.slot_of_pair-answer.result c.slot_of_pair-answer.ensures c.refused_before-fault.result c.refused_before-fault.ensures c.if-fault-ne0.false
+clear : (c : In_default) → first_fault (layout_checks c.args.n c.args.column_starts.now c.args.rows.now) ≡ 0
+clear c = layout_clear c.args.n c.args.column_starts.now c.args.rows.now (record { diagonal = c.args.diagonal.now; values = c.args.values.now }) c.args.a c.args.b c.slot_of_pair-answer.result c.slot_of_pair-answer.ensures c.in_default.ensures
 
--- the layout has no fault
-clear_at_in_diagonal : (c : In-Diagonal) → first_fault (layout_checks c.args.n c.args.column_starts.now c.args.rows.now) ≡ 0
-clear_at_in_diagonal c = layout_clear c.args.n c.args.column_starts.now c.args.rows.now (record { diagonal = c.args.diagonal.now; values = c.args.values.now }) c.args.a c.args.b c.slot_of_pair-answer.result c.slot_of_pair-answer.ensures c.refused_before-fault.result c.refused_before-fault.ensures c.if-fault-ne0.false
-
--- the layout has no fault
-clear_at_in_slot : (c : In-Slot) → first_fault (layout_checks c.args.n c.args.column_starts.now c.args.rows.now) ≡ 0
-clear_at_in_slot c = layout_clear c.args.n c.args.column_starts.now c.args.rows.now (record { diagonal = c.args.diagonal.now; values = c.args.values.now }) c.args.a c.args.b c.slot_of_pair-answer.result c.slot_of_pair-answer.ensures c.refused_before-fault.result c.refused_before-fault.ensures c.if-fault-ne0.false
-
-many : (c : Else-fault-ne0) → length c.args.column_starts.now ≡ c.args.n + 1
+many : (c : In_default) → length c.args.column_starts.now ≡ c.args.n + 1
 many c = starts-many c.args.n c.args.column_starts.now c.args.rows.now (record { diagonal = c.args.diagonal.now; values = c.args.values.now }) c.args.a c.args.b c.slot_of_pair-answer.result c.slot_of_pair-answer.ensures (clear c)
 
 pub returns-then-bad_filling : goal.returns-then-bad_filling
-returns-then-bad_filling c = lengths_wrong c.args.n c.args.column_starts.now c.args.rows.now (record { diagonal = c.args.diagonal.now; values = c.args.values.now }) c.args.a c.args.b c.slot_of_pair-answer.result c.slot_of_pair-answer.ensures (clear (goal.at.returns-then-bad_filling c).Else-fault-ne0) (sym c.bad_filling.ensures ∙ c.if-bad_filling.true)
+returns-then-bad_filling c = rw c.number-then-bad_filling.ensures (lengths_wrong c.args.n c.args.column_starts.now c.args.rows.now (record { diagonal = c.args.diagonal.now; values = c.args.values.now }) c.args.a c.args.b c.slot_of_pair-answer.result c.slot_of_pair-answer.ensures (clear (goal.at.returns-then-bad_filling c).In_default) (sym c.bad_filling.ensures ∙ c.if-bad_filling.true))
 
 -- both buffers are as long as needed
 right : (c : Else-bad_filling) → bad_filling c.args.n (get_or c.args.column_starts.now c.args.n 0) (record { diagonal = c.args.diagonal.now; values = c.args.values.now }) ≡ false
 right c = sym c.bad_filling.ensures ∙ c.if-bad_filling.false
 
--- both buffers are as long as needed
-right_at_in_diagonal : (c : In-Diagonal) → bad_filling c.args.n (get_or c.args.column_starts.now c.args.n 0) (record { diagonal = c.args.diagonal.now; values = c.args.values.now }) ≡ false
-right_at_in_diagonal c = sym c.bad_filling.ensures ∙ c.if-bad_filling.false
-
--- both buffers are as long as needed
-right_at_in_slot : (c : In-Slot) → bad_filling c.args.n (get_or c.args.column_starts.now c.args.n 0) (record { diagonal = c.args.diagonal.now; values = c.args.values.now }) ≡ false
-right_at_in_slot c = sym c.bad_filling.ensures ∙ c.if-bad_filling.false
-
 -- a number in a slot
-slotted : (c : In-Slot) → (c.in-Slot.s < length c.args.values.now)
-    × (record { number = 0; kind = held_case; held = get_or c.args.values.now c.in-Slot.s nan ∷ [] } ≡ held_question c.args.n c.args.column_starts.now c.args.rows.now (record { diagonal = c.args.diagonal.now; values = c.args.values.now }) c.args.a c.args.b)
-slotted c = held_slot c.args.n c.args.column_starts.now c.args.rows.now (record { diagonal = c.args.diagonal.now; values = c.args.values.now }) c.args.a c.args.b c.slot_of_pair-answer.result c.slot_of_pair-answer.ensures (clear_at_in_slot c) (right_at_in_slot c) _ c.in-Slot.is
+slotted : (c : In-Ok-Slot) → (c.in-Ok-Slot.s < length c.args.values.now)
+    × (record { number = 0; kind = held_case; held = get_or c.args.values.now c.in-Ok-Slot.s nan ∷ [] } ≡ held_question c.args.n c.args.column_starts.now c.args.rows.now (record { diagonal = c.args.diagonal.now; values = c.args.values.now }) c.args.a c.args.b)
+slotted c = held_slot c.args.n c.args.column_starts.now c.args.rows.now (record { diagonal = c.args.diagonal.now; values = c.args.values.now }) c.args.a c.args.b c.slot_of_pair-answer.result c.slot_of_pair-answer.ensures (layout_clear c.args.n c.args.column_starts.now c.args.rows.now (record { diagonal = c.args.diagonal.now; values = c.args.values.now }) c.args.a c.args.b c.slot_of_pair-answer.result c.slot_of_pair-answer.ensures c.in_default.ensures) (sym c.bad_filling.ensures ∙ c.if-bad_filling.false) c.in-Ok-Slot.s c.in-Ok-Slot.field-0 c.in-Ok-Slot.is (rw c.in-Ok-Slot.is at c.in-Ok-Slot.field-0-is)
 
 -- a number on the diagonal
-diagonal : (c : In-Diagonal) → (c.args.a < length c.args.diagonal.now)
+diagonal : (c : In-Ok-Diagonal) → (c.args.a < length c.args.diagonal.now)
     × (record { number = 0; kind = held_case; held = get_or c.args.diagonal.now c.args.a nan ∷ [] } ≡ held_question c.args.n c.args.column_starts.now c.args.rows.now (record { diagonal = c.args.diagonal.now; values = c.args.values.now }) c.args.a c.args.b)
-diagonal c = held-diagonal c.args.n c.args.column_starts.now c.args.rows.now (record { diagonal = c.args.diagonal.now; values = c.args.values.now }) c.args.a c.args.b c.slot_of_pair-answer.result c.slot_of_pair-answer.ensures (clear_at_in_diagonal c) (right_at_in_diagonal c) c.in-Diagonal.is
+diagonal c = held-diagonal c.args.n c.args.column_starts.now c.args.rows.now (record { diagonal = c.args.diagonal.now; values = c.args.values.now }) c.args.a c.args.b c.slot_of_pair-answer.result c.slot_of_pair-answer.ensures (layout_clear c.args.n c.args.column_starts.now c.args.rows.now (record { diagonal = c.args.diagonal.now; values = c.args.values.now }) c.args.a c.args.b c.slot_of_pair-answer.result c.slot_of_pair-answer.ensures c.in_default.ensures) (sym c.bad_filling.ensures ∙ c.if-bad_filling.false) c.in-Ok-Diagonal.field-0 c.in-Ok-Diagonal.is (rw c.in-Ok-Diagonal.is at c.in-Ok-Diagonal.field-0-is)
 
-pub returns-in-NoSlot : goal.returns-in-NoSlot
-returns-in-NoSlot c = held_none c.args.n c.args.column_starts.now c.args.rows.now (record { diagonal = c.args.diagonal.now; values = c.args.values.now }) c.args.a c.args.b c.slot_of_pair-answer.result c.slot_of_pair-answer.ensures (clear (goal.at.returns-in-NoSlot c).Else-fault-ne0) (right (goal.at.returns-in-NoSlot c).Else-bad_filling) c.in-NoSlot.is
+pub returns-in-Ok-NoSlot : goal.returns-in-Ok-NoSlot
+returns-in-Ok-NoSlot c = held_none c.args.n c.args.column_starts.now c.args.rows.now (record { diagonal = c.args.diagonal.now; values = c.args.values.now }) c.args.a c.args.b c.slot_of_pair-answer.result c.slot_of_pair-answer.ensures (clear (goal.at.returns-in-Ok-NoSlot c).In_default) (right (goal.at.returns-in-Ok-NoSlot c).Else-bad_filling) c.in-Ok-NoSlot.field-0 c.in-Ok-NoSlot.is (rw c.in-Ok-NoSlot.is at c.in-Ok-NoSlot.field-0-is)
 
-pub returns-in-Refused : goal.returns-in-Refused
-returns-in-Refused c = held-refused c.args.n c.args.column_starts.now c.args.rows.now (record { diagonal = c.args.diagonal.now; values = c.args.values.now }) c.args.a c.args.b c.slot_of_pair-answer.result c.slot_of_pair-answer.ensures (clear (goal.at.returns-in-Refused c).Else-fault-ne0) (right (goal.at.returns-in-Refused c).Else-bad_filling) _ c.in-Refused.is
+pub returns-in-Err-answer : goal.returns-in-Err-answer
+returns-in-Err-answer c = rw c.number-in-Err-answer.ensures (held-refused c.args.n c.args.column_starts.now c.args.rows.now (record { diagonal = c.args.diagonal.now; values = c.args.values.now }) c.args.a c.args.b c.slot_of_pair-answer.result c.slot_of_pair-answer.ensures (clear (goal.at.returns-in-Err-answer c).In_default) (right (goal.at.returns-in-Err-answer c).Else-bad_filling) c.in-Err-answer.refusal c.in-Err-answer.is)
 
 pub offset_bounds-column_starts-n : goal.offset_bounds-column_starts-n
-offset_bounds-column_starts-n c = search (rules, many (goal.at.offset_bounds-column_starts-n c).Else-fault-ne0)
+offset_bounds-column_starts-n c = search (rules, many (goal.at.offset_bounds-column_starts-n c).In_default)
 
 pub bounds-column_starts-n : goal.bounds-column_starts-n
-bounds-column_starts-n c = search (rules, many (goal.at.bounds-column_starts-n c).Else-fault-ne0)
+bounds-column_starts-n c = search (rules, many (goal.at.bounds-column_starts-n c).In_default)
 
 pub bounds-values-s : goal.bounds-values-s
-bounds-values-s c = (slotted (goal.at.bounds-values-s c).In-Slot).0
+bounds-values-s c = (slotted (goal.at.bounds-values-s c).In-Ok-Slot).0
 
 pub offset_bounds-diagonal-a : goal.offset_bounds-diagonal-a
-offset_bounds-diagonal-a c = search (rules, (diagonal (goal.at.offset_bounds-diagonal-a c).In-Diagonal).0)
+offset_bounds-diagonal-a c = search (rules, (diagonal (goal.at.offset_bounds-diagonal-a c).In-Ok-Diagonal).0)
 
 pub bounds-diagonal-a : goal.bounds-diagonal-a
-bounds-diagonal-a c = (diagonal (goal.at.bounds-diagonal-a c).In-Diagonal).0
+bounds-diagonal-a c = (diagonal (goal.at.bounds-diagonal-a c).In-Ok-Diagonal).0
 
-pub returns-in-Slot : goal.returns-in-Slot
-returns-in-Slot c = (slotted (goal.at.returns-in-Slot c).In-Slot).1
+pub returns-in-Ok-Slot : goal.returns-in-Ok-Slot
+returns-in-Ok-Slot c = (slotted (goal.at.returns-in-Ok-Slot c).In-Ok-Slot).1
 
-pub returns-in-Diagonal : goal.returns-in-Diagonal
-returns-in-Diagonal c = (diagonal (goal.at.returns-in-Diagonal c).In-Diagonal).1
+pub returns-in-Ok-Diagonal : goal.returns-in-Ok-Diagonal
+returns-in-Ok-Diagonal c = (diagonal (goal.at.returns-in-Ok-Diagonal c).In-Ok-Diagonal).1
