@@ -3,13 +3,14 @@ use mathlib.Core.Path.{◌≡◌, refl, sym, ap, ◌∙◌}
 use mathlib.Core.Logic.{inl, inr}
 use mathlib.Core.Bool.{Bool, true, false, cond, ◌&&◌, ◌||◌, and-false}
 use mathlib.Core.List.{List, ◌++◌}
-use Prim.Native.Nat.{ℕ, ◌+◌, ◌<◌}
+use Prim.Native.Nat.{ℕ, ◌+◌, ◌-◌, ◌≤◌, ◌<◌}
 use native.Mathlib.Nat.{add-zero}
 use native.Mathlib.Omega.{arith}
 use borrow.Author.Tests.{eqb-true, eqb-false, ne_eqb}
 use lib.Dec.{eqb}
-use lib.ListN.{length, get_or, take, set, length-set}
-use lib.Seq.{take-take, take-set-le, get_or-set_same, get_or-set_other, set-get_or}
+use lib.ListN.{length, get_or, take, drop, set, length-append, length-drop, length-set}
+use lib.Seq.{length-take-le, take-take, take-set-le, get_or-set_same, get_or-set_other, set-get_or}
+use Rattle.std.proofs.Math.Seq.{take-append_seam, drop-append_seam}
 use Rattle.plan.specs.Lists.{is_in, segment}
 use Rattle.theory.proofs.Bools.{tested}
 use Rattle.theory.proofs.Lists.{exists-append}
@@ -27,7 +28,7 @@ spread_none {hi = hi} {q₁ = q₁} room same long h =
       kept = same;
       numbers_length = refl;
       queue_length = long;
-      left = record { numbers_long = room.numbers_long; queue_long = omega (arith, long, room.queue_long); room = room.room };
+      left = record { numbers_long = room.numbers_long; room = omega (arith, long, room.room) };
       low = omega arith;
       many = refl;
     }
@@ -72,7 +73,7 @@ module _ {n x hi w : ℕ} {ns q : List ℕ} (room : Room n ns q hi) (wf : w < n)
   newly_other v e = rw e (and-false (eqb (get_or ns v 0) fresh))
 
   -- the queue has a place for it
-  pub place-left : hi < n
+  pub place-left : hi < length q
   place-left = omega (arith, room.room, fresh-less n w x ns wf room.numbers_long xf none)
 
   -- it gets the number and the place
@@ -80,22 +81,20 @@ module _ {n x hi w : ℕ} {ns q : List ℕ} (room : Room n ns q hi) (wf : w < n)
   spread_one =
       let less : length (fresh_of n (set ns w x)) + 1 ≡ length (fresh_of n ns) = fresh-less n w x ns wf room.numbers_long xf none in
       let wl : w < length ns = omega (arith, room.numbers_long) in
-      let ql : hi < length q = omega (arith, room.queue_long, place-left) in
       record {
         numbers = λ v. elim (tested (eqb v w)) [
           | inl e ↦ rw (newly_w v e, eqb-true v w e) (get_or-set_same ns w x 0 wl)
           | inr e ↦ rw (newly_other v e) (get_or-set_other ns w v x 0 (eqb-false v w e))
         ];
         queued = λ v. segment_more (eqb v) (set q hi w) hi hi (omega arith) (omega (arith, length-set q hi w))
-            ∙ rw (segment-none (set q hi w) hi, get_or-set_same q hi w 0 ql)
+            ∙ rw (segment-none (set q hi w) hi, get_or-set_same q hi w 0 place-left)
             (elim (tested (eqb v w)) [ inl e ↦ rw (newly_w v e, e) | inr e ↦ rw (newly_other v e, e) ]);
         kept = take-set-le hi q hi w (omega arith);
         numbers_length = length-set ns w x;
         queue_length = length-set q hi w;
         left = record {
           numbers_long = omega (arith, length-set ns w x, room.numbers_long);
-          queue_long = omega (arith, length-set q hi w, room.queue_long);
-          room = omega (arith, room.room);
+          room = omega (arith, length-set q hi w, room.room);
         };
         low = omega arith;
         many = omega arith;
@@ -148,3 +147,23 @@ module _ {n x hi : ℕ} {n₀ q₀ : List ℕ} {s : ℕ → Bool} {n₁ q₁ : L
         low = omega (arith, p.low, p'.low);
         many = omega (arith, p.many, p'.many);
       }
+
+-- what is spread from the front of the places behind place hi is spread from hi
+pub spread_behind : {n x hi : ℕ} {ns q : List ℕ} {t : ℕ → Bool} {ns₁ rest : List ℕ} {tail : ℕ} → hi ≤ length q → Spread n x 0 ns (drop hi q) t ns₁ rest tail
+    → Spread n x hi ns q t ns₁ (take hi q ++ rest) (hi + tail)
+spread_behind {hi = hi} {q = q} {rest = rest} {tail = tail} long p =
+    let front : length (take hi q) ≡ hi = length-take-le hi q long in
+    let all : length (take hi q ++ rest) ≡ length q = omega (arith, length-append (take hi q) rest, front, p.queue_length, length-drop hi q) in
+    let y : drop hi (take hi q ++ rest) ≡ rest = rw front at (drop-append_seam (take hi q) rest) in
+    let z : hi + tail - hi ≡ tail = omega arith in
+    let z₀ : tail - 0 ≡ tail = omega arith in
+    record {
+      numbers = p.numbers;
+      queued = λ v. ap (is_in v) (rw (z, z₀, y) refl) ∙ p.queued v;
+      kept = rw front at (take-append_seam (take hi q) rest);
+      numbers_length = p.numbers_length;
+      queue_length = all;
+      left = record { numbers_long = p.left.numbers_long; room = omega (arith, p.left.room, p.queue_length, length-drop hi q, all) };
+      low = omega arith;
+      many = omega (arith, p.many);
+    }

@@ -93,7 +93,7 @@ walking_as {n} {last} {width} {lo} {hi} {numbers} {queue} edge root e w = subst 
 
 -- the queue is no longer than there are nodes, and there are fewer steps than that
 pub stand_few : {n : ℕ} {old : List ℕ} {ls : List (List ℕ)} {last width lo hi : ℕ} {numbers queue : List ℕ} → Stand n old ls last width lo hi numbers queue → (hi ≤ n) × (last < hi)
-stand_few s = omega (arith, s.left.room, s.deep, s.some)
+stand_few {n} {old} s = omega (arith, s.many, fresh-few n old, s.deep, s.some)
 
 -- the numbers before the root's was set
 pub restored : (old : List ℕ) (root : ℕ) → get_or old root 0 ≡ fresh → set (set old root 0) root fresh ≡ old
@@ -103,7 +103,7 @@ restored old root e = set-set old root 0 fresh ∙ ap (set old root) (sym e) ∙
 pub walk_start : (n : ℕ) (edge : Graph) (old : List ℕ) (root : ℕ) (q : List ℕ) → root < n → get_or old root 0 ≡ fresh → n ≤ length old → n < length q → Walking n edge root old 0 1 0 1 (set old root 0) (set q 0 root)
 unfolding levels_back head_d widest
 walk_start n edge old root q lt e long long' =
-    let room : Room n old q 0 = record { numbers_long = long; queue_long = long'; room = omega (arith, fresh-few n old) } in
+    let room : Room n old q 0 = record { numbers_long = long; room = omega (arith, fresh-few n old, long') } in
     let p : Spread n 0 0 old q (λ u. eqb u root) (set old root 0) (set q 0 root) (0 + 1) = spread_one room lt (omega arith) e in
     let is : (v : ℕ) → newly old (λ u. eqb u root) v ≡ (eqb v root || false) = λ v. elim (tested (eqb v root)) [
       | inl t ↦ rw (t, eqb-true v root t, e)
@@ -243,7 +243,7 @@ module _ (n : ℕ) (edge : Graph) (inside : (u v : ℕ) → edge u v ≡ true �
     walk_node k h =
         let v : ℕ = get_or q k 0 in
         let in-queue : is_in v (take hi q) ≡ true =
-        ap (λ (x : ℕ). is_in x (take hi q)) (sym (get_or-take hi q k 0 h)) ∙ is_in-get_or (take hi q) k 0 (omega (arith, length-take-le hi q (omega (arith, s.left.room, s.left.queue_long)))) in
+        ap (λ (x : ℕ). is_in x (take hi q)) (sym (get_or-take hi q k 0 h)) ∙ is_in-get_or (take hi q) k 0 (omega (arith, length-take-le hi q (omega (arith, s.left.room)))) in
         let in-region : is_in v region ≡ true = reached-inside edge region root (levelled edge region root last) (in_fresh n old root lt e) v (sym (s.reached v) ∙ in-queue) in
         (of_fresh n old v in-region).0
 

@@ -3,11 +3,10 @@ use Rattle.std.specs.Prelude.{◌≡◌, Bool, cond, ◌&&◌, List, ℕ, ◌+�
 use Rattle.plan.specs.Lists.{is_in, segment}
 use Rattle.dissection.specs.Numbers.{fresh, fresh_of}
 
--- The numbers and the queue are long enough for n nodes, the queue by one place more, and it has room for every fresh node behind place `tail`.
+-- The numbers are long enough for n nodes, and the queue has room for every fresh node behind place `tail`, and for one more.
 pub record Room (n : ℕ) (numbers queue : List ℕ) (tail : ℕ) : Type 0 where
   pub numbers_long : n ≤ length numbers
-  pub queue_long : n < length queue
-  pub room : tail + length (fresh_of n numbers) ≤ n
+  pub room : tail + length (fresh_of n numbers) < length queue
 
 -- whether v is fresh and touched
 abbrev pub newly : List ℕ → (ℕ → Bool) → ℕ → Bool

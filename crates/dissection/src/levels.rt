@@ -42,12 +42,12 @@ fn advance<T: Touch>(
     requires { (x < fresh) × (lo ≤ hi) × Room mesh.now.nodes numbers.old queue.old hi × ((k : ℕ) → k < hi → get_or queue.old k 0 < mesh.now.nodes) }
     ensures { Spread mesh.now.nodes x hi numbers.old queue.old (λ v. exists (λ u. adjacent (as_lent mesh.now) u v) (segment queue.old lo hi)) numbers.new queue.new result }
 {
-    let mut tail = hi;
-    // kept: k is a place of the queue, which the visits write behind hi while its places before hi are read
-    for k in lo..hi {
-        tail = visit::<T>(mesh, queue[k] as usize, x, numbers, queue, tail);
+    let (reached, places) = queue.split_at_mut(hi);
+    let mut end: usize = 0;
+    for &u in &reached[lo..] {
+        end = visit::<T>(mesh, u as usize, x, numbers, places, end);
     }
-    tail
+    hi + end
 }
 
 // What a walk tells: the number of the last level (document 01: ℓ), the node count of the widest level, and how many nodes were reached.

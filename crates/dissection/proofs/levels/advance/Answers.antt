@@ -1,57 +1,34 @@
--- `dissection::levels::advance` meets its contract: the lists of the nodes before place k have been visited.
+-- `dissection::levels::advance` meets its contract: the lists of the nodes passed have been visited, from the places behind place hi on.
 use mathlib.Core.Path.{◌≡◌, sym, ap, ◌∙◌}
-use mathlib.Core.Bool.{◌||◌}
+use mathlib.Core.List.{List}
 use Prim.Native.Nat.{ℕ}
 use native.Mathlib.Omega.{arith}
-use lib.ListN.{get_or}
+use lib.ListN.{length, take}
+use lib.Seq.{take-take, take_all}
 use Rattle.plan.specs.Lists.{exists, segment}
 use Rattle.plan.specs.Mesh.{adjacent}
-use Rattle.theory.proofs.Lists.{get_d_front}
-use Rattle.theory.proofs.Segments.{segment-none, segment_more}
+use Rattle.theory.proofs.Lists.{exists_more}
+use Rattle.theory.proofs.Segments.{segment-front}
 use Rattle.mesh.specs.Lent.{as_lent}
-use Rattle.dissection.proofs.Spreads.{spread_start, spread_as, spread_both}
-use Rattle.dissection.proofs.levels.advance.Goals.{In-loop-k}
+use Rattle.dissection.specs.Spread.{Spread}
+use Rattle.dissection.proofs.Spreads.{spread_as, spread_both, spread_behind}
 use Rattle.dissection.proofs.levels.advance.Goals as goal
-use Rattle.dissection.proofs.levels.advance.Given as given
 
-pub loop-k-init : goal.loop-k-init
-loop-k-init g c = (
-  omega arith,
-  c.requires.1,
-  omega (arith, c.requires.2.room),
-  spread_start c.requires.2 (λ v. ap (exists (λ u. adjacent (as_lent c.args.mesh.now) u v)) (segment-none c.args.queue.now c.args.lo)),
-)
-
-pub bounds-queue-k : goal.bounds-queue-k
-bounds-queue-k g c = omega (arith, c.loop-k-test.true, c.loop-k.invariant.2, c.loop-k.invariant.3.left.queue_long)
-
--- the node at place k is the one that stood there before the loop
-same_node : (g : given.Over) (c : In-loop-k g) → get_or c.loop-k.queue c.loop-k.k 0 ≡ get_or c.args.queue.now c.loop-k.k 0
-same_node g c = get_d_front c.loop-k.queue c.args.queue.now c.loop-k.k c.args.hi 0 c.loop-k-test.true c.loop-k.invariant.3.kept
-
-pub visit-tail-requires : goal.visit-tail-requires
-visit-tail-requires g c = (omega (arith, same_node g (goal.at.visit-tail-requires g c).In-loop-k, c.requires.3 c.loop-k.k c.loop-k-test.true), c.requires.0, c.loop-k.invariant.3.left)
-
-pub loop-k-preserved : goal.loop-k-preserved
-loop-k-preserved g c =
-    let same = same_node g (goal.at.loop-k-preserved g c).In-loop-k in (
-      omega arith,
-      omega (arith, c.loop-k-test.true),
-      c.loop-k.invariant.2,
-      spread_as
-          (λ v. ap (λ (w : ℕ). exists (λ u. adjacent (as_lent c.args.mesh.now) u v) (segment c.args.queue.now c.args.lo c.loop-k.k) || adjacent (as_lent c.args.mesh.now) w v) same
-          ∙ sym (segment_more (λ u. adjacent (as_lent c.args.mesh.now) u v) c.args.queue.now c.args.lo c.loop-k.k c.loop-k.invariant.0 (omega (arith, c.loop-k-test.true, c.loop-k.invariant.2, c.requires.2.queue_long))))
-          (spread_both {t = adjacent (as_lent c.args.mesh.now) (get_or c.loop-k.queue c.loop-k.k 0)} c.requires.0 c.loop-k.invariant.3 c.visit-tail.ensures),
-    )
+pub loop-u-preserved : goal.loop-u-preserved
+loop-u-preserved g c =
+    spread_as (λ v. sym (exists_more (λ u. adjacent (as_lent c.args.mesh.now) u v) _ c.loop-u.u-index c.loop-u-test.true))
+    (spread_both c.requires.0 c.loop-u.invariant c.visit-end.ensures)
 
 pub returns : goal.returns
 returns g c =
-    let z : c.loop-k.k ≡ c.args.hi = omega arith in
-    spread_as (λ v. ap (λ (e : ℕ). exists (λ u. adjacent (as_lent c.args.mesh.now) u v) (segment c.args.queue.now c.args.lo e)) z)
-    c.loop-k.invariant.3
-
-pub shape_of-numbers : goal.shape_of-numbers
-shape_of-numbers g c = c.loop-k.invariant.3.numbers_length
-
-pub shape_of-queue : goal.shape_of-queue
-shape_of-queue g c = c.loop-k.invariant.3.queue_length
+    let q : List ℕ = c.args.queue.now in
+    let reached : List ℕ = c.split_at_mut-reached.result.0.now in
+    let level : List ℕ = segment reached c.args.lo (length reached) in
+    let same : take c.loop-u.u-index level ≡ segment q c.args.lo c.args.hi =
+    take_all c.loop-u.u-index level c.loop-u-test.false
+    ∙ ap (segment reached c.args.lo) c.split_at_mut-reached.ensures.front_len
+    ∙ segment-front reached q c.args.lo c.args.hi c.args.hi c.requires.1 (omega arith) (ap (take c.args.hi) c.split_at_mut-reached.ensures.front ∙ take-take c.args.hi c.args.hi q (omega arith)) in
+    let visited : Spread c.args.mesh.now.nodes c.args.x 0 c.args.numbers.now c.split_at_mut-reached.result.1.now (λ v. exists (λ u. adjacent (as_lent c.args.mesh.now) u v) (take c.loop-u.u-index level)) c.loop-u.numbers c.loop-u.places c.loop-u.end =
+    c.loop-u.invariant in
+    let here = spread_as (λ v. ap (exists (λ u. adjacent (as_lent c.args.mesh.now) u v)) same) visited in
+    rw c.split_at_mut-reached.ensures.front (spread_behind (omega (arith, c.requires.2.room)) (rw c.split_at_mut-reached.ensures.back at here))

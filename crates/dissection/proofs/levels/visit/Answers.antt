@@ -23,7 +23,7 @@ entry : (g : given.Over) (c : In-loop-w g) → get_or c.list-w-items.result.now 
 entry g c = listed_node (as_lent c.args.mesh.now) c.args.mesh.now.checked c.args.u c.list-w-items.result.now c.list-w-items.ensures c.loop-w.w-index c.loop-w-test.true
 
 pub touch-end-requires : goal.touch-end-requires
-touch-end-requires g c = (omega (arith, entry g (goal.at.touch-end-requires g c).In-loop-w, c.loop-w.invariant.left.numbers_long), omega (arith, c.loop-w.invariant.left.room, c.loop-w.invariant.left.queue_long))
+touch-end-requires g c = (omega (arith, entry g (goal.at.touch-end-requires g c).In-loop-w, c.loop-w.invariant.left.numbers_long), omega (arith, c.loop-w.invariant.left.room))
 
 pub loop-w-preserved : goal.loop-w-preserved
 loop-w-preserved g c =
