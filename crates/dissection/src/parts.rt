@@ -39,6 +39,7 @@ pub fn write_parts(
     ensures { (sizes.new ≡ written (block_sizes (take n heads.now)) sizes.old) × (parents.new ≡ written (by_number count (block_parents (take n heads.now))) parents.old) }
 {
     let mut at: usize = 0;
+    // kept: tried over both arrays zipped; the proof knows nothing of what is written through a zip of iter_mut
     for q in 0..count {
         let end = block_end(n, heads, at);
         sizes[q] = (end - at) as u16;
