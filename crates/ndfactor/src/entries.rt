@@ -5,10 +5,11 @@ ghost use Rattle.plan.specs.Planning.{contents};
 ghost use Rattle.plan.specs.Factoring.{Factored};
 ghost use Rattle.plan.specs.Solving.{Solved};
 ghost use Rattle.plan.specs.Held.{held_question};
-ghost use Rattle.ndfactor.specs.Replies.{factor_answer_of, ndf_held};
+ghost use Rattle.ndfactor.specs.Replies.{ndf_report, factor_answer_of, ndf_held};
 
 use crate::replies::{NdfHeld, NdfReport};
 use factor::{factor, held_at, solve};
+use planfile::LentPlan;
 
 // Factoring, as factor::factor does it, at its cost.
 #[unsafe(no_mangle)]
@@ -25,23 +26,23 @@ pub extern "C" fn ndf_factor(
     diagonal: &mut [f64],
     values: &mut [f64],
 ) -> NdfReport
-    ensures { Factored (contents unknowns n p s order.now sizes.now parents.now column_starts.now rows.now) (factor_answer_of result)
+    ensures told { result ≡ ndf_report (factor_answer_of result) }
+    ensures factored { Factored (contents unknowns n p s order.now sizes.now parents.now column_starts.now rows.now) (factor_answer_of result)
         (record { diagonal = diagonal.old; values = values.old })
         (record { diagonal = diagonal.new; values = values.new }) }
 {
-    NdfReport::from(factor(
+    let plan = LentPlan {
         unknowns,
-        n,
-        p,
-        s,
+        nodes: n,
+        parts: p,
+        slots: s,
         order,
         sizes,
         parents,
         column_starts,
         rows,
-        diagonal,
-        values,
-    ))
+    };
+    NdfReport::from(factor(&plan, diagonal, values))
 }
 
 // The solution, as factor::solve does it, at its cost.
@@ -63,20 +64,21 @@ pub extern "C" fn ndf_solve(
     ensures { Solved (contents unknowns n p s order.now sizes.now parents.now column_starts.now rows.now)
         (record { diagonal = diagonal.now; values = values.now }) result vector.old vector.new }
 {
-    solve(
+    let plan = LentPlan {
         unknowns,
-        n,
-        p,
-        s,
+        nodes: n,
+        parts: p,
+        slots: s,
         order,
         sizes,
         parents,
         column_starts,
         rows,
-        diagonal,
-        values,
-        vector,
-    )
+    };
+    match solve(&plan, diagonal, values, vector) {
+        Ok(()) => 0,
+        Err(refusal) => refusal.number(),
+    }
 }
 
 // What the factor holds at a pair of positions, as factor::held_at tells it, at its cost.

@@ -3,7 +3,7 @@ ghost use Rattle.std.specs.Prelude.{◌≡◌};
 ghost use Rattle.plan.specs.Answers.{held_reply};
 ghost use Rattle.ndfactor.specs.Replies.{ndf_report, ndf_held};
 
-use plan::{FactorAnswer, HeldAnswer};
+use plan::{HeldAnswer, Refusal, Report};
 
 // What factoring answers: the refusal's number, 0 for none, and the report: the smallest and the largest pivot, and the multiplications and divisions
 // done, all 0 where it is refused.
@@ -17,15 +17,19 @@ pub struct NdfReport {
 }
 
 // The reply of factoring. O(1).
-impl From<FactorAnswer> for NdfReport {
-    fn from(answer: FactorAnswer) -> NdfReport
+impl From<Result<Report, Refusal>> for NdfReport {
+    fn from(answer: Result<Report, Refusal>) -> NdfReport
         ensures { result ≡ ndf_report answer }
     {
+        let (refusal, report) = match answer {
+            Ok(report) => (0, report),
+            Err(refusal) => (refusal.number(), Report::zero()),
+        };
         NdfReport {
-            refusal: answer.refusal,
-            smallest: answer.report.smallest,
-            largest: answer.report.largest,
-            operations: answer.report.operations,
+            refusal,
+            smallest: report.smallest,
+            largest: report.largest,
+            operations: report.operations,
         }
     }
 }
