@@ -8,6 +8,8 @@ ghost use Rattle.rowchecks.specs.Rows.{outside_ranges};
 use crate::ranges::holds;
 use crate::rows::Rows;
 
+// kept: the loops go by the rows' places, since rows in bytes are no slice; an iterator over them would count the same places itself.
+
 // Whether rows of column j break neither 17's rule nor 18's. From the last row to the first, each is to be less than the one behind it, the last less
 // than n: one comparison for both, before the row's range is looked up. O(length).
 pub(crate) fn sound<R: Rows>(n: usize, lows: &[u16], ends: &[u16], j: usize, column: R) -> bool
@@ -16,9 +18,7 @@ pub(crate) fn sound<R: Rows>(n: usize, lows: &[u16], ends: &[u16], j: usize, col
 {
     let own = lows[j];
     let mut behind = n;
-    let mut k = column.count();
-    while k > 0 {
-        k -= 1;
+    for k in (0..column.count()).rev() {
         let i = column.row(k);
         if i >= behind {
             return false;

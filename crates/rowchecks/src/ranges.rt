@@ -44,9 +44,7 @@ fn number(parents: &[u16], widths: &mut [u16], firsts: &mut [u16], lasts: &mut [
     requires by_index { ((b : ℕ) → b ≤ length parents.now → get_or widths.old b 0 ≡ width_after parents.now (length parents.now) b) × (get_or firsts.old (length parents.now) 0 ≡ 0) }
     ensures { Numbered parents.now firsts.new × ((q : ℕ) → q < length parents.now → get_or lasts.new q 0 ≡ get_or firsts.new q 0 + width parents.now q) }
 {
-    let mut q = parents.len();
-    while q > 0 {
-        q -= 1;
+    for q in (0..parents.len()).rev() {
         let r = parent_or_root(parents.len(), parents[q]);
         widths[r] = widths[r] - widths[q];
         firsts[q] = firsts[r] + widths[r];
@@ -59,10 +57,9 @@ fn fill(at: usize, count: usize, low: u16, end: u16, lows: &mut [u16], ends: &mu
     requires { (at + count ≤ length lows.old) × (at + count ≤ length ends.old) }
     ensures { ((i : ℕ) → at ≤ i → i < at + count → (get_or lows.new i 0 ≡ low) × (get_or ends.new i 0 ≡ end)) × ((i : ℕ) → i < at → (get_or lows.new i 0 ≡ get_or lows.old i 0) × (get_or ends.new i 0 ≡ get_or ends.old i 0)) }
 {
-    for k in 0..count {
-        lows[at + k] = low;
-        ends[at + k] = end;
-    }
+    let behind = at + count;
+    lows[at..behind].fill(low);
+    ends[at..behind].fill(end);
 }
 
 // To each position the range of its part. O(parts + positions).

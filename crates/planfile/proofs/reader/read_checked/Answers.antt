@@ -25,15 +25,15 @@ enough : (c : Else-buffers_too_short) → buffers_too_short c.args.file.now.head
 enough c = sym c.buffers_too_short.ensures ∙ c.if-buffers_too_short.false
 
 -- check 8 found no fault
-enough_at_else_rows_s : (c : Else-rows-file) → buffers_too_short c.args.file.now.head.nodes (lengths_of (buffers c.args.order.now c.args.positions.now c.args.sizes.now c.args.parents.now c.args.column_starts.now c.args.rows.now)) ≡ false
-enough_at_else_rows_s c = sym c.buffers_too_short.ensures ∙ c.if-buffers_too_short.false
+enough_at_rows : (c : Else-rows-file) → buffers_too_short c.args.file.now.head.nodes (lengths_of (buffers c.args.order.now c.args.positions.now c.args.sizes.now c.args.parents.now c.args.column_starts.now c.args.rows.now)) ≡ false
+enough_at_rows c = sym c.buffers_too_short.ensures ∙ c.if-buffers_too_short.false
 
 pub returns-then-rows-file : goal.returns-then-rows-file
 returns-then-rows-file c = rows-refused _ _ c.args.file.now.headed (buffers c.args.order.now c.args.positions.now c.args.sizes.now c.args.parents.now c.args.column_starts.now c.args.rows.now) c.requires.passed (enough (goal.at.returns-then-rows-file c).Else-buffers_too_short) c.if-rows-file.true
 
 -- the buffers are long enough
 room : (c : Else-rows-file) → Room c.args.file.now.head.nodes (lengths_of (buffers c.args.order.now c.args.positions.now c.args.sizes.now c.args.parents.now c.args.column_starts.now c.args.rows.now))
-room c = enough_room c.args.file.now.head.nodes (lengths_of (buffers c.args.order.now c.args.positions.now c.args.sizes.now c.args.parents.now c.args.column_starts.now c.args.rows.now)) (enough_at_else_rows_s c)
+room c = enough_room c.args.file.now.head.nodes (lengths_of (buffers c.args.order.now c.args.positions.now c.args.sizes.now c.args.parents.now c.args.column_starts.now c.args.rows.now)) (enough_at_rows c)
 
 pub read_order_and_parts-requires : goal.read_order_and_parts-requires
 read_order_and_parts-requires c = ((room (goal.at.read_order_and_parts-requires c).Else-rows-file).order, (room (goal.at.read_order_and_parts-requires c).Else-rows-file).sizes, (room (goal.at.read_order_and_parts-requires c).Else-rows-file).parents)

@@ -4,6 +4,3 @@ use Rattle.rowchecks.proofs.columns.sound.Given as goal
 
 abbrev pub invariant-loop-k : goal.invariant-loop-k
 invariant-loop-k g l = Down l.n l.lows l.ends l.j (g.R.Rows.numbers l.column) l.behind l.k
-
-abbrev pub decreases-loop-k : goal.decreases-loop-k
-decreases-loop-k g l = l.k

@@ -21,6 +21,3 @@ pub record Ranged (parents widths₀ firsts₀ lasts₀ widths firsts lasts : Li
 
 abbrev pub invariant-loop-q : goal.invariant-loop-q
 invariant-loop-q l = Ranged l.parents l.initial.widths l.initial.firsts l.initial.lasts l.widths l.firsts l.lasts l.q
-
-abbrev pub decreases-loop-q : goal.decreases-loop-q
-decreases-loop-q l = l.q

@@ -1,5 +1,5 @@
 -- `rowchecks::walks::check_rows` meets its contract: the walk's answer is that of 17 and 18, and where it is none 19 is left.
-use mathlib.Core.Path.{◌≡◌, sym, ◌∙◌}
+use mathlib.Core.Path.{sym, ◌∙◌}
 use native.Mathlib.Omega.{arith}
 use Rattle.std.proofs.lemmas.Result.{err_from_is_err_and}
 use Rattle.theory.proofs.RowFaults.{carried_columns, answer-ordered}
