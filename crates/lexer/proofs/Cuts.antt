@@ -3,13 +3,13 @@ use mathlib.Core.Path.{◌≡◌, refl, sym, ap, ◌∙◌}
 use mathlib.Core.Logic.{inl, inr}
 use mathlib.Core.Bool.{Bool, true, false, not, cond, false≢true}
 use mathlib.Core.List.{List, [], ◌∷◌, ◌++◌}
-use Prim.Native.Nat.{ℕ, suc, ◌+◌, ◌-◌, ◌≤◌, ◌<◌}
+use Prim.Native.Nat.{ℕ, zero, suc, ◌+◌, ◌-◌, ◌≤◌, ◌<◌}
 use native.Mathlib.Numerals.{add-one, one-add}
 use native.Mathlib.Omega.{arith}
 use lib.ListN.{length, length-append, length-drop, length-take, get_or, take, drop, drop_of_length-le}
 use lib.Seq.{drop-cons, drop-drop, take_at, take_all, get_or-drop}
 use Rattle.std.specs.Prelude.{Option, Some, None, is_some}
-use Rattle.std.specs.Option.{unwrap_or}
+use Rattle.std.specs.Option.{unwrap_or, MatchOption}
 use Rattle.std.specs.List.{position_or_len, position}
 use borrow.Author.Tests.{ltb-true, ltb-false}
 use lib.Dec.{ltb}
@@ -91,6 +91,26 @@ module _ (stop : List ℕ → Bool) where
 
   pub passed-all : (text : List ℕ) (at i : ℕ) → Passed text at i → stop (drop i text) ≡ true → At text i (from stop (drop at text))
   passed-all text at i p h = (p.most, sym (p.same ∙ from_here (drop i text) h))
+
+  -- the same where each place from `at` up to i is known to fail
+  passed_places : (text : List ℕ) (at n : ℕ) → at + n ≤ length text → ((k : ℕ) → at ≤ k → k < at + n → stop (drop k text) ≡ false) → Passed text at (at + n)
+  passed_places text at zero le f = (let e : at + 0 ≡ at = omega arith in rw e (passed_none text at (omega arith)))
+  passed_places text at (suc n) le f =
+      let e : at + suc n ≡ at + n + 1 = omega arith in
+      let before = passed_places text at n (omega arith) (λ k a b. f k a (omega arith)) in
+      rw e (passed_more text at (at + n) before (omega arith) (f (at + n) (omega arith) (omega arith)))
+
+  passed_up_to : (text : List ℕ) (at i : ℕ) → at ≤ i → i ≤ length text → ((k : ℕ) → at ≤ k → k < i → stop (drop k text) ≡ false) → Passed text at i
+  passed_up_to text at i le most f =
+      let e : at + (i - at) ≡ i = omega arith in
+      rw e at (passed_places text at (i - at) (omega arith) (λ k a b. f k a (omega arith)))
+
+  -- the first place that passes, as a search of the places tells it, or the text's end
+  pub first_place : stop [] ≡ true → (text : List ℕ) (at : ℕ) → at ≤ length text → (r : Option ℕ)
+      → MatchOption r ((k : ℕ) → at ≤ k → k < length text → stop (drop k text) ≡ false) (λ i. (at ≤ i) × (i < length text) × (stop (drop i text) ≡ true) × ((k : ℕ) → at ≤ k → k < i → stop (drop k text) ≡ false))
+      → At text (unwrap_or r (length text)) (from stop (drop at text)) × (at ≤ unwrap_or r (length text))
+  first_place end text at le None none = (passed-all text at (length text) (passed_up_to text at (length text) le (omega arith) none) (at_end end text (length text) (omega arith)), le)
+  first_place end text at le (Some i) some = (passed-all text at i (passed_up_to text at i some.0 (omega (arith, some.1)) some.3) some.2, some.0)
 
 -- what is left of a text, as the code takes it
 pub left_all : (text : List ℕ) (at : ℕ) → take (length text - at) (drop at text) ≡ drop at text

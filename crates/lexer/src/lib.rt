@@ -106,11 +106,9 @@ fn word_end(text: &[u8], at: usize) -> usize
     requires { at ≤ length text.now }
     ensures { At text.now result (behind_letters (drop at text.now)) × (at ≤ result) }
 {
-    let mut i = at;
-    while !word_ends(text, i) {
-        i += 1;
-    }
-    i
+    (at..text.len())
+        .find(|i| word_ends(text, *i))
+        .unwrap_or(text.len())
 }
 
 // Whether some bytes, lowered, are those of a word. O(length).

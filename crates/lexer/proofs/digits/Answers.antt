@@ -1,5 +1,5 @@
 -- `lexer::digits` meets its contract: the loop passes digits only, and counts their value up to 2^32.
-use Rattle.std.proofs.Common.{◌≡◌, refl, sym, ap, ◌∙◌, rules, arith, ℕ, ◌+◌, ◌-◌, ◌*◌, ◌≤◌, ◌<◌, min, Bool, true, false, List, length, length-drop, length-take, drop, take, get_or}
+use Rattle.std.proofs.Common.{◌≡◌, sym, ap, ◌∙◌, arith, ℕ, ◌+◌, ◌-◌, ◌≤◌, ◌<◌, length, length-drop, length-take, drop, take, get_or}
 use Rattle.std.specs.Char.{is_ascii_digit}
 use Rattle.theory.proofs.Segments.{segment-none}
 use Rattle.plan.specs.MatrixMarket.{is_digit}
