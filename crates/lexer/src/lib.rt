@@ -2,7 +2,9 @@
 // and gives the place behind what it found.
 #![tactic(auto)]
 
-ghost use Rattle.std.specs.Prelude.{◌≡◌, not, map, ◌≤◌, ◌<◌, min, length, drop, position};
+ghost use Rattle.std.specs.Prelude.{◌≡◌, not, map, ◌≤◌, ◌<◌, min, length, drop, position, eqb, zip};
+ghost use Rattle.std.specs.List.{list_all};
+ghost use Rattle.std.specs.Char.{to_ascii_lowercase};
 ghost use Rattle.plan.specs.Lists.{same, segment};
 ghost use Rattle.plan.specs.MatrixMarket.{not_empty, is_line_feed, is_blank, lower, value_of, is_comment};
 ghost use Rattle.lexer.specs.Suffixes.{line_ends, word_ends, behind_line, behind_blanks, behind_letters, behind_digits, behind_word, words_at, At, first_is_word, Scanned, NumberAt};
@@ -111,20 +113,21 @@ fn word_end(text: &[u8], at: usize) -> usize
         .unwrap_or(text.len())
 }
 
+// Whether bytes, lowered, are the letters of a word of as many. O(length).
+fn letters_lowered(bytes: &[u8], word: &[u8]) -> bool
+    ensures { result ≡ list_all (λ p. eqb (to_ascii_lowercase p.0) p.1) (zip bytes.now word.now) }
+{
+    bytes
+        .iter()
+        .zip(word)
+        .all(|(b, letter)| b.to_ascii_lowercase() == *letter)
+}
+
 // Whether some bytes, lowered, are those of a word. O(length).
 fn same_lowered(bytes: &[u8], word: &[u8]) -> bool
     ensures { result ≡ same (map lower bytes.now) word.now }
 {
-    if bytes.len() != word.len() {
-        return false;
-    }
-    // kept: a chain of zip and all leaves its proof open (NOT_COVERED), so the word's byte is taken by place
-    for (i, b) in bytes.iter().enumerate() {
-        if b.to_ascii_lowercase() != word[i] {
-            return false;
-        }
-    }
-    true
+    bytes.len() == word.len() && letters_lowered(bytes, word)
 }
 
 // The place behind the next word, where its letters, lowered, are those of this one. O(length of the word).

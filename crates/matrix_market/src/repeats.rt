@@ -28,7 +28,7 @@ fn gather(text: &[u8], at: usize, keys: &mut [u64]) -> Block
     let mut k: usize = 0;
     while i < text.len() && k < keys.len() {
         let Some(line) = read_pair(text, i) else {
-            return Block { count: k, next: i };
+            unreachable!()
         };
         i = line.next;
         let Some(pair) = line.pair else {
@@ -48,7 +48,7 @@ fn meets(text: &[u8], at: usize, keys: &[u64]) -> bool
     let mut i = at;
     while i < text.len() {
         let Some(line) = read_pair(text, i) else {
-            return false;
+            unreachable!()
         };
         i = line.next;
         let Some(pair) = line.pair else {

@@ -1,25 +1,13 @@
--- `lexer::same_lowered` meets its contract: the bytes before i are the same, so what is left decides.
-use mathlib.Core.Path.{◌≡◌, sym, ap, ap₂, ◌∙◌}
-use mathlib.Core.Bool.{◌&&◌}
-use mathlib.Core.List.{List, map}
-use Prim.Native.Nat.{ℕ, ◌+◌, ◌<◌}
-use native.Mathlib.Numerals.{add-one}
-use native.Mathlib.Omega.{arith}
-use mathlib.Core.Logic.{inl, inr}
+-- `lexer::same_lowered` meets its contract: the bytes are as many as the word's letters, and each, lowered, is the letter at its place.
+use Rattle.std.proofs.Common.{◌≡◌, sym, ap, ap₂, ◌∙◌, ℕ, Bool, ◌&&◌, eqb, List, [], ◌∷◌, map, length, zip, inl, inr, arith, refl, lt-ltb, le-ltb, le-leb, ne_eqb}
+use lib.ListN.{length-map}
 use Rattle.std.specs.Char.{to_ascii_lowercase}
+use Rattle.std.specs.List.{list_all}
 use Rattle.std.proofs.lemmas.Bool.{lt-leb}
-use borrow.Author.Tests.{lt-ltb, le-ltb, le-leb}
-use Rattle.theory.proofs.Bools.{lt_or_le}
-use lib.Dec.{eqb}
-use lib.ListN.{length, length-map, get_or, get_or-map, drop, drop_of_length-le}
-use lib.Seq.{drop-cons}
-use borrow.Author.Tests.{eq-eqb, ne_eqb}
-use borrow.Author.Rules.{rules}
 use Rattle.plan.specs.Lists.{same}
 use Rattle.plan.specs.MatrixMarket.{lower}
-use Rattle.theory.proofs.Bools.{refuted}
+use Rattle.theory.proofs.Bools.{lt_or_le, refuted}
 use Rattle.theory.proofs.Lists.{same_equal}
-use Rattle.lexer.proofs.same_lowered.Goals.{After-to_ascii_lowercase}
 use Rattle.lexer.proofs.same_lowered.Goals as goal
 
 lowered : (b : ℕ) → to_ascii_lowercase b ≡ lower b
@@ -31,29 +19,17 @@ lowered b = elim (lt_or_le b 65) [
   ]
 ]
 
--- the bytes from i on are the same as the word's where those at i are, and all behind them
-same_next : (bytes word : List ℕ) (i : ℕ) → i < length bytes → i < length word
-    → same (drop i (map lower bytes)) (drop i word) ≡ (eqb (lower (get_or bytes i 0)) (get_or word i 0) && same (drop (i + 1) (map lower bytes)) (drop (i + 1) word))
-same_next bytes word i lt lt' =
-    ap₂ same (drop-cons (map lower bytes) i 0 (omega (arith, length-map bytes lower))) (drop-cons word i 0 lt')
-    ∙ rw (get_or-map lower bytes i 0, add-one)
+-- letter by letter
+letters : (bytes word : List ℕ) → length bytes ≡ length word → list_all (λ p. eqb (to_ascii_lowercase p.0) p.1) (zip bytes word) ≡ same (map lower bytes) word
+letters [] [] e = refl
+letters [] (y ∷ word) e = absurd (omega (arith, e))
+letters (b ∷ bytes) [] e = absurd (omega (arith, e))
+letters (b ∷ bytes) (y ∷ word) e = ap₂ (λ (p q : Bool). p && q) (ap (λ (x : ℕ). eqb x y) (lowered b)) (letters bytes word (omega (arith, e)))
 
 pub returns-then-bytes-word : goal.returns-then-bytes-word
-returns-then-bytes-word c =
-    sym (refuted (same (map lower c.args.bytes.now) c.args.word.now)
-    (λ h. c.if-bytes-word.true (sym (length-map c.args.bytes.now lower) ∙ ap length (same_equal (map lower c.args.bytes.now) c.args.word.now h))))
+returns-then-bytes-word c = c.letters_lowered.ensures ∙ letters c.args.bytes.now c.args.word.now c.if-bytes-word.true
 
--- at i, by the two bytes there
-step : (c : After-to_ascii_lowercase) → same (map lower c.args.bytes.now) c.args.word.now ≡ (eqb c.to_ascii_lowercase.result (get_or c.args.word.now c.loop-i.i 0) && same (drop (c.loop-i.i + 1) (map lower c.args.bytes.now)) (drop (c.loop-i.i + 1) c.args.word.now))
-step c = rw (c.to_ascii_lowercase.ensures.value ∙ lowered (get_or c.args.bytes.now c.loop-i.i 0)) (c.loop-i.invariant ∙ same_next c.args.bytes.now c.args.word.now c.loop-i.i (search rules) (search rules))
-
-pub returns-then-to_ascii_lowercase-word : goal.returns-then-to_ascii_lowercase-word
-returns-then-to_ascii_lowercase-word c = sym (step (goal.at.returns-then-to_ascii_lowercase-word c).After-to_ascii_lowercase ∙ rw (ne_eqb _ _ c.if-to_ascii_lowercase-word.true))
-
-pub loop-i-preserved : goal.loop-i-preserved
-loop-i-preserved c = step (goal.at.loop-i-preserved c).After-to_ascii_lowercase ∙ rw (eq-eqb _ _ c.if-to_ascii_lowercase-word.false)
-
-pub returns : goal.returns
-returns c =
-    sym (c.loop-i.invariant ∙ ap₂ same (drop_of_length-le (map lower c.args.bytes.now) {i = c.loop-i.i} (omega (arith, length-map c.args.bytes.now lower, c.loop-i-test.false)))
-    (drop_of_length-le c.args.word.now {i = c.loop-i.i} (omega (arith, c.loop-i-test.false, c.if-bytes-word.false))))
+pub returns-else-bytes-word : goal.returns-else-bytes-word
+returns-else-bytes-word c =
+    ne_eqb _ _ c.if-bytes-word.false ∙ sym (refuted (same (map lower c.args.bytes.now) c.args.word.now)
+    (λ h. c.if-bytes-word.false (sym (length-map c.args.bytes.now lower) ∙ ap length (same_equal (map lower c.args.bytes.now) c.args.word.now h))))

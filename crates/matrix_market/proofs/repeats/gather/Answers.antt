@@ -15,8 +15,9 @@ pub loop-i-init : goal.loop-i-init
 loop-i-init c = record { front = []; passed = passed_start c.args.text.now c.args.at c.requires.0; many = refl; fits = omega arith; stored = refl; long = refl }
 
 -- a line that has words has a pair
-pub returns-in_default : goal.returns-in_default
-returns-in_default c = absurd (false≢true (sym (passed_bad _ _ _ _ c.loop-i.invariant.passed (read_none _ _ _ c.read_pair.ensures c.in_default.is)) ∙ c.requires.1))
+-- each line holds a pair or nothing
+pub unreachable-requires : goal.unreachable-requires
+unreachable-requires c = false≢true (sym (passed_bad _ _ _ _ c.loop-i.invariant.passed (read_none _ _ _ c.read_pair.ensures c.in_default.is)) ∙ c.requires.1)
 
 pub loop-i-smaller-in_default-pair : goal.loop-i-smaller-in_default-pair
 loop-i-smaller-in_default-pair c =
