@@ -1,14 +1,12 @@
 -- What C is told: each reply of the C interface from the book's reply, and the answer that a reply stands for.
-use Rattle.std.specs.Prelude.{cond, ℕ, eqb, get_or}
-use Rattle.plan.specs.declared.PlanAnswer.{PlanAnswer}
-use Rattle.plan.specs.declared.PlanAnswer.TheVariants as plan
-use Rattle.plan.specs.declared.WriteAnswer.{WriteAnswer}
-use Rattle.plan.specs.declared.WriteAnswer.TheVariants as write
-use Rattle.plan.specs.declared.MeshAnswer.{MeshAnswer}
-use Rattle.plan.specs.declared.MeshAnswer.TheVariants as mesh
+use Rattle.std.specs.Prelude.{cond, ℕ, eqb, get_or, Result, Ok, Err}
+use Rattle.plan.specs.declared.Plan.{Plan}
+use Rattle.plan.specs.declared.MeshCounts.{MeshCounts}
+use Rattle.plan.specs.declared.refusal.Refusal.{Refusal}
 use Rattle.plan.specs.declared.Span.{Span}
 use Rattle.plan.specs.declared.RefusalFamily.{RefusalFamily}
 use Rattle.plan.specs.declared.RefusalFamily.TheVariants.{Mesh, File, Program, Question, None}
+use Rattle.plan.specs.Refusals.{refusal_of}
 use Rattle.plan.specs.Answers.{Reply}
 use Rattle.ndplan.specs.declared.replies.NdpPlan.{NdpPlan}
 use Rattle.ndplan.specs.declared.replies.NdpWritten.{NdpWritten}
@@ -54,14 +52,14 @@ family_number Program = 3
 family_number Question = 4
 
 -- the answer that a reply stands for: a refusal unless its number is 0
-abbrev pub plan_answer_of : NdpPlan → PlanAnswer
+abbrev pub plan_answer_of : NdpPlan → Result Plan Refusal
 plan_answer_of r =
     cond (eqb r.refusal 0)
-    (plan.Accepted (record { nodes = r.nodes; parts = r.parts; slots = r.slots; unknowns = r.unknowns; multiplications = r.multiplications }))
-    (plan.Refused r.refusal)
+    (Ok (record { nodes = r.nodes; parts = r.parts; slots = r.slots; unknowns = r.unknowns; multiplications = r.multiplications }))
+    (Err (refusal_of r.refusal))
 
-abbrev pub write_answer_of : NdpWritten → WriteAnswer
-write_answer_of r = cond (eqb r.refusal 0) (write.Written r.length) (write.Refused r.refusal)
+abbrev pub write_answer_of : NdpWritten → Result ℕ Refusal
+write_answer_of r = cond (eqb r.refusal 0) (Ok r.length) (Err (refusal_of r.refusal))
 
-abbrev pub mesh_answer_of : NdpMesh → MeshAnswer
-mesh_answer_of r = cond (eqb r.refusal 0) (mesh.Accepted (record { nodes = r.nodes; entries = r.entries })) (mesh.Refused r.refusal)
+abbrev pub mesh_answer_of : NdpMesh → Result MeshCounts Refusal
+mesh_answer_of r = cond (eqb r.refusal 0) (Ok (record { nodes = r.nodes; entries = r.entries })) (Err (refusal_of r.refusal))

@@ -12,14 +12,12 @@ ghost use Rattle.plan.specs.MatrixMarket.{TextRead};
 ghost use Rattle.plan.specs.Joining.{pairing, MeshesJoined};
 ghost use Rattle.ndplan.specs.Replies.{plan_answer_of, write_answer_of, mesh_answer_of, ndp_plan, ndp_written, ndp_slot, ndp_rows, ndp_pair, ndp_mesh, family_number};
 
-use crate::replies::{
-    NdpMesh, NdpPair, NdpPlan, NdpRows, NdpSlot, NdpWritten, family_number, mesh_reply, pair_reply,
-    plan_reply, slot_reply, write_reply,
-};
-use join::join;
+use crate::replies::{NdpMesh, NdpPair, NdpPlan, NdpRows, NdpSlot, NdpWritten, family_number};
+use join::{Pairing, join};
 use layout::{column_refusal, pair_of_slot, slot_of_pair};
+use mesh::LentMesh;
 use plan::family;
-use planfile::{read, write};
+use planfile::{LentPlan, read, write};
 use planner::plan;
 
 // Planning, as planner::plan does it, at its cost.
@@ -41,18 +39,22 @@ pub extern "C" fn ndp_plan(
         (buffers order.new positions.new sizes.new parents.new column_starts.new rows.new)
         × (result ≡ ndp_plan (plan_reply (plan_answer_of result))) }
 {
-    plan_reply(plan(
-        unknowns,
-        n,
+    let mesh = LentMesh {
+        nodes: n,
         starts,
         neighbours,
+    };
+    plan(
+        unknowns,
+        &mesh,
         order,
         positions,
         sizes,
         parents,
         column_starts,
         rows,
-    ))
+    )
+    .into()
 }
 
 // Reading, as planfile::read does it, at its cost.
@@ -71,7 +73,7 @@ pub extern "C" fn ndp_read(
         (buffers order.new positions.new sizes.new parents.new column_starts.new rows.new)
         × (result ≡ ndp_plan (plan_reply (plan_answer_of result))) }
 {
-    plan_reply(read(file, order, positions, sizes, parents, column_starts, rows))
+    read(file, order, positions, sizes, parents, column_starts, rows).into()
 }
 
 // Writing, as planfile::write does it, at its cost.
@@ -91,18 +93,18 @@ pub extern "C" fn ndp_write(
     ensures { Wrote (contents unknowns n p s order.now sizes.now parents.now column_starts.now rows.now) (write_answer_of result) file.old file.new
         × (result ≡ ndp_written (write_reply (write_answer_of result))) }
 {
-    write_reply(write(
+    let plan = LentPlan {
         unknowns,
-        n,
-        p,
-        s,
+        nodes: n,
+        parts: p,
+        slots: s,
         order,
         sizes,
         parents,
         column_starts,
         rows,
-        file,
-    ))
+    };
+    write(&plan, file).into()
 }
 
 // The first question, as layout::slot_of_pair answers it. O(n + slots).
@@ -116,7 +118,7 @@ pub extern "C" fn ndp_slot(
 ) -> NdpSlot
     ensures { result ≡ ndp_slot (pair_question n column_starts.now rows.now a b) }
 {
-    pair_reply(slot_of_pair(n, column_starts, rows, a, b))
+    slot_of_pair(n, column_starts, rows, a, b).into()
 }
 
 // The second question and its companion, over one look at the layout. O(n + slots).
@@ -124,19 +126,16 @@ pub extern "C" fn ndp_slot(
 pub extern "C" fn ndp_rows(n: usize, column_starts: &[u32], rows: &[u16], j: usize) -> NdpRows
     ensures { result ≡ ndp_rows (column_refusal n column_starts.now rows.now j) (column_span n column_starts.now rows.now j) }
 {
-    let refusal = column_refusal(n, column_starts, rows, j);
-    if refusal != 0 {
-        return NdpRows {
-            refusal,
-            start: 0,
-            count: 0,
-        };
-    }
-    let start = column_starts[j];
-    NdpRows {
-        refusal,
-        start,
-        count: column_starts[j + 1] - start,
+    match column_refusal(n, column_starts, rows, j) {
+        Ok(()) => NdpRows {
+            refusal: 0,
+            start: column_starts[j],
+            count: column_starts[j + 1] - column_starts[j],
+        },
+        Err(refusal) => NdpRows {
+            refusal: refusal.number(),
+            ..NdpRows::default()
+        },
     }
 }
 
@@ -145,7 +144,7 @@ pub extern "C" fn ndp_rows(n: usize, column_starts: &[u32], rows: &[u16], j: usi
 pub extern "C" fn ndp_pair(n: usize, column_starts: &[u32], rows: &[u16], slot: usize) -> NdpPair
     ensures { result ≡ ndp_pair (slot_question n column_starts.now rows.now slot) }
 {
-    slot_reply(pair_of_slot(n, column_starts, rows, slot))
+    pair_of_slot(n, column_starts, rows, slot).into()
 }
 
 // Reading a Matrix Market text, as matrix_market::read does it, at its cost.
@@ -158,7 +157,7 @@ pub extern "C" fn ndp_matrix_market(
     ensures { TextRead text.now (mesh_answer_of result) (mesh_buffers starts.old neighbours.old) (mesh_buffers starts.new neighbours.new)
         × (result ≡ ndp_mesh (mesh_reply (mesh_answer_of result))) }
 {
-    mesh_reply(matrix_market::read(text, starts, neighbours))
+    matrix_market::read(text, starts, neighbours).into()
 }
 
 // Joining two meshes, as join::join does it, at its cost.
@@ -179,18 +178,18 @@ pub extern "C" fn ndp_join(
         (mesh_buffers starts.old neighbours.old) (mesh_buffers starts.new neighbours.new)
         × (result ≡ ndp_mesh (mesh_reply (mesh_answer_of result))) }
 {
-    mesh_reply(join(
-        n1,
-        starts1,
-        neighbours1,
-        n2,
-        starts2,
-        neighbours2,
-        first,
-        second,
-        starts,
-        neighbours,
-    ))
+    let one = LentMesh {
+        nodes: n1,
+        starts: starts1,
+        neighbours: neighbours1,
+    };
+    let other = LentMesh {
+        nodes: n2,
+        starts: starts2,
+        neighbours: neighbours2,
+    };
+    let pairs = Pairing { first, second };
+    join(&one, &other, &pairs, starts, neighbours).into()
 }
 
 // The family of a refusal's number, as plan::family tells it. O(1).

@@ -4,11 +4,11 @@ ghost use Rattle.std.specs.Prelude.{◌≡◌};
 ghost use Rattle.plan.specs.Answers.{plan_reply, write_reply, pair_reply, slot_reply, mesh_reply};
 ghost use Rattle.ndplan.specs.Replies.{ndp_plan, ndp_written, ndp_slot, ndp_pair, ndp_mesh, family_number};
 
-use plan::{MeshAnswer, PairAnswer, PlanAnswer, RefusalFamily, SlotAnswer, WriteAnswer};
+use plan::{MeshCounts, Pair, PairAnswer, Plan, Refusal, RefusalFamily};
 
 // What planning and reading answer: the refusal's number, 0 for none, the counts of the plan, and its unknowns for each node.
 #[repr(C)]
-#[derive(Clone, Copy)]
+#[derive(Clone, Copy, Default)]
 pub struct NdpPlan {
     pub refusal: u32,
     pub nodes: u32,
@@ -20,7 +20,7 @@ pub struct NdpPlan {
 
 // What writing answers: the refusal's number, 0 for none, and the file's length.
 #[repr(C)]
-#[derive(Clone, Copy)]
+#[derive(Clone, Copy, Default)]
 pub struct NdpWritten {
     pub refusal: u32,
     pub length: u64,
@@ -29,7 +29,7 @@ pub struct NdpWritten {
 // What the pair question answers: the refusal's number, 0 for none; the kind, 1 for a slot, 2 for the diagonal, 3 for no slot; and the slot, 0 where
 // there is none.
 #[repr(C)]
-#[derive(Clone, Copy)]
+#[derive(Clone, Copy, Default)]
 pub struct NdpSlot {
     pub refusal: u32,
     pub kind: u32,
@@ -38,7 +38,7 @@ pub struct NdpSlot {
 
 // What the column question answers: its companion's number, and where the column's rows stand in the rows buffer.
 #[repr(C)]
-#[derive(Clone, Copy)]
+#[derive(Clone, Copy, Default)]
 pub struct NdpRows {
     pub refusal: u32,
     pub start: u32,
@@ -47,7 +47,7 @@ pub struct NdpRows {
 
 // What the question about a slot answers: the refusal's number, 0 for none, and the slot's row and column.
 #[repr(C)]
-#[derive(Clone, Copy)]
+#[derive(Clone, Copy, Default)]
 pub struct NdpPair {
     pub refusal: u32,
     pub row: u32,
@@ -56,7 +56,7 @@ pub struct NdpPair {
 
 // What reading a text and joining answer: the refusal's number, 0 for none, and the counts of the mesh.
 #[repr(C)]
-#[derive(Clone, Copy)]
+#[derive(Clone, Copy, Default)]
 pub struct NdpMesh {
     pub refusal: u32,
     pub nodes: u32,
@@ -64,106 +64,99 @@ pub struct NdpMesh {
 }
 
 // The reply of planning and reading. O(1).
-pub(crate) fn plan_reply(answer: PlanAnswer) -> NdpPlan
-    ensures { result ≡ ndp_plan (plan_reply answer) }
-{
-    match answer {
-        PlanAnswer::Accepted(p) => NdpPlan {
-            refusal: 0,
-            nodes: p.nodes,
-            parts: p.parts,
-            slots: p.slots,
-            unknowns: p.unknowns,
-            multiplications: p.multiplications,
-        },
-        PlanAnswer::Refused(k) => NdpPlan {
-            refusal: k,
-            nodes: 0,
-            parts: 0,
-            slots: 0,
-            unknowns: 0,
-            multiplications: 0,
-        },
+impl From<Result<Plan, Refusal>> for NdpPlan {
+    ghost from_gives = { λ answer reply. reply ≡ ndp_plan (plan_reply answer) };
+
+    fn from(answer: Result<Plan, Refusal>) -> NdpPlan {
+        match answer {
+            Ok(p) => NdpPlan {
+                refusal: 0,
+                nodes: p.nodes,
+                parts: p.parts,
+                slots: p.slots,
+                unknowns: p.unknowns,
+                multiplications: p.multiplications,
+            },
+            Err(refusal) => NdpPlan {
+                refusal: refusal.number(),
+                ..NdpPlan::default()
+            },
+        }
     }
 }
 
 // The reply of writing. O(1).
-pub(crate) fn write_reply(answer: WriteAnswer) -> NdpWritten
-    ensures { result ≡ ndp_written (write_reply answer) }
-{
-    match answer {
-        WriteAnswer::Written(length) => NdpWritten {
-            refusal: 0,
-            length: length as u64,
-        },
-        WriteAnswer::Refused(k) => NdpWritten {
-            refusal: k,
-            length: 0,
-        },
+impl From<Result<usize, Refusal>> for NdpWritten {
+    ghost from_gives = { λ answer reply. reply ≡ ndp_written (write_reply answer) };
+
+    fn from(answer: Result<usize, Refusal>) -> NdpWritten {
+        match answer {
+            Ok(length) => NdpWritten {
+                refusal: 0,
+                length: length as u64,
+            },
+            Err(refusal) => NdpWritten {
+                refusal: refusal.number(),
+                ..NdpWritten::default()
+            },
+        }
     }
 }
 
 // The reply of the pair question. O(1).
-pub(crate) fn pair_reply(answer: PairAnswer) -> NdpSlot
-    ensures { result ≡ ndp_slot (pair_reply answer) }
-{
-    match answer {
-        PairAnswer::Slot(s) => NdpSlot {
-            refusal: 0,
-            kind: 1,
-            slot: s,
-        },
-        PairAnswer::Diagonal => NdpSlot {
-            refusal: 0,
-            kind: 2,
-            slot: 0,
-        },
-        PairAnswer::NoSlot => NdpSlot {
-            refusal: 0,
-            kind: 3,
-            slot: 0,
-        },
-        PairAnswer::Refused(k) => NdpSlot {
-            refusal: k,
-            kind: 0,
-            slot: 0,
-        },
+impl From<Result<PairAnswer, Refusal>> for NdpSlot {
+    ghost from_gives = { λ answer reply. reply ≡ ndp_slot (pair_reply answer) };
+
+    fn from(answer: Result<PairAnswer, Refusal>) -> NdpSlot {
+        let (refusal, kind, slot) = match answer {
+            Ok(PairAnswer::Slot(s)) => (0, 1, s),
+            Ok(PairAnswer::Diagonal) => (0, 2, 0),
+            Ok(PairAnswer::NoSlot) => (0, 3, 0),
+            Err(refusal) => (refusal.number(), 0, 0),
+        };
+        NdpSlot {
+            refusal,
+            kind,
+            slot,
+        }
     }
 }
 
 // The reply of the question about a slot. O(1).
-pub(crate) fn slot_reply(answer: SlotAnswer) -> NdpPair
-    ensures { result ≡ ndp_pair (slot_reply answer) }
-{
-    match answer {
-        SlotAnswer::Found(p) => NdpPair {
-            refusal: 0,
-            row: p.row,
-            column: p.column,
-        },
-        SlotAnswer::Refused(k) => NdpPair {
-            refusal: k,
-            row: 0,
-            column: 0,
-        },
+impl From<Result<Pair, Refusal>> for NdpPair {
+    ghost from_gives = { λ answer reply. reply ≡ ndp_pair (slot_reply answer) };
+
+    fn from(answer: Result<Pair, Refusal>) -> NdpPair {
+        match answer {
+            Ok(p) => NdpPair {
+                refusal: 0,
+                row: p.row,
+                column: p.column,
+            },
+            Err(refusal) => NdpPair {
+                refusal: refusal.number(),
+                ..NdpPair::default()
+            },
+        }
     }
 }
 
 // The reply of reading a text and of joining. O(1).
-pub(crate) fn mesh_reply(answer: MeshAnswer) -> NdpMesh
-    ensures { result ≡ ndp_mesh (mesh_reply answer) }
-{
-    match answer {
-        MeshAnswer::Accepted(m) => NdpMesh {
-            refusal: 0,
-            nodes: m.nodes,
-            entries: m.entries,
-        },
-        MeshAnswer::Refused(k) => NdpMesh {
-            refusal: k,
-            nodes: 0,
-            entries: 0,
-        },
+impl From<Result<MeshCounts, Refusal>> for NdpMesh {
+    ghost from_gives = { λ answer reply. reply ≡ ndp_mesh (mesh_reply answer) };
+
+    fn from(answer: Result<MeshCounts, Refusal>) -> NdpMesh {
+        match answer {
+            Ok(m) => NdpMesh {
+                refusal: 0,
+                nodes: m.nodes,
+                entries: m.entries,
+            },
+            Err(refusal) => NdpMesh {
+                refusal: refusal.number(),
+                ..NdpMesh::default()
+            },
+        }
     }
 }
 

@@ -1,8 +1,0 @@
--- `ndplan::replies::plan_reply` meets its contract: one reply for each answer.
-use Rattle.ndplan.proofs.replies.plan_reply.Goals as goal
-
-pub returns-in-Accepted : goal.returns-in-Accepted
-returns-in-Accepted c = rw c.in-Accepted.is
-
-pub returns-in-Refused : goal.returns-in-Refused
-returns-in-Refused c = rw c.in-Refused.is
