@@ -13,10 +13,7 @@ pub(crate) struct Outcome {
 // The length of the rows where there are so many slots.
 fn rows_length(l: Lengths, slots: u32) -> usize {
     let most = slots as usize + l.rows_more % 65536;
-    if most < l.rows_less {
-        return 0;
-    }
-    most - l.rows_less
+    most.saturating_sub(l.rows_less)
 }
 
 fn plan_naively(
@@ -42,15 +39,16 @@ fn plan_naively(
 }
 
 // Whether every uncut part of the plan that was handed out is a clique. A refusal hands out none.
-fn keeps_cliques(starts: &[u32], neighbours: &[u16], h: Held) -> bool {
-    if h.refusal != 0 {
-        return true;
-    }
-    let parts = h.parts as usize;
-    let order = h.order;
-    let sizes = h.sizes;
-    let parents = h.parents;
-    naive::uncut_cliques(starts, neighbours, parts, &order, &sizes, &parents)
+fn keeps_cliques(starts: &[u32], neighbours: &[u16], h: &Held) -> bool {
+    h.refusal != 0
+        || naive::uncut_cliques(
+            starts,
+            neighbours,
+            h.parts as usize,
+            &h.order,
+            &h.sizes,
+            &h.parents,
+        )
 }
 
 // Lends both planners the same. Entries that are not used should stay as found, past a result's length too.
@@ -94,20 +92,16 @@ pub(crate) fn try_lent(
     Outcome {
         refusal: p.refusal,
         same: meshes::agrees(h, p),
-        cliques: keeps_cliques(starts, neighbours, h),
+        cliques: keeps_cliques(starts, neighbours, &h),
     }
 }
 
-pub(crate) fn try_case(unknowns: usize, c: Case) -> Outcome {
-    let starts = c.starts;
-    let neighbours = c.neighbours;
-    let start_count = c.start_count;
-    let entry_count = c.entry_count;
+pub(crate) fn try_case(unknowns: usize, c: &Case) -> Outcome {
     try_lent(
         unknowns,
         c.n,
-        first32(&starts, start_count),
-        first16(&neighbours, entry_count),
+        first32(&c.starts, c.start_count),
+        first16(&c.neighbours, c.entry_count),
         c.lengths,
     )
 }
