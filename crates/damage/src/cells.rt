@@ -46,8 +46,10 @@ impl Cells {
 
     // Puts the rows of column j of a draft.
     fn put_column(&mut self, d: &Draft, j: usize) {
-        for e in d.entry(Field::ColumnStarts, j)..d.entry(Field::ColumnStarts, j % 64 + 1) {
-            self.put(j, d.entry(Field::Rows, e), true);
+        let from = d.entry(Field::ColumnStarts, j);
+        let end = d.entry(Field::ColumnStarts, j % 64 + 1);
+        for i in d.rows.get(from..end).unwrap_or(&[]) {
+            self.put(j, usize::from(*i), true);
         }
     }
 

@@ -81,19 +81,3 @@ pub(crate) fn read(f: &File, room: &Room) -> Held {
         rows,
     )
 }
-
-// Whether both are the same in every entry.
-pub(crate) fn same(h: &Held, k: &Held) -> bool {
-    h.refusal == k.refusal
-        && h.nodes == k.nodes
-        && h.parts == k.parts
-        && h.slots == k.slots
-        && h.unknowns == k.unknowns
-        && h.multiplications == k.multiplications
-        && h.order == k.order
-        && h.positions == k.positions
-        && h.sizes == k.sizes
-        && h.parents == k.parents
-        && h.column_starts == k.column_starts
-        && h.rows == k.rows
-}

@@ -23,7 +23,7 @@ use crate::counts::{Counts, DRAWN_MESHES, GIVEN};
 use crate::draft::Draft;
 use crate::drawn::full_draft;
 use crate::file::{File, order_at};
-use crate::held::{ENOUGH, planned, read, same};
+use crate::held::{ENOUGH, planned, read};
 use crate::trials::{try_file, try_writing};
 use meshes::{Case, Held, allowed_unknowns, from_edges};
 use std::io;
@@ -36,14 +36,14 @@ fn round_trip(c: &mut Counts, h: &Held) {
     let k = read(&f, &ENOUGH);
     try_writing(c, &d);
     try_file(c, &f);
-    c.returned(w.refusal == 0 && same(h, &k) && w.same_bytes(&Draft::from(k).write()));
+    c.returned(w.refusal == 0 && *h == k && w.same_bytes(&Draft::from(k).write()));
 }
 
 // A plan's file of version 1, which is read as the plan with one unknown.
 fn version_1_trip(c: &mut Counts, h: &Held) {
     let f = Draft::from(*h).encoded(1);
     try_file(c, &f);
-    c.returned(same(&Held { unknowns: 1, ..*h }, &read(&f, &ENOUGH)));
+    c.returned(read(&f, &ENOUGH) == Held { unknowns: 1, ..*h });
 }
 
 // A plan's files of both versions.

@@ -3,7 +3,7 @@
 use crate::counts::{Counts, Operation};
 use crate::draft::{Draft, Wrote};
 use crate::file::File;
-use crate::held::{ENOUGH, Room, read, same};
+use crate::held::{ENOUGH, Room, read};
 use meshes::{Held, agrees};
 use naive::{NaiveFile, NaivePlan};
 
@@ -27,7 +27,7 @@ fn comes_back(f: &File, h: &Held) -> bool {
     if f.is_version_2() {
         return w.refusal == 0 && w.holds(&f.bytes, f.length);
     }
-    w.refusal == 0 && same(h, &read(&w.file(), &ENOUGH))
+    w.refusal == 0 && *h == read(&w.file(), &ENOUGH)
 }
 
 // Whether the workshop that never updates hands out what the reader does. (A refusal's lent memory is looked at with the readers' own comparison.)

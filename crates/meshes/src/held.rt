@@ -18,7 +18,7 @@ pub const STALE_COLUMN_STARTS: u32 = 60005;
 pub const STALE_ROWS: u16 = 60006;
 
 // `refusal` is 0 where there is a plan; otherwise the other numbers are 0.
-#[derive(Clone, Copy)]
+#[derive(Clone, Copy, PartialEq)]
 pub struct Held {
     pub refusal: u32,
     pub nodes: u32,
