@@ -2,39 +2,39 @@
 use meshes::{less, more};
 use plan::Plan;
 
-// How many borders there are for a number of two bytes, and for one of four.
+// How many borders there are for a number of two bytes, which are the first ones, and for one of four.
 pub(crate) const SHORT: usize = 20;
 
 pub(crate) const LONG: usize = 26;
 
-// Border b of a number that was `value`, in a plan with n nodes, p parts and s slots.
-pub(crate) fn border(b: usize, value: usize, n: usize, p: usize, s: usize) -> usize {
-    match b {
-        0 => 0,
-        1 => 1,
-        2 => 2,
-        3 => less(value),
-        4 => more(value),
-        5 => less(n),
-        6 => n,
-        7 => more(n),
-        8 => less(p),
-        9 => p,
-        10 => more(p),
-        11 => s,
-        12 => more(s),
-        13 => 255,
-        14 => 256,
-        15 => Plan::NODES,
-        16 => Plan::NODES + 1,
-        17 => 32768,
-        18 => 65534,
-        19 => 65535,
-        20 => naive::most_slots(n),
-        21 => more(naive::most_slots(n)),
-        22 => 65536,
-        23 => value % 4294967296 + 65536,
-        24 => 2147483648,
-        _ => 4294967295,
-    }
+// The borders of a number that was `value`, in a plan with n nodes, p parts and s slots.
+pub(crate) fn borders(value: usize, n: usize, p: usize, s: usize) -> [usize; LONG] {
+    [
+        0,
+        1,
+        2,
+        less(value),
+        more(value),
+        less(n),
+        n,
+        more(n),
+        less(p),
+        p,
+        more(p),
+        s,
+        more(s),
+        255,
+        256,
+        Plan::NODES,
+        Plan::NODES + 1,
+        32768,
+        65534,
+        65535,
+        naive::most_slots(n),
+        more(naive::most_slots(n)),
+        65536,
+        value % 4294967296 + 65536,
+        2147483648,
+        4294967295,
+    ]
 }

@@ -1,83 +1,89 @@
 // The slots of a draft as a matrix, a cell for each column and row below 64, and drafts with other slots.
-use crate::draft::{Draft, entry};
+use crate::draft::{Draft, Field};
 
-pub(crate) fn cell(cells: &[u8; 4096], j: usize, i: usize) -> u8 {
-    cells[j % 64 * 64 + i % 64]
+// Whether there is a slot, by column and row. Columns and rows from 64 on have the cells of their remainders.
+#[derive(Clone, Copy)]
+pub(crate) struct Cells {
+    columns: [[bool; 64]; 64],
 }
 
-pub(crate) fn put_cell(cells: &mut [u8; 4096], j: usize, i: usize, x: u8) {
-    cells[j % 64 * 64 + i % 64] = x;
-}
-
-// Puts the rows of column j.
-fn put_column(cells: &mut [u8; 4096], d: Draft, j: usize) {
-    for e in entry(d, 3, j)..entry(d, 3, j % 64 + 1) {
-        put_cell(cells, j, entry(d, 4, e), 1);
-    }
-}
-
-pub(crate) fn cells_of(d: Draft) -> [u8; 4096] {
-    let mut cells = [0u8; 4096];
-    for j in 0..64usize {
-        if j < d.n {
-            put_column(&mut cells, d, j);
+impl Cells {
+    pub(crate) fn new() -> Cells {
+        Cells {
+            columns: [[false; 64]; 64],
         }
     }
-    cells
-}
 
-// The cells with a slot more, or one less, at row i of column j.
-pub(crate) fn toggled(cells: [u8; 4096], j: usize, i: usize) -> [u8; 4096] {
-    let mut t = cells;
-    if cell(&cells, j, i) == 0 {
-        put_cell(&mut t, j, i, 1);
-    } else {
-        put_cell(&mut t, j, i, 0);
+    // A slot where the rule says so, of a column and a row.
+    pub(crate) fn by_rule<F: Fn(usize, usize) -> bool>(rule: F) -> Cells
+        requires { F.IsAlwaysCallable rule }
+    {
+        let mut cells = Cells::new();
+        for k in 0..4096usize {
+            cells.put(k / 64, k % 64, rule(k / 64, k % 64));
+        }
+        cells
     }
-    t
-}
 
-// Writes row i where the cell has a slot, and gives where the next row goes.
-fn put_row(rows: &mut [u16; 2100], at: usize, slot: u8, i: usize) -> usize {
-    if slot == 1 {
-        if at < 2100 {
-            rows[at] = (i % 64) as u16;
-            return at + 1;
+    pub(crate) fn has(&self, j: usize, i: usize) -> bool {
+        self.columns[j % 64][i % 64]
+    }
+
+    pub(crate) fn put(&mut self, j: usize, i: usize, slot: bool) {
+        self.columns[j % 64][i % 64] = slot;
+    }
+
+    // A slot more, or one less, at row i of column j.
+    pub(crate) fn toggled(mut self, j: usize, i: usize) -> Cells {
+        self.put(j, i, !self.has(j, i));
+        self
+    }
+
+    // The first row of column j, if it has one.
+    pub(crate) fn first_row(&self, j: usize) -> Option<usize> {
+        self.columns[j % 64].iter().position(|slot| *slot)
+    }
+
+    // Puts the rows of column j of a draft.
+    fn put_column(&mut self, d: &Draft, j: usize) {
+        let from = d.entry(Field::ColumnStarts, j);
+        let end = d.entry(Field::ColumnStarts, j % 64 + 1);
+        for i in d.rows.get(from..end).unwrap_or(&[]) {
+            self.put(j, usize::from(*i), true);
         }
     }
-    at
+
+    pub(crate) fn of(d: &Draft) -> Cells {
+        let mut cells = Cells::new();
+        for j in 0..d.n.min(64) {
+            cells.put_column(d, j);
+        }
+        cells
+    }
 }
 
-// Writes the rows of column j, and gives where the next column's rows go.
-fn put_rows(rows: &mut [u16; 2100], at: usize, cells: &[u8; 4096], j: usize) -> usize {
+// Writes the rows of a column from a place on, and gives where the next column's rows go.
+fn put_rows(rows: &mut [u16; 2100], at: usize, column: &[bool; 64]) -> usize {
     let mut end = at;
-    for i in 0..64usize {
-        end = put_row(rows, end, cell(cells, j, i), i);
+    for (i, slot) in column.iter().enumerate() {
+        if *slot && end < 2100 {
+            rows[end] = (i % 64) as u16;
+            end += 1;
+        }
     }
     end
 }
 
-fn put_start(starts: &mut [u32; 80], j: usize, at: usize) {
-    if j < 80 {
-        starts[j] = (at % 65536) as u32;
-    }
-}
-
 // The draft with these slots.
-pub(crate) fn with_cells(d: Draft, cells: &[u8; 4096]) -> Draft {
-    let mut e = d;
-    let mut starts = [meshes::STALE_COLUMN_STARTS; 80];
-    let mut rows = [meshes::STALE_ROWS; 2100];
+pub(crate) fn with_cells(mut d: Draft, cells: &Cells) -> Draft {
     let mut at = 0usize;
-    put_start(&mut starts, 0, 0);
-    for j in 0..64usize {
-        if j < d.n {
-            at = put_rows(&mut rows, at, cells, j);
-            put_start(&mut starts, j + 1, at);
-        }
+    d.column_starts = [meshes::STALE_COLUMN_STARTS; 80];
+    d.rows = [meshes::STALE_ROWS; 2100];
+    d.column_starts[0] = 0;
+    for (j, column) in cells.columns.iter().enumerate().take(d.n) {
+        at = put_rows(&mut d.rows, at, column);
+        d.column_starts[j % 64 + 1] = (at % 65536) as u32;
     }
-    e.s = at;
-    e.column_starts = starts;
-    e.rows = rows;
-    e
+    d.s = at;
+    d
 }

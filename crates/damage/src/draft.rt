@@ -1,10 +1,60 @@
 // What the writer is lent: four numbers and five lists, each the first entries of an array, and room for the bytes.
 use crate::file::File;
 use meshes::{Held, first16, first32, front8, holds8};
-use naive::LONGEST;
+use naive::{LONGEST, NaiveFile};
 use plan::WriteAnswer;
 
-// `lengths` has those of the lists (order, sizes, parents, column starts, rows) and the room for the bytes.
+// What has a length: the lists, and the room for the bytes.
+#[derive(Clone, Copy)]
+pub(crate) enum Lent {
+    Order,
+    Sizes,
+    Parents,
+    ColumnStarts,
+    Rows,
+    Room,
+}
+
+impl Lent {
+    pub(crate) const ALL: [Lent; 6] = [
+        Lent::Order,
+        Lent::Sizes,
+        Lent::Parents,
+        Lent::ColumnStarts,
+        Lent::Rows,
+        Lent::Room,
+    ];
+}
+
+// What has entries: the lists, and the numbers, which have one.
+#[derive(Clone, Copy)]
+pub(crate) enum Field {
+    Order,
+    Sizes,
+    Parents,
+    ColumnStarts,
+    Rows,
+    N,
+    P,
+    S,
+    Unknowns,
+}
+
+impl Field {
+    pub(crate) const ALL: [Field; 9] = [
+        Field::Order,
+        Field::Sizes,
+        Field::Parents,
+        Field::ColumnStarts,
+        Field::Rows,
+        Field::N,
+        Field::P,
+        Field::S,
+        Field::Unknowns,
+    ];
+}
+
+// `lengths` has those of what is lent, in the order of `Lent`.
 #[derive(Clone, Copy)]
 pub(crate) struct Draft {
     pub(crate) unknowns: usize,
@@ -19,24 +69,32 @@ pub(crate) struct Draft {
     pub(crate) lengths: [usize; 6],
 }
 
+// Lists and room that are longer than needed.
+pub(crate) const LENGTHS: [usize; 6] = [80, 80, 80, 80, 2100, LONGEST];
+
 // The draft of a plan, its lists and the room longer than needed.
-pub(crate) fn draft_of(h: Held) -> Draft {
-    let order = h.order;
-    let sizes = h.sizes;
-    let parents = h.parents;
-    let column_starts = h.column_starts;
-    let rows = h.rows;
-    Draft {
-        unknowns: h.unknowns as usize,
-        n: h.nodes as usize,
-        p: h.parts as usize,
-        s: h.slots as usize,
-        order: order,
-        sizes: sizes,
-        parents: parents,
-        column_starts: column_starts,
-        rows: rows,
-        lengths: [80, 80, 80, 80, 2100, LONGEST],
+impl From<Held> for Draft {
+    fn from(h: Held) -> Draft {
+        let Held {
+            order,
+            sizes,
+            parents,
+            column_starts,
+            rows,
+            ..
+        } = h;
+        Draft {
+            unknowns: h.unknowns as usize,
+            n: h.nodes as usize,
+            p: h.parts as usize,
+            s: h.slots as usize,
+            order,
+            sizes,
+            parents,
+            column_starts,
+            rows,
+            lengths: LENGTHS,
+        }
     }
 }
 
@@ -45,179 +103,188 @@ pub(crate) fn draft_of(h: Held) -> Draft {
 pub(crate) struct Wrote {
     pub(crate) refusal: u32,
     pub(crate) length: usize,
-    pub(crate) bytes: [u8; LONGEST],
+    bytes: [u8; LONGEST],
 }
 
-fn answered(answer: WriteAnswer, bytes: [u8; LONGEST]) -> Wrote {
-    match answer {
-        WriteAnswer::Written(length) => Wrote {
-            refusal: 0,
-            length: length,
-            bytes: bytes,
-        },
-        WriteAnswer::Refused(number) => Wrote {
-            refusal: number,
-            length: 0,
-            bytes: bytes,
-        },
+impl Wrote {
+    // Whether these bytes were written, and the rest is as it was lent.
+    pub(crate) fn holds(&self, bytes: &[u8; LONGEST], length: usize) -> bool {
+        self.length == length && holds8(&self.bytes, bytes, length, 77)
+    }
+
+    // Whether both wrote the same, in every byte that was lent.
+    pub(crate) fn same_bytes(&self, other: &Wrote) -> bool {
+        self.length == other.length && self.bytes == other.bytes
+    }
+
+    // The file that was written.
+    pub(crate) fn file(&self) -> File {
+        File {
+            version: 2,
+            bytes: self.bytes,
+            length: self.length,
+        }
     }
 }
 
-pub(crate) fn write(d: Draft) -> Wrote {
-    let order = d.order;
-    let sizes = d.sizes;
-    let parents = d.parents;
-    let column_starts = d.column_starts;
-    let rows = d.rows;
-    let l = d.lengths;
-    let mut bytes = [77u8; LONGEST];
-    let answer = planfile::write(
-        d.unknowns,
-        d.n,
-        d.p,
-        d.s,
-        first16(&order, l[0]),
-        first16(&sizes, l[1]),
-        first16(&parents, l[2]),
-        first32(&column_starts, l[3]),
-        first16(&rows, l[4]),
-        front8(&mut bytes, l[5]),
-    );
-    answered(answer, bytes)
+// The number in an entry, or 0 beyond the end.
+fn at(list: &[u16], i: usize) -> usize {
+    list.get(i).map_or(0, |x| usize::from(*x))
 }
 
-// Whether these bytes were written, and the rest is as it was lent.
-pub(crate) fn holds_file(w: Wrote, bytes: &[u8; LONGEST], length: usize) -> bool {
-    w.length == length && holds8(&w.bytes, bytes, length, 77)
-}
-
-// Whether both wrote the same, in every byte that was lent.
-pub(crate) fn same_bytes(w: Wrote, v: Wrote) -> bool {
-    w.length == v.length && holds8(&w.bytes, &v.bytes, LONGEST, 0)
-}
-
-// The file that was written.
-pub(crate) fn file_of(w: Wrote) -> File {
-    let bytes = w.bytes;
-    File {
-        version: 2,
-        bytes: bytes,
-        length: w.length,
+// Puts an entry, cut to its width, where there is one.
+fn put(list: &mut [u16], i: usize, x: usize) {
+    if let Some(entry) = list.get_mut(i) {
+        *entry = (x % 65536) as u16;
     }
 }
 
-// The file of this version, 1 or 2, of a draft as it stands, sound or not, for n and p of at most 64 and s of at most 2,016.
-pub(crate) fn encoded(version: usize, d: Draft) -> File {
-    let order = d.order;
-    let sizes = d.sizes;
-    let parents = d.parents;
-    let column_starts = d.column_starts;
-    let rows = d.rows;
-    let f = naive::encode(
-        version,
-        d.unknowns,
-        d.n,
-        d.p,
-        d.s,
-        &order,
-        &sizes,
-        &parents,
-        &column_starts,
-        &rows,
-    );
-    let bytes = f.bytes;
-    File {
-        version: version,
-        bytes: bytes,
-        length: f.length,
+impl Draft {
+    fn length(&self, lent: Lent) -> usize {
+        self.lengths[lent as usize]
     }
-}
 
-// How many entries list `which` has: 0 order, 1 sizes, 2 parents, 3 column starts, 4 rows; 5 to 8 are n, p, s and the unknowns.
-pub(crate) fn entries(d: Draft, which: usize) -> usize {
-    match which {
-        0 => d.n,
-        1 | 2 => d.p,
-        3 => d.n % 65536 + 1,
-        4 => d.s,
-        _ => 1,
+    pub(crate) fn order(&self) -> &[u16] {
+        first16(&self.order, self.length(Lent::Order))
     }
-}
 
-fn short(list: &[u16], i: usize) -> usize {
-    if i < list.len() {
-        return wide16(list[i]);
+    pub(crate) fn sizes(&self) -> &[u16] {
+        first16(&self.sizes, self.length(Lent::Sizes))
     }
-    0
-}
 
-fn wide16(x: u16) -> usize {
-    x as usize
-}
-
-fn start(d: Draft, i: usize) -> usize {
-    if i < 80 {
-        return d.column_starts[i] as usize;
+    pub(crate) fn parents(&self) -> &[u16] {
+        first16(&self.parents, self.length(Lent::Parents))
     }
-    0
-}
 
-// Entry i of list `which`, or the number.
-pub(crate) fn entry(d: Draft, which: usize, i: usize) -> usize {
-    match which {
-        0 => short(&d.order, i),
-        1 => short(&d.sizes, i),
-        2 => short(&d.parents, i),
-        3 => start(d, i),
-        4 => short(&d.rows, i),
-        5 => d.n,
-        6 => d.p,
-        7 => d.s,
-        _ => d.unknowns,
+    pub(crate) fn column_starts(&self) -> &[u32] {
+        first32(&self.column_starts, self.length(Lent::ColumnStarts))
     }
-}
 
-fn put(list: &mut [u16; 80], i: usize, x: usize) {
-    if i < 80 {
-        list[i] = (x % 65536) as u16;
+    pub(crate) fn rows(&self) -> &[u16] {
+        first16(&self.rows, self.length(Lent::Rows))
     }
-}
 
-fn with_row(mut d: Draft, e: usize, x: usize) -> Draft {
-    if e < 2100 {
-        d.rows[e] = (x % 65536) as u16;
+    pub(crate) fn write(&self) -> Wrote {
+        let mut bytes = [77u8; LONGEST];
+        let answer = planfile::write(
+            self.unknowns,
+            self.n,
+            self.p,
+            self.s,
+            self.order(),
+            self.sizes(),
+            self.parents(),
+            self.column_starts(),
+            self.rows(),
+            front8(&mut bytes, self.length(Lent::Room)),
+        );
+        let (refusal, length) = match answer {
+            WriteAnswer::Written(length) => (0, length),
+            WriteAnswer::Refused(number) => (number, 0),
+        };
+        Wrote {
+            refusal,
+            length,
+            bytes,
+        }
     }
-    d
-}
 
-fn with_start(mut d: Draft, j: usize, x: usize) -> Draft {
-    if j < 80 {
-        d.column_starts[j] = (x % 4294967296) as u32;
+    pub(crate) fn write_naively(&self) -> NaiveFile {
+        naive::write(
+            self.unknowns,
+            self.n,
+            self.p,
+            self.s,
+            self.order(),
+            self.sizes(),
+            self.parents(),
+            self.column_starts(),
+            self.rows(),
+            self.length(Lent::Room),
+        )
     }
-    d
-}
 
-// The draft with another number there.
-pub(crate) fn with_entry(d: Draft, which: usize, i: usize, x: usize) -> Draft {
-    let mut e = d;
-    match which {
-        0 => put(&mut e.order, i, x),
-        1 => put(&mut e.sizes, i, x),
-        2 => put(&mut e.parents, i, x),
-        3 => e = with_start(d, i, x),
-        4 => e = with_row(d, i, x),
-        5 => e.n = x,
-        6 => e.p = x,
-        7 => e.s = x,
-        _ => e.unknowns = x,
+    // The file of this version, 1 or 2, of the draft as it stands, sound or not, for n and p of at most 64 and s of at most 2,016.
+    pub(crate) fn encoded(&self, version: usize) -> File {
+        let NaiveFile { bytes, length, .. } = naive::encode(
+            version,
+            self.unknowns,
+            self.n,
+            self.p,
+            self.s,
+            &self.order,
+            &self.sizes,
+            &self.parents,
+            &self.column_starts,
+            &self.rows,
+        );
+        File {
+            version,
+            bytes,
+            length,
+        }
     }
-    e
-}
 
-// The draft with another length of a list or of the room.
-pub(crate) fn with_length(mut d: Draft, which: usize, length: usize) -> Draft {
-    if which < 6 {
-        d.lengths[which] = length;
+    // How many entries a list has; a number has one.
+    pub(crate) fn entries(&self, field: Field) -> usize {
+        match field {
+            Field::Order => self.n,
+            Field::Sizes | Field::Parents => self.p,
+            Field::ColumnStarts => self.n % 65536 + 1,
+            Field::Rows => self.s,
+            _ => 1,
+        }
     }
-    d
+
+    // Entry i of a list, or the number.
+    pub(crate) fn entry(&self, field: Field, i: usize) -> usize {
+        match field {
+            Field::Order => at(&self.order, i),
+            Field::Sizes => at(&self.sizes, i),
+            Field::Parents => at(&self.parents, i),
+            Field::ColumnStarts => self.column_starts.get(i).map_or(0, |x| *x as usize),
+            Field::Rows => at(&self.rows, i),
+            Field::N => self.n,
+            Field::P => self.p,
+            Field::S => self.s,
+            Field::Unknowns => self.unknowns,
+        }
+    }
+
+    // The draft with another number there.
+    pub(crate) fn with_entry(mut self, field: Field, i: usize, x: usize) -> Draft {
+        match field {
+            Field::Order => put(&mut self.order, i, x),
+            Field::Sizes => put(&mut self.sizes, i, x),
+            Field::Parents => put(&mut self.parents, i, x),
+            Field::ColumnStarts => {
+                if i < 80 {
+                    self.column_starts[i] = (x % 4294967296) as u32;
+                }
+            }
+            Field::Rows => put(&mut self.rows, i, x),
+            Field::N => self.n = x,
+            Field::P => self.p = x,
+            Field::S => self.s = x,
+            Field::Unknowns => self.unknowns = x,
+        }
+        self
+    }
+
+    // The least length that is enough.
+    pub(crate) fn enough(&self, lent: Lent) -> usize {
+        match lent {
+            Lent::Order => self.n,
+            Lent::Sizes | Lent::Parents => self.p,
+            Lent::ColumnStarts => self.n % 65536 + 1,
+            Lent::Rows => self.s,
+            Lent::Room => { 19 + self.n % 65536 * 4 + self.p % 65536 * 4 + self.s % 65536 * 2 }
+        }
+    }
+
+    // The draft with another length of a list or of the room.
+    pub(crate) fn with_length(mut self, lent: Lent, length: usize) -> Draft {
+        self.lengths[lent as usize] = length;
+        self
+    }
 }

@@ -1,13 +1,9 @@
 // What planning a mesh and reading a file leave in arrays that are longer than needed.
 use crate::file::File;
-use meshes::{Case, Held, answered, first8, first16, first32, front16, front32, holds16, holds32};
+use meshes::{Case, Held, answered, first16, first32, front16, front32};
 
 // The plan of a mesh with so many unknowns for each node.
-pub(crate) fn planned(unknowns: usize, c: Case) -> Held {
-    let starts = c.starts;
-    let neighbours = c.neighbours;
-    let start_count = c.start_count;
-    let entry_count = c.entry_count;
+pub(crate) fn planned(unknowns: usize, c: &Case) -> Held {
     let mut order = [meshes::STALE_ORDER; 80];
     let mut positions = [meshes::STALE_POSITIONS; 80];
     let mut sizes = [meshes::STALE_SIZES; 80];
@@ -17,8 +13,8 @@ pub(crate) fn planned(unknowns: usize, c: Case) -> Held {
     let answer = planner::plan(
         unknowns,
         c.n,
-        first32(&starts, start_count),
-        first16(&neighbours, entry_count),
+        first32(&c.starts, c.start_count),
+        first16(&c.neighbours, c.entry_count),
         &mut order,
         &mut positions,
         &mut sizes,
@@ -37,13 +33,29 @@ pub(crate) fn planned(unknowns: usize, c: Case) -> Held {
     )
 }
 
-// Lengths of results that are longer than needed: order, positions, sizes, parents, column starts, rows.
-pub(crate) const ENOUGH: [usize; 6] = [80, 80, 80, 80, 80, 2100];
+// The lengths of the results that a reader is lent.
+#[derive(Clone, Copy)]
+pub(crate) struct Room {
+    pub(crate) order: usize,
+    pub(crate) positions: usize,
+    pub(crate) sizes: usize,
+    pub(crate) parents: usize,
+    pub(crate) column_starts: usize,
+    pub(crate) rows: usize,
+}
+
+// Results that are longer than needed.
+pub(crate) const ENOUGH: Room = Room {
+    order: 80,
+    positions: 80,
+    sizes: 80,
+    parents: 80,
+    column_starts: 80,
+    rows: 2100,
+};
 
 // What reading a file leaves where results of these lengths are lent.
-pub(crate) fn read(f: File, lengths: [usize; 6]) -> Held {
-    let bytes = f.bytes;
-    let length = f.length;
+pub(crate) fn read(f: &File, room: &Room) -> Held {
     let mut order = [meshes::STALE_ORDER; 80];
     let mut positions = [meshes::STALE_POSITIONS; 80];
     let mut sizes = [meshes::STALE_SIZES; 80];
@@ -51,13 +63,13 @@ pub(crate) fn read(f: File, lengths: [usize; 6]) -> Held {
     let mut column_starts = [meshes::STALE_COLUMN_STARTS; 80];
     let mut rows = [meshes::STALE_ROWS; 2100];
     let answer = planfile::read(
-        first8(&bytes, length),
-        front16(&mut order, lengths[0]),
-        front16(&mut positions, lengths[1]),
-        front16(&mut sizes, lengths[2]),
-        front16(&mut parents, lengths[3]),
-        front32(&mut column_starts, lengths[4]),
-        front16(&mut rows, lengths[5]),
+        f.as_slice(),
+        front16(&mut order, room.order),
+        front16(&mut positions, room.positions),
+        front16(&mut sizes, room.sizes),
+        front16(&mut parents, room.parents),
+        front32(&mut column_starts, room.column_starts),
+        front16(&mut rows, room.rows),
     );
     answered(
         answer,
@@ -68,20 +80,4 @@ pub(crate) fn read(f: File, lengths: [usize; 6]) -> Held {
         column_starts,
         rows,
     )
-}
-
-// Whether both are the same in every entry.
-pub(crate) fn same(h: Held, k: Held) -> bool {
-    h.refusal == k.refusal
-        && h.nodes == k.nodes
-        && h.parts == k.parts
-        && h.slots == k.slots
-        && h.unknowns == k.unknowns
-        && h.multiplications == k.multiplications
-        && holds16(&h.order, &k.order, 80, 0)
-        && holds16(&h.positions, &k.positions, 80, 0)
-        && holds16(&h.sizes, &k.sizes, 80, 0)
-        && holds16(&h.parents, &k.parents, 80, 0)
-        && holds32(&h.column_starts, &k.column_starts, 80, 0)
-        && holds16(&h.rows, &k.rows, 2100, 0)
 }

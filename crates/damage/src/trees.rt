@@ -1,8 +1,8 @@
 // Plans of five positions in four parts, of sizes 1, 2, 1 and 1, with every choice of parents that 16 allows: a part's parent is one of the later
 // parts or none. In some of them parts that are not below a part stand between it and parts that are. A column has one row at most, the first that
 // 18 allows.
-use crate::cells::{put_cell, with_cells};
-use crate::counts::{Counts, TREES, begun};
+use crate::cells::{Cells, with_cells};
+use crate::counts::{Counts, TREES};
 use crate::draft::Draft;
 use crate::drawn::empty;
 use crate::two_rows::every_two_more;
@@ -43,65 +43,39 @@ fn allowed(t: usize, j: usize, i: usize) -> bool {
     j < i && is_above(t, part_at(j), part_at(i))
 }
 
-// The first allowed row of column j, or 5.
-fn first_allowed(t: usize, j: usize) -> usize {
-    for i in 0..5usize {
-        if allowed(t, j, i) {
-            return i;
-        }
-    }
-    5
+// Whether row i of column j is the first that is allowed.
+fn is_first(t: usize, j: usize, i: usize) -> bool {
+    i < 5 && allowed(t, j, i) && !(0..i).any(|k| allowed(t, j, k))
 }
 
-// The first allowed row of each column that has one.
-fn first_cells(t: usize) -> [u8; 4096] {
-    let mut cells = [0u8; 4096];
-    for j in 0..5usize {
-        let i = first_allowed(t, j);
-        if i < 5 {
-            put_cell(&mut cells, j, i, 1);
-        }
-    }
-    cells
-}
-
+// What stands for a parent in the list.
 fn parent_or_none(t: usize, q: usize) -> u16 {
-    let k = parent(t, q);
-    if k < 4 {
-        return k as u16;
+    match parent(t, q) {
+        k @ 0..4 => k as u16,
+        _ => 65535,
     }
-    65535
 }
 
 // The draft with its order and its parts.
 fn with_parts(mut d: Draft, t: usize) -> Draft {
-    d.order[0] = 2;
-    d.order[1] = 4;
-    d.order[2] = 0;
-    d.order[3] = 1;
-    d.order[4] = 3;
     d.p = 4;
-    d.sizes[0] = 1;
-    d.sizes[1] = 2;
-    d.sizes[2] = 1;
-    d.sizes[3] = 1;
-    d.parents[0] = parent_or_none(t, 0);
-    d.parents[1] = parent_or_none(t, 1);
-    d.parents[2] = parent_or_none(t, 2);
-    d.parents[3] = parent_or_none(t, 3);
+    d.order[..5].copy_from_slice(&[2, 4, 0, 1, 3]);
+    d.sizes[..4].copy_from_slice(&[1, 2, 1, 1]);
+    for (q, x) in d.parents.iter_mut().enumerate().take(4) {
+        *x = parent_or_none(t, q);
+    }
     d
 }
 
 fn tree(t: usize) -> Draft {
-    let cells = first_cells(t);
+    let cells = Cells::by_rule(|j, i| is_first(t, j, i));
     with_cells(with_parts(empty(allowed_unknowns(t as u64), 5), t), &cells)
 }
 
 // One and two rows more in the plan of each choice.
-pub(crate) fn all(c: Counts) -> Counts {
-    let mut e = c;
+pub(crate) fn all(c: &mut Counts) {
     for t in 0..CHOICES {
-        e = every_two_more(begun(e, TREES, t), tree(t as usize));
+        c.begin(TREES, t);
+        every_two_more(c, &tree(t as usize));
     }
-    e
 }

@@ -1,122 +1,94 @@
 // Plans with two rows changed, and with two rows more, so that faults of 17 and of 18 stand in every order: in an earlier, the same and a later
 // column, in one row, in rows that do not ascend, and on both sides of columns without a fault. Each is written and its file read.
 use crate::counts::Counts;
-use crate::draft::{Draft, entry, with_entry};
+use crate::draft::{Draft, Field};
 use crate::drafts::try_both;
 use meshes::more;
-
-// How many numbers are tried as a row.
-fn numbers(d: Draft) -> usize {
-    d.n % 65536 + 3
-}
+use std::array::IntoIter;
+use std::iter::Chain;
+use std::ops::RangeInclusive;
 
 // The numbers that are tried as a row: every position, n, 4,096 and 65,535.
-fn number(d: Draft, k: usize) -> usize {
-    if k <= d.n {
-        return k;
-    }
-    if k == more(d.n) {
-        return 4096;
-    }
-    65535
+fn numbers(d: &Draft) -> Chain<RangeInclusive<usize>, IntoIter<usize, 2>> {
+    (0..=d.n).chain([4096, 65535])
 }
 
-// The rows from `at` on, each a place later.
-fn with_rows_moved(d: Draft, at: usize) -> Draft {
-    let mut e = d;
-    for slot in at..d.s {
-        e = with_entry(e, 4, more(slot), entry(d, 4, slot));
+// The rows from `from` on, each a place later.
+fn move_rows(d: &mut Draft, from: usize) {
+    if from <= d.s && d.s < 2100 {
+        d.rows.copy_within(from..d.s, from + 1);
     }
-    e
 }
 
 // The columns behind column j, each starting a place later.
-fn with_starts_moved(d: Draft, j: usize) -> Draft {
-    let mut e = d;
-    for k in j..d.n {
-        let start = entry(d, 3, more(k));
-        e = with_entry(e, 3, more(k), more(start));
+fn move_starts(d: &mut Draft, j: usize) {
+    for start in d.column_starts.iter_mut().take(more(d.n)).skip(more(j)) {
+        *start = start.saturating_add(1);
     }
-    e
 }
 
 // Row x more at the end of column j.
-fn with_row(d: Draft, j: usize, x: usize) -> Draft {
-    let end = entry(d, 3, more(j));
-    let e = with_entry(with_rows_moved(d, end), 4, end, x);
-    with_entry(with_starts_moved(e, j), 7, 0, more(d.s))
+fn with_row(mut d: Draft, j: usize, x: usize) -> Draft {
+    let end = d.entry(Field::ColumnStarts, more(j));
+    move_rows(&mut d, end);
+    move_starts(&mut d, j);
+    d.s = more(d.s);
+    d.with_entry(Field::Rows, end, x)
 }
 
 // Each number as the row of this slot.
-fn every_number_at(c: Counts, d: Draft, slot: usize) -> Counts {
-    let mut e = c;
-    for k in 0..numbers(d) {
-        e = try_both(e, with_entry(d, 4, slot, number(d, k)));
+fn every_number_at(c: &mut Counts, d: &Draft, slot: usize) {
+    for x in numbers(d) {
+        try_both(c, &d.with_entry(Field::Rows, slot, x));
     }
-    e
 }
 
 // Each number as the row of each slot from `first` on.
-fn every_change_from(c: Counts, d: Draft, first: usize) -> Counts {
-    let mut e = c;
+fn every_change_from(c: &mut Counts, d: &Draft, first: usize) {
     for slot in first..d.s {
-        e = every_number_at(e, d, slot);
+        every_number_at(c, d, slot);
     }
-    e
 }
 
 // Each number as the row of this slot, and each as that of each later slot.
-fn every_change_with(c: Counts, d: Draft, slot: usize) -> Counts {
-    let mut e = c;
-    for k in 0..numbers(d) {
-        let f = with_entry(d, 4, slot, number(d, k));
-        e = every_change_from(e, f, more(slot));
+fn every_change_with(c: &mut Counts, d: &Draft, slot: usize) {
+    for x in numbers(d) {
+        every_change_from(c, &d.with_entry(Field::Rows, slot, x), more(slot));
     }
-    e
 }
 
 // Two rows changed: each two slots, with each two numbers.
-pub(crate) fn every_two_changed(c: Counts, d: Draft) -> Counts {
-    let mut e = c;
+pub(crate) fn every_two_changed(c: &mut Counts, d: &Draft) {
     for slot in 0..d.s {
-        e = every_change_with(e, d, slot);
+        every_change_with(c, d, slot);
     }
-    e
 }
 
 // Each number as one row more in column j.
-fn every_number_in(c: Counts, d: Draft, j: usize) -> Counts {
-    let mut e = c;
-    for k in 0..numbers(d) {
-        e = try_both(e, with_row(d, j, number(d, k)));
+fn every_number_in(c: &mut Counts, d: &Draft, j: usize) {
+    for x in numbers(d) {
+        try_both(c, &with_row(*d, j, x));
     }
-    e
 }
 
 // Each number as one row more in each column from `first` on.
-fn every_row_from(c: Counts, d: Draft, first: usize) -> Counts {
-    let mut e = c;
+fn every_row_from(c: &mut Counts, d: &Draft, first: usize) {
     for j in first..d.n {
-        e = every_number_in(e, d, j);
+        every_number_in(c, d, j);
     }
-    e
 }
 
 // Each number as one row more in column j, and each as another in the same and in each later column.
-fn every_row_with(c: Counts, d: Draft, j: usize) -> Counts {
-    let mut e = c;
-    for k in 0..numbers(d) {
-        let f = with_row(d, j, number(d, k));
-        e = every_row_from(e, f, j);
+fn every_row_with(c: &mut Counts, d: &Draft, j: usize) {
+    for x in numbers(d) {
+        every_row_from(c, &with_row(*d, j, x), j);
     }
-    e
 }
 
 // One row more, and two rows more: in each two columns, and in each column twice, with each two numbers.
-pub(crate) fn every_two_more(c: Counts, d: Draft) -> Counts {
-    let mut e = every_row_from(c, d, 0);
+pub(crate) fn every_two_more(c: &mut Counts, d: &Draft) {
+    every_row_from(c, d, 0);
     for j in 0..d.n {
-        e = every_row_with(e, d, j);
+        every_row_with(c, d, j);
     }
-    e
 }

@@ -1,7 +1,7 @@
 // Numbers of unknowns, allowed and refused, beside faults that other checks name: in files of every version, cut and whole, and lent to the writer.
 use crate::counts::Counts;
-use crate::draft::{Draft, encoded, with_entry, with_length};
-use crate::file::{File, N, UNKNOWNS, VERSION, with_field, with_length as cut};
+use crate::draft::{Draft, Field, Lent};
+use crate::file::{File, N, UNKNOWNS, VERSION};
 use crate::trials::{try_file, try_refused, try_writing};
 use meshes::{REFUSED_UNKNOWNS, allowed_unknowns, refused_unknowns};
 
@@ -16,88 +16,76 @@ fn number(k: u64) -> usize {
 }
 
 // A file as it is, and cut around the 17 and the 19 bytes that a version asks for.
-fn every_cut(c: Counts, f: File) -> Counts {
-    let mut d = try_file(c, f);
+fn every_cut(c: &mut Counts, f: &File) {
+    try_file(c, f);
     for length in 16..21usize {
-        d = try_file(d, cut(f, length));
+        try_file(c, &f.cut(length));
     }
-    d
 }
 
 // Each number of unknowns in a version 2 file, with its n and without.
-fn every_number(c: Counts, f: File) -> Counts {
-    let mut d = c;
+fn every_number(c: &mut Counts, f: &File) {
     for k in 0..NUMBERS {
-        let g = with_field(f, UNKNOWNS, number(k));
-        d = every_cut(every_cut(d, g), with_field(g, N, 0));
+        let g = f.with_field(UNKNOWNS, number(k));
+        every_cut(c, &g);
+        every_cut(c, &g.with_field(N, 0));
     }
-    d
 }
 
 // The versions 1 and 2, and those next to them, in a version 2 file, with each number of unknowns.
-fn every_version(c: Counts, f: File) -> Counts {
-    let mut d = c;
+fn every_version(c: &mut Counts, f: &File) {
     for version in 0..4usize {
-        d = every_number(d, with_field(f, VERSION, version));
+        every_number(c, &f.with_field(VERSION, version));
     }
-    d
 }
 
 // The refusal of a version 1 file of n nodes whose version is set to 2: its n is then its unknowns, and its parts are the high bits of n.
 fn set_to_2(n: usize) -> u32 {
-    if 6 < n {
-        return 28;
-    }
-    13
+    if 6 < n { 28 } else { 13 }
 }
 
 // The draft's files with the other's version.
-fn every_exchange(c: Counts, d: Draft) -> Counts {
-    let e = try_refused(c, with_field(encoded(2, d), VERSION, 1), 13);
-    try_refused(e, with_field(encoded(1, d), VERSION, 2), set_to_2(d.n))
+fn every_exchange(c: &mut Counts, d: &Draft) {
+    try_refused(c, &d.encoded(2).with_field(VERSION, 1), 13);
+    try_refused(c, &d.encoded(1).with_field(VERSION, 2), set_to_2(d.n));
 }
 
 // A version 2 file without unknowns and nodes: one of 18 bytes is too short, and one of 19 has a number that is refused before its n.
-fn every_empty(c: Counts, f: File) -> Counts {
-    let g = with_field(with_field(f, UNKNOWNS, 0), N, 0);
-    let d = try_refused(c, cut(g, 18), 10);
-    try_refused(d, cut(g, 19), 28)
+fn every_empty(c: &mut Counts, f: &File) {
+    let g = f.with_field(UNKNOWNS, 0).with_field(N, 0);
+    try_refused(c, &g.cut(18), 10);
+    try_refused(c, &g.cut(19), 28);
 }
 
-// How many faults are tried beside a number of unknowns.
-const FAULTS: usize = 15;
-
-// A draft with a fault that a later check names: a list, or the room, without an entry, or a wrong number in a list or for n, p or s. The last has
-// none.
-fn with_fault(d: Draft, fault: usize) -> Draft {
-    if fault < 6 {
-        return with_length(d, fault, 0);
+// A draft with a list, or the room, without an entry: faults that a later check names.
+fn every_missing(c: &mut Counts, d: &Draft) {
+    for lent in Lent::ALL {
+        try_writing(c, &d.with_length(lent, 0));
     }
-    if fault < 14 {
-        return with_entry(d, fault - 6, 0, 65534);
-    }
-    d
 }
 
-fn every_fault(c: Counts, d: Draft) -> Counts {
-    let mut e = c;
-    for fault in 0..FAULTS {
-        e = try_writing(e, with_fault(d, fault));
+// A draft with a wrong number in a list or for n, p or s.
+fn every_wrong(c: &mut Counts, d: &Draft) {
+    for field in Field::ALL.iter().take(8) {
+        try_writing(c, &d.with_entry(*field, 0, 65534));
     }
-    e
 }
 
-// Each number of unknowns lent to the writer, with each fault.
-fn every_lent(c: Counts, d: Draft) -> Counts {
-    let mut e = c;
+// Each number of unknowns lent to the writer, with each fault and without.
+fn every_lent(c: &mut Counts, d: &Draft) {
     for k in 0..NUMBERS {
-        e = every_fault(e, with_entry(d, 8, 0, number(k)));
+        let e = d.with_entry(Field::Unknowns, 0, number(k));
+        every_missing(c, &e);
+        every_wrong(c, &e);
+        try_writing(c, &e);
     }
-    e
 }
 
 // All of these, for the plan of a mesh.
-pub(crate) fn every(c: Counts, d: Draft) -> Counts {
-    let f = encoded(2, d);
-    every_lent(every_exchange(every_empty(every_version(c, f), f), d), d)
+pub(crate) fn every(c: &mut Counts, d: &Draft) {
+    let f = d.encoded(2);
+    every_version(c, &f);
+    every_empty(c, &f);
+    every_exchange(c, d);
+    every_lent(c, d);
 }

@@ -10,28 +10,29 @@ mod solution;
 mod trial;
 mod values;
 
-use crate::counts::{Counts, none, print};
-use crate::filling::{Filling, planned, tight};
+use crate::counts::Counts;
+use crate::filling::{Filling, planned};
 use crate::trial::try_filling;
-use crate::values::{KINDS, ZEROS, with_values};
+use crate::values::Kind;
 use meshes::Case;
 use std::io;
 
 // Values of each kind, in lists that are longer than needed and in such as are just long enough.
-fn every_kind(c: Counts, f: Filling, seed: u64) -> Counts {
-    let mut d = c;
-    for kind in 0..KINDS {
-        let g = with_values(f, kind, seed);
-        d = try_filling(try_filling(d, g), tight(g));
+fn every_kind(c: &mut Counts, f: &Filling, seed: u64) {
+    for kind in Kind::ALL {
+        let g = f.with_values(kind, seed);
+        try_filling(c, &g);
+        try_filling(c, &g.tight());
     }
-    d
 }
 
 // Sound values with each damage, and slots of zero, whose pivots are the diagonal's values, with each special pivot.
-fn every_fault(c: Counts, f: Filling, seed: u64) -> Counts {
-    let g = tight(with_values(f, 0, seed));
-    let d = faults::every_pivot(faults::every_entry(faults::every_two(c, g), g), g);
-    faults::every_pivot(d, with_values(f, ZEROS, seed))
+fn every_fault(c: &mut Counts, f: &Filling, seed: u64) {
+    let g = f.with_values(Kind::Sound, seed).tight();
+    faults::every_two(c, &g);
+    faults::every_entry(c, &g);
+    faults::every_pivot(c, &g);
+    faults::every_pivot(c, &f.with_values(Kind::Zeros, seed));
 }
 
 // How many of the meshes have plans that are damaged: single nodes, an edge, a ring, document 01's mesh 4, which is a path of five nodes, and three of
@@ -54,18 +55,18 @@ fn mesh(number: u64) -> Case {
     }
 }
 
-fn every_mesh(c: Counts) -> Counts {
-    let mut d = c;
+fn every_mesh(c: &mut Counts) {
     for number in 0..1332u64 {
-        let f = planned(mesh(number));
-        d = every_kind(d, f, number);
+        let f = planned(&mesh(number));
+        every_kind(c, &f, number);
         if number < DAMAGED {
-            d = every_fault(d, f, number);
+            every_fault(c, &f, number);
         }
     }
-    d
 }
 
 fn main(rt: HostRuntime) -> io::Result<()> {
-    print(&rt, &every_mesh(none()))
+    let mut c = Counts::new();
+    every_mesh(&mut c);
+    c.print(&rt)
 }

@@ -1,28 +1,42 @@
 // Values of many kinds, drawn from a seed: by kind and place, for the diagonal, for the slots and for the vector.
-use crate::filling::{Filling, NODES, asking};
+use crate::filling::{Filling, Number};
 use meshes::draw;
 
 // The kinds: sound; sound for few rows only; denormal; tiny; huge; of every magnitude; sound with a few special slots; special values alone; slots of
 // either zero; and small whole numbers, with which a pivot can be exactly 0.
-pub(crate) const KINDS: usize = 10;
+#[derive(Clone, Copy)]
+pub(crate) enum Kind {
+    Sound,
+    Close,
+    Denormal,
+    Tiny,
+    Huge,
+    EveryMagnitude,
+    FewSpecial,
+    Special,
+    Zeros,
+    Small,
+}
 
-const SOUND: usize = 0;
+impl Kind {
+    pub(crate) const ALL: [Kind; 10] = [
+        Kind::Sound,
+        Kind::Close,
+        Kind::Denormal,
+        Kind::Tiny,
+        Kind::Huge,
+        Kind::EveryMagnitude,
+        Kind::FewSpecial,
+        Kind::Special,
+        Kind::Zeros,
+        Kind::Small,
+    ];
 
-const CLOSE: usize = 1;
-
-const DENORMAL: usize = 2;
-
-const TINY: usize = 3;
-
-const HUGE: usize = 4;
-
-const EVERY_MAGNITUDE: usize = 5;
-
-const FEW_SPECIAL: usize = 6;
-
-const SPECIAL: usize = 7;
-
-pub(crate) const ZEROS: usize = 8;
+    // The kind of the vector: each, over the seeds, with each kind of values.
+    fn of_vector(self, seed: u64) -> Kind {
+        Kind::ALL[(self as usize + seed as usize % 10) % 10]
+    }
+}
 
 // A drawn number of 21 bits.
 fn bits(seed: u64, at: usize, what: usize) -> f64 {
@@ -49,36 +63,25 @@ fn unit(seed: u64, at: usize) -> f64 {
 const SPECIALS: usize = 12;
 
 fn special(k: usize) -> f64 {
-    match k {
-        0 => 5e-324,
-        1 => 2.2250738585072014e-308,
-        2 => 1.7976931348623157e308,
-        3 => 1.0,
-        4 => 0.0,
-        5 => -0.0,
-        6 => -5e-324,
-        7 => -1.0,
-        8 => -1.7976931348623157e308,
-        9 => 1.0 / 0.0,
-        10 => -1.0 / 0.0,
-        _ => 0.0 / 0.0,
-    }
+    let specials = [
+        5e-324,
+        2.2250738585072014e-308,
+        1.7976931348623157e308,
+        1.0,
+        0.0,
+        -0.0,
+        -5e-324,
+        -1.0,
+        -1.7976931348623157e308,
+        1.0 / 0.0,
+        -1.0 / 0.0,
+        0.0 / 0.0,
+    ];
+    specials[k % SPECIALS]
 }
 
-// A power of ten.
-fn magnitude(k: usize) -> f64 {
-    match k {
-        0 => 1e-308,
-        1 => 1e-200,
-        2 => 1e-100,
-        3 => 1e-8,
-        4 => 1.0,
-        5 => 1e8,
-        6 => 1e100,
-        7 => 1e200,
-        _ => 1e308,
-    }
-}
+// Powers of ten.
+const MAGNITUDES: [f64; 9] = [1e-308, 1e-200, 1e-100, 1e-8, 1.0, 1e8, 1e100, 1e200, 1e308];
 
 fn signed(x: f64, negative: bool) -> f64 {
     if negative {
@@ -87,90 +90,73 @@ fn signed(x: f64, negative: bool) -> f64 {
     x
 }
 
-fn diagonal_value(kind: usize, seed: u64, at: usize) -> f64 {
+fn diagonal_value(kind: Kind, seed: u64, at: usize) -> f64 {
     let x = unit(seed, at);
     match kind {
-        SOUND | FEW_SPECIAL => 64.0 + x,
-        CLOSE => x * 4.0,
-        DENORMAL => x * 1e-318,
-        TINY => x * 1e-302,
-        HUGE => x * 0.875e308,
-        EVERY_MAGNITUDE => x * magnitude(draw(seed, at, 23, 9)),
-        SPECIAL => special(draw(seed, at, 24, SPECIALS)),
-        ZEROS => special(draw(seed, at, 24, 4)),
-        _ => 1.0 + remainder8(seed, at, 25),
+        Kind::Sound | Kind::FewSpecial => 64.0 + x,
+        Kind::Close => x * 4.0,
+        Kind::Denormal => x * 1e-318,
+        Kind::Tiny => x * 1e-302,
+        Kind::Huge => x * 0.875e308,
+        Kind::EveryMagnitude => x * MAGNITUDES[draw(seed, at, 23, 9) % 9],
+        Kind::Special => special(draw(seed, at, 24, SPECIALS)),
+        Kind::Zeros => special(draw(seed, at, 24, 4)),
+        Kind::Small => 1.0 + remainder8(seed, at, 25),
     }
 }
 
-fn slot_value(kind: usize, seed: u64, at: usize) -> f64 {
+fn slot_value(kind: Kind, seed: u64, at: usize) -> f64 {
     let x = signed(unit(seed, at), draw(seed, at, 26, 2) == 0);
     match kind {
-        SOUND | CLOSE => x,
-        DENORMAL => x * 1e-320,
-        TINY => x * 1e-306,
-        HUGE => {
+        Kind::Sound | Kind::Close => x,
+        Kind::Denormal => x * 1e-320,
+        Kind::Tiny => x * 1e-306,
+        Kind::Huge => {
             if draw(seed, at, 31, 4) == 0 {
                 return x * 0.8e308;
             }
             x * 1e306
         }
-        EVERY_MAGNITUDE => x * magnitude(draw(seed, at, 27, 9)),
-        FEW_SPECIAL => {
+        Kind::EveryMagnitude => x * MAGNITUDES[draw(seed, at, 27, 9) % 9],
+        Kind::FewSpecial => {
             if draw(seed, at, 28, 8) == 0 {
                 return special(draw(seed, at, 29, SPECIALS));
             }
             x
         }
-        SPECIAL => special(draw(seed, at, 29, SPECIALS)),
-        ZEROS => signed(0.0, x < 0.0),
-        _ => remainder5(seed, at, 30) - 2.0,
+        Kind::Special => special(draw(seed, at, 29, SPECIALS)),
+        Kind::Zeros => signed(0.0, x < 0.0),
+        Kind::Small => remainder5(seed, at, 30) - 2.0,
     }
 }
 
-fn diagonal_of(kind: usize, seed: u64) -> [f64; 64] {
-    let mut diagonal = [0.0; 64];
-    for i in 0..64usize {
-        diagonal[i] = diagonal_value(kind, seed, i);
+// Puts the value of each place into a list.
+fn fill<F: Fn(usize) -> f64>(list: &mut [f64], value: F)
+    requires { F.IsAlwaysCallable value }
+{
+    for (at, x) in list.iter_mut().enumerate() {
+        *x = value(at);
     }
-    diagonal
 }
 
-fn values_of(kind: usize, seed: u64) -> [f64; 2016] {
-    let mut values = [0.0; 2016];
-    for e in 0..2016usize {
-        values[e] = slot_value(kind, seed, e + 64);
+impl Filling {
+    // The filling with values of a kind, in the buffers and behind them, a vector of a kind, and a drawn pair. The vector's values are as for slots, at
+    // places behind theirs.
+    pub(crate) fn with_values(mut self, kind: Kind, seed: u64) -> Filling {
+        let n = self.number(Number::Nodes);
+        let other = kind.of_vector(seed);
+        fill(&mut self.diagonal, |i| diagonal_value(kind, seed, i));
+        fill(&mut self.values, |e| slot_value(kind, seed, e % 2016 + 64));
+        fill(&mut self.vector, |i| slot_value(other, seed, i % 64 + 2080));
+        self.asking(
+            draw(seed, kind as usize, 32, n),
+            draw(seed, kind as usize, 33, n),
+        )
     }
-    values
-}
 
-// As for slots, at places behind theirs.
-fn vector_of(kind: usize, seed: u64) -> [f64; 64] {
-    let mut vector = [0.0; 64];
-    for i in 0..64usize {
-        vector[i] = slot_value(kind, seed, i + 2080);
+    // The filling with a special value on the diagonal.
+    pub(crate) fn with_special(mut self, j: usize, k: usize) -> Filling {
+        self.diagonal[j % 64] = special(k);
+        self
     }
-    vector
-}
-
-// The kind of the vector: each, over the seeds, with each kind of values.
-fn vector_kind(kind: usize, seed: u64) -> usize {
-    (kind % KINDS + seed as usize % KINDS) % KINDS
-}
-
-// The filling with values of a kind, in the buffers and behind them, a vector of a kind, and a drawn pair.
-pub(crate) fn with_values(mut f: Filling, kind: usize, seed: u64) -> Filling {
-    let n = f.numbers[NODES];
-    let diagonal = diagonal_of(kind, seed);
-    let values = values_of(kind, seed);
-    let vector = vector_of(vector_kind(kind, seed), seed);
-    f.diagonal = diagonal;
-    f.values = values;
-    f.vector = vector;
-    asking(f, draw(seed, kind, 32, n), draw(seed, kind, 33, n))
-}
-
-// The filling with a special value on the diagonal.
-pub(crate) fn with_special(mut f: Filling, j: usize, k: usize) -> Filling {
-    f.diagonal[j % 64] = special(k);
-    f
 }

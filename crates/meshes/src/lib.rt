@@ -19,7 +19,7 @@ pub use damage::damaged;
 pub use graph::{from_edges, numbered, star};
 pub use held::{Buffers, Held};
 pub use lent::{Case, Lengths, least};
-pub use numbers::{less, more, print_difference, print_number, print_place};
+pub use numbers::{less, more, print_number};
 pub use random::draw;
 pub use shape::drawn;
 pub use unknowns::{REFUSED_UNKNOWNS, allowed_unknowns, refused_unknowns};

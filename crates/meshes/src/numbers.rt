@@ -21,18 +21,3 @@ pub fn more(x: usize) -> usize
 pub fn print_number(rt: &impl Print, x: usize) -> io::Result<()> {
     println!(rt; "{x}")
 }
-
-// Where something was found: words and two numbers, which end a line.
-pub fn print_place(rt: &impl Print, what: &str, first: usize, second: usize) -> io::Result<()> {
-    println!(rt; "{what} {first} {second}")
-}
-
-// The line that tells where the proved code and the naive code differ.
-pub fn print_difference(
-    rt: &impl Print,
-    what: &str,
-    first: usize,
-    second: usize,
-) -> io::Result<()> {
-    println!(rt; "different: {what} {first} {second}")
-}

@@ -1,54 +1,79 @@
 // A text damaged in one byte, cut off at every byte, and damaged in every way.
 use crate::counts::Counts;
-use crate::text::{Text, byte_of, part, with, with_all};
-use crate::trial::{ANY, try_text};
-use meshes::{less, more};
+use crate::text::{Short, byte};
+use crate::trial::try_text;
+use meshes::less;
 
 // Bytes that tell: separators and near ones, controls, digits and near ones, marks, letters.
 const TELLING: [u8; 30] = *b" \t\n\r\x0b\x0c\x00\x1f\x7f\x80\xa0\xffo059/:%#+-.,eEmMzZ";
 
-// How many damages to a byte there are, besides the cut.
-pub(crate) const DAMAGES: usize = 71;
+const BITS: [u8; 8] = [1, 2, 4, 8, 16, 32, 64, 128];
 
-// The byte of damage number `what`, for x: one that tells (0 to 29, 30 to 59), or x with another bit (60 to 67).
-fn damaged_byte(x: u8, what: usize) -> u8 {
-    if what < 60 {
-        return TELLING[what % 30];
-    }
-    if what < 68 {
-        return x ^ (1u8 << (what - 60));
-    }
-    x
+// Damages to a byte: another one instead or before it, another bit, the byte left out or given twice, or changed places with the one before, and the
+// text cut off there.
+#[derive(Clone, Copy)]
+pub(crate) enum Damage {
+    Instead(u8),
+    Before(u8),
+    Bit(u8),
+    LeftOut,
+    Twice,
+    Swapped,
+    Cut,
 }
 
-// Damage number `what` at a place: a byte that tells instead (0 to 29) or before it (30 to 59), another bit (60 to 67), the byte left out (68) or
-// given twice (69), or changed places with the one before (70), or the text cut off there (71).
-pub(crate) fn damaged(t: Text, at: usize, what: usize) -> Text {
-    let x = byte_of(t, at);
-    let bytes = t.bytes;
-    let mut u = t;
-    u.length = at;
-    if what == 71 {
-        return u;
+// How many damages to a byte there are, besides the cut, which is the last.
+pub(crate) const DAMAGES: usize = 71;
+
+impl Damage {
+    pub(crate) fn nth(k: usize) -> Damage {
+        match k {
+            0..30 => Damage::Instead(TELLING[k % 30]),
+            30..60 => Damage::Before(TELLING[k % 30]),
+            60..68 => Damage::Bit(BITS[(k - 60) % 8]),
+            68 => Damage::LeftOut,
+            69 => Damage::Twice,
+            70 => Damage::Swapped,
+            _ => Damage::Cut,
+        }
     }
-    let mut end = more(at);
-    if what == 70 {
-        u.length = less(at);
-        u = with(with(u, x), byte_of(t, less(at)));
-    } else if what != 68 {
-        u = with(u, damaged_byte(x, what));
+
+    // The text with the damage at a place.
+    pub(crate) fn put(self, t: &Short, at: usize) -> Short {
+        let bytes = t.as_slice();
+        let x = byte(bytes, at);
+        let behind = bytes.get(at..).unwrap_or(&[]);
+        let rest = behind.get(1..).unwrap_or(&[]);
+        let mut u = t.cut(at);
+        match self {
+            Damage::Instead(y) => u.extend_with(y, rest),
+            Damage::Before(y) => u.extend_with(y, behind),
+            Damage::Bit(bit) => u.extend_with(x ^ bit, rest),
+            Damage::LeftOut => u.extend(rest),
+            Damage::Twice => u.extend_with(x, behind),
+            Damage::Swapped => {
+                u = t.cut(less(at));
+                u.push(x);
+                u.extend_with(byte(bytes, less(at)), rest);
+            }
+            Damage::Cut => {}
+        }
+        u
     }
-    if (29 < what) & (what < 60) | (what == 69) {
-        end = at;
+}
+
+// Every damage at a place.
+fn every_damage_at(c: &mut Counts, t: &Short, at: usize) {
+    for k in 0..DAMAGES {
+        try_text(c, &Damage::nth(k).put(t, at), None);
     }
-    with_all(u, part(&bytes, end, t.length))
 }
 
 // Every damage at every place and at the text's end, where nothing is cut off.
-pub(crate) fn every_damage(c: Counts, t: Text) -> Counts {
-    let mut d = c;
-    for k in 0..t.length % 65536 * 72 + 71 {
-        d = try_text(d, damaged(t, k / 72, k % 72), ANY);
+pub(crate) fn every_damage(c: &mut Counts, t: &Short) {
+    for at in 0..t.len() {
+        every_damage_at(c, t, at);
+        try_text(c, &Damage::Cut.put(t, at), None);
     }
-    d
+    every_damage_at(c, t, t.len());
 }

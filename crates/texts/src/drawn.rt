@@ -1,11 +1,11 @@
 // Texts that a seed draws: a pattern with its pairs in any order, written in any way that is allowed, and the same with one damage and with two.
-use crate::counts::{Counts, begun};
-use crate::damage::{DAMAGES, damaged};
-use crate::draft::{Draft, side, with_allowed, with_more, with_pair, without_pairs};
+use crate::counts::Counts;
+use crate::damage::{DAMAGES, Damage};
+use crate::draft::{Draft, Pair};
 use crate::hub::{hub_degree, with_hub};
 use crate::style::written;
-use crate::text::Text;
-use crate::trial::{ANY, try_text};
+use crate::text::Short;
+use crate::trial::try_text;
 use meshes::{draw, less, more};
 use plan::Plan;
 
@@ -16,141 +16,143 @@ const FIRST_HUB: usize = 20000;
 
 // A sound draft: of at most 12 nodes, one in eight of at most 60; the pairs are some tenths of all, in an order that the seed draws.
 fn sound(seed: u64) -> Draft {
-    let mut most = 12usize;
-    if draw(seed, 1, 31, 8) == 0 {
-        most = 60;
-    }
+    let most = if draw(seed, 1, 31, 8) == 0 { 60 } else { 12 };
     let n = more(draw(seed, 2, 31, most));
     let tenths = more(draw(seed, 0, 31, 10));
-    let mut d = without_pairs(n);
+    let mut d = Draft::new(n);
     for k in 0..n % 65536 * 64 {
-        let r = k / 64 + 1;
+        let row = k / 64 + 1;
         let s = k % 64;
-        if (s < r) & (draw(seed, r, s, 10) < tenths) {
-            d = with_allowed(d, seed, r, s + 1);
+        if s < row && draw(seed, row, s, 10) < tenths {
+            let column = s + 1;
+            d.push_allowed(seed, Pair { row, column });
         }
     }
     d
 }
 
-// A number at which a check may change its mind.
-fn border(n: usize, b: usize) -> usize {
-    match b {
-        0 => 0,
-        1 => more(n),
-        2 => less(n),
-        3 => n % 4294967296 + 65536,
-        4 => 4294967295,
-        5 => 4294967296,
-        _ => n % 4294967296 + 4294967296,
-    }
+// Numbers at which a check may change its mind.
+fn borders(n: usize) -> [usize; 7] {
+    [
+        0,
+        more(n),
+        less(n),
+        n % 4294967296 + 65536,
+        4294967295,
+        4294967296,
+        n % 4294967296 + 4294967296,
+    ]
 }
 
-fn resized(d: Draft, n: usize) -> Draft {
-    let mut e = d;
-    e.height = n;
-    e.width = n;
-    e
+fn resized(mut d: Draft, n: usize) -> Draft {
+    d.height = n;
+    d.width = n;
+    d
 }
 
-// The draft with a size line that a number draws.
-fn other_size(d: Draft, what: usize) -> Draft {
-    let mut e = d;
+// The draft with a size line, or a count of pairs, that a number draws.
+fn other_size(d: &Draft, what: usize) -> Draft {
+    let mut e = *d;
     match what {
         0 => e.height = more(d.height),
         1 => e.width = more(d.width),
         2 => e.stated = more(d.stated),
         3 => e.stated = less(d.stated),
-        4 => e = resized(d, 0),
-        5 => e = resized(d, 4096),
-        6 => e = resized(d, 4097),
-        7 => e = resized(d, 4294967295),
-        8 => e = resized(d, 4294967296),
+        4 => e = resized(e, 0),
+        5 => e = resized(e, 4096),
+        6 => e = resized(e, 4097),
+        7 => e = resized(e, 4294967295),
+        8 => e = resized(e, 4294967296),
         9 => e.stated = d.stated % 4294967296 + 4294967296,
-        10 => e = resized(d, less(d.height)),
-        _ => e.count = less(d.count),
+        10 => e = resized(e, less(d.height)),
+        _ => e.pop(),
     }
     e
 }
 
 // The draft with another pair k, which a number draws: an index at a border, the pair turned about, or one that stands elsewhere too.
-fn other_pair(d: Draft, seed: u64, k: usize, what: usize) -> Draft {
-    let row = side(d, k, 0);
-    let column = side(d, k, 1);
-    let m = draw(seed, 3, 32, d.count);
-    let x = border(d.height, draw(seed, 4, 32, 7));
+fn other_pair(d: &Draft, seed: u64, k: usize, what: usize) -> Draft {
+    let mut e = *d;
+    let Pair { row, column } = d.pair(k);
+    let x = borders(d.height)[draw(seed, 4, 32, 7) % 7];
     match what {
-        0 => with_pair(d, k, x, column),
-        1 => with_pair(d, k, row, x),
-        2 => with_pair(d, k, column, row),
-        3 => with_more(d, row, column),
-        4 => with_more(d, side(d, 0, 0), side(d, 0, 1)),
-        5 => with_pair(d, k, side(d, m, 0), side(d, m, 1)),
-        _ => with_more(d, more(draw(seed, 5, 32, d.height)), 1),
+        0 => e.put(k, Pair { row: x, column }),
+        1 => e.put(k, Pair { row, column: x }),
+        2 => {
+            let turned = Pair {
+                row: column,
+                column: row,
+            };
+            e.put(k, turned);
+        }
+        3 => e.push(Pair { row, column }),
+        4 => e.push(d.pair(0)),
+        5 => e.put(k, d.pair(draw(seed, 3, 32, d.count()))),
+        _ => {
+            let last = Pair {
+                row: more(draw(seed, 5, 32, d.height)),
+                column: 1,
+            };
+            e.push(last);
+        }
     }
+    e
 }
 
 // The draft with one damage that the seed draws.
-fn damaged_draft(d: Draft, seed: u64) -> Draft {
+fn damaged_draft(d: &Draft, seed: u64) -> Draft {
     if draw(seed, 0, 33, 3) == 0 {
         return other_size(d, draw(seed, 1, 33, 12));
     }
-    other_pair(d, seed, draw(seed, 2, 33, d.count), draw(seed, 3, 33, 7))
+    other_pair(d, seed, draw(seed, 2, 33, d.count()), draw(seed, 3, 33, 7))
 }
 
 // The text with one damage to a byte that the seed draws.
-fn damaged_text(t: Text, seed: u64) -> Text {
-    damaged(t, draw(seed, 0, 34, t.length), draw(seed, 1, 34, DAMAGES))
+fn damaged_text(t: &Short, seed: u64) -> Short {
+    Damage::nth(draw(seed, 1, 34, DAMAGES)).put(t, draw(seed, 0, 34, t.len()))
 }
 
 // The text of a draft, whose answer is known, written as the seed draws; the same with one damage and with two to what it says, to how, and to both.
-fn try_draft(c: Counts, d: Draft, known: usize, seed: u64) -> Counts {
+fn try_draft(c: &mut Counts, d: &Draft, known: u32, seed: u64) {
     let next = seed % 4294967296 + 7;
     let once = damaged_draft(d, seed);
     let t = written(d, seed);
-    let u = written(once, seed);
-    let v = damaged_text(t, seed);
-    let first = try_text(c, t, known);
-    let said = try_text(
-        try_text(first, u, ANY),
-        written(damaged_draft(once, next), seed),
-        ANY,
-    );
-    let changed = try_text(try_text(said, v, ANY), damaged_text(v, next), ANY);
-    try_text(changed, damaged_text(u, seed), ANY)
+    let u = written(&once, seed);
+    let v = damaged_text(&t, seed);
+    try_text(c, &t, Some(known));
+    try_text(c, &u, None);
+    try_text(c, &written(&damaged_draft(&once, next), seed), None);
+    try_text(c, &v, None);
+    try_text(c, &damaged_text(&v, next), None);
+    try_text(c, &damaged_text(&u, seed), None);
 }
 
-fn all_sound(c: Counts) -> Counts {
-    let mut d = c;
+fn all_sound(c: &mut Counts) {
     for number in 0..2000usize {
         let seed = (number * 5003) as u64;
-        d = try_draft(begun(d, FIRST + number), sound(seed), 0, seed);
+        c.begin(FIRST + number);
+        try_draft(c, &sound(seed), 0, seed);
     }
-    d
 }
 
 // What the reader answers to a draft with a hub.
-fn hub_answer(seed: u64) -> usize {
+fn hub_answer(seed: u64) -> u32 {
     if Plan::NEIGHBOURS < hub_degree(seed) {
-        return 26;
+        26
+    } else {
+        0
     }
-    0
 }
 
-fn all_hubs(c: Counts) -> Counts {
-    let mut d = c;
+fn all_hubs(c: &mut Counts) {
     for number in 0..400usize {
         let seed = (number * 5009) as u64;
-        d = try_draft(
-            begun(d, FIRST_HUB + number),
-            with_hub(seed),
-            hub_answer(seed),
-            seed,
-        );
+        c.begin(FIRST_HUB + number);
+        try_draft(c, &with_hub(seed), hub_answer(seed), seed);
     }
-    d
 }
 
-pub(crate) fn all(c: Counts) -> Counts {
-    all_hubs(all_sound(c))
+pub(crate) fn all(c: &mut Counts) {
+    all_sound(c);
+    all_hubs(c);
 }

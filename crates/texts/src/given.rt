@@ -1,21 +1,22 @@
 // The lines of standard input, which says itself how it is to be read.
-use crate::counts::{Counts, begun};
+use crate::counts::Counts;
 use crate::damage::every_damage;
 use crate::ring::try_ring;
-use crate::text::{Text, byte, empty, piece, with};
-use crate::trial::{ANY, try_text};
-
-// The most lines.
-const LINES: usize = 500;
+use crate::text::{Short, byte, piece};
+use crate::trial::try_text;
 
 // Number k of a line, counted from 0 as its words are.
 pub(crate) fn number(line: &[u8], k: usize) -> usize {
-    let word = piece(line, k, b' ');
     let mut x = 0usize;
-    for i in 0..word.len() {
-        x = x % 4294967296 * 10 + (word[i] % 16) as usize;
+    for digit in piece(line, k, b' ') {
+        x = x % 4294967296 * 10 + usize::from(*digit % 16);
     }
     x
+}
+
+// The refusal, or 0, that a line says is the answer.
+pub(crate) fn known(line: &[u8]) -> u32 {
+    (number(line, 1) % 100) as u32
 }
 
 // The byte that one of a line stands for. A question mark stands for `any`.
@@ -40,39 +41,39 @@ fn meant(x: u8, any: u8) -> u8 {
 }
 
 // The text of a line.
-fn told(line: &[u8], any: u8) -> Text {
-    let mut t = empty();
-    for i in 5..line.len() {
-        t = with(t, meant(line[i], any));
+fn told(line: &[u8], any: u8) -> Short {
+    let mut t = Short::new();
+    for x in line.get(5..).unwrap_or(&[]) {
+        t.push(meant(*x, any));
     }
     t
 }
 
 // Every value of a byte.
-fn every_value(c: Counts, line: &[u8]) -> Counts {
-    let mut d = c;
-    for x in 0..256usize {
-        d = try_text(d, told(line, (x % 256) as u8), ANY);
+fn every_value(c: &mut Counts, line: &[u8]) {
+    for x in 0..=255u8 {
+        try_text(c, &told(line, x), None);
     }
-    d
 }
 
-fn try_line(c: Counts, line: &[u8]) -> Counts {
-    let known = number(line, 1);
+fn try_line(c: &mut Counts, line: &[u8]) {
+    let known = Some(known(line));
     let t = told(line, 0);
     match byte(line, 0) {
-        b'=' => try_text(c, t, known),
-        b'*' => every_damage(try_text(c, t, known), t),
+        b'=' => try_text(c, &t, known),
+        b'*' => {
+            try_text(c, &t, known);
+            every_damage(c, &t);
+        }
         b'?' => every_value(c, line),
         b'@' => try_ring(c, line),
-        _ => c,
+        _ => {}
     }
 }
 
-pub(crate) fn all(c: Counts, lines: &[u8]) -> Counts {
-    let mut d = c;
-    for k in 0..LINES {
-        d = try_line(begun(d, k + 1), piece(lines, k, b'\n'));
+pub(crate) fn all(c: &mut Counts, lines: &[u8]) {
+    for (k, line) in lines.split(|x| *x == b'\n').enumerate() {
+        c.begin(k.saturating_add(1));
+        try_line(c, line);
     }
-    d
 }

@@ -1,5 +1,5 @@
 // Drafts with a hub: a node with about as many neighbours as are allowed. The other nodes have at most three.
-use crate::draft::{Draft, with_mixed, without_pairs};
+use crate::draft::{Draft, Pair};
 use meshes::{draw, less, more};
 use plan::Plan;
 
@@ -8,12 +8,13 @@ pub(crate) fn hub_degree(seed: u64) -> usize {
     Plan::NEIGHBOURS - 1 + draw(seed, 0, 35, 4) % 4
 }
 
-// The draft with a pair, the greater number first.
-fn joined(d: Draft, seed: u64, a: usize, b: usize) -> Draft {
-    if a < b {
-        return with_mixed(d, seed, b, a);
-    }
-    with_mixed(d, seed, a, b)
+// Puts a pair into a draft, the greater number first.
+fn join(d: &mut Draft, seed: u64, a: usize, b: usize) {
+    let pair = Pair {
+        row: a.max(b),
+        column: a.min(b),
+    };
+    d.push_mixed(seed, pair);
 }
 
 // The number that stands i behind `number` where n numbers from 1 on stand in a ring.
@@ -30,17 +31,17 @@ pub(crate) fn with_hub(seed: u64) -> Draft {
     let n = 29 + draw(seed, 1, 35, 32) % 32;
     let hub = more(draw(seed, 2, 35, n));
     let degree = hub_degree(seed);
-    let mut d = without_pairs(n);
+    let mut d = Draft::new(n);
     for i in 0..n {
         let v = behind(n, hub, i);
         if draw(seed, i, 36, 2) == 0 {
-            d = joined(d, seed, v, v);
+            join(&mut d, seed, v, v);
         }
-        if (0 < i) & (i <= degree) {
-            d = joined(d, seed, hub, v);
+        if 0 < i && i <= degree {
+            join(&mut d, seed, hub, v);
         }
-        if (0 < i) & (i + 1 < n) {
-            d = joined(d, seed, v, behind(n, v, 1));
+        if 0 < i && i + 1 < n {
+            join(&mut d, seed, v, behind(n, v, 1));
         }
     }
     d

@@ -17,7 +17,7 @@ mod style;
 mod text;
 mod trial;
 
-use crate::counts::{none, print};
+use crate::counts::Counts;
 use input::read_full;
 use std::io;
 
@@ -25,5 +25,8 @@ use std::io;
 fn main(rt: HostRuntime) -> io::Result<()> {
     let mut input = [0u8; 65536];
     let length = read_full(&mut rt.stdin(), &mut input)?;
-    print(&rt, &drawn::all(given::all(none(), &input[..length])))
+    let mut c = Counts::new();
+    given::all(&mut c, &input[..length]);
+    drawn::all(&mut c);
+    c.print(&rt)
 }
