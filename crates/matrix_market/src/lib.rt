@@ -16,9 +16,9 @@ ghost use Rattle.plan.specs.MadeMesh.{mesh_of, mesh_buffers, MeshCapacity};
 ghost use Rattle.plan.specs.MatrixMarket.{TextRead};
 ghost use Rattle.matrix_market.specs.Lines.{wrong_lines, wrong_matrix, pairs_checks};
 ghost use Rattle.matrix_market.specs.Made.{size_checks, ListsHanded};
-ghost use Rattle.matrix_market.specs.SortedPairs.{key_lists, SortedPairs};
+ghost use Rattle.matrix_market.specs.SortedPairs.{key_lists};
 
-use crate::lists::{count_entries, write_lists};
+use crate::lists::SortedKeys;
 use crate::pairs::{Tally, survey};
 use crate::repeats::repeated;
 use crate::size::{Size, read_head};
@@ -80,23 +80,23 @@ fn size_refusal(n: usize, entries: usize) -> Result<(), Refusal>
 // What is left of reading a text whose pairs are sorted and whose mesh has passed 1 and 3: checks 26 and 8, then the mesh in the lent buffers.
 // O(4,096 + keys).
 fn hand_out(
-    n: usize,
+    pairs: &SortedKeys,
     entries: usize,
-    keys: &[u64],
     starts: &mut [u32],
     neighbours: &mut [u16],
 ) -> Result<MeshCounts, Refusal>
-    requires { SortedPairs n keys.now × (entries ≤ max_entries) × (length (flatten (key_lists n keys.now)) ≡ entries) }
-    ensures { ListsHanded (mesh_of n (key_lists n keys.now)) result (mesh_buffers starts.old neighbours.old) (mesh_buffers starts.new neighbours.new) }
+    requires { (entries ≤ max_entries) × (length (flatten (key_lists pairs.now.nodes pairs.now.keys.now)) ≡ entries) }
+    ensures { ListsHanded (mesh_of pairs.now.nodes (key_lists pairs.now.nodes pairs.now.keys.now)) result (mesh_buffers starts.old neighbours.old) (mesh_buffers starts.new neighbours.new) }
 {
-    let counts = count_entries(n, keys);
+    let n = pairs.nodes;
+    let counts = pairs.count_entries();
     if too_long(n, &counts) {
         return Err(Refusal::TooManyNeighbours);
     }
     if too_short(n, entries, starts.len(), neighbours.len()) {
         return Err(Refusal::BuffersTooShort);
     }
-    write_lists(n, keys, &counts, starts, neighbours);
+    pairs.write_lists(&counts, starts, neighbours);
     Ok(MeshCounts {
         nodes: n as u32,
         entries: entries as u32,
@@ -120,5 +120,9 @@ pub fn read(text: &[u8], starts: &mut [u32], neighbours: &mut [u16]) -> Result<M
     let n = size.rows as usize;
     let entries = 2 * tally.links;
     size_refusal(n, entries)?;
-    hand_out(n, entries, &keys[..pairs], starts, neighbours)
+    let sorted = SortedKeys {
+        nodes: n,
+        keys: &keys[..pairs],
+    };
+    hand_out(&sorted, entries, starts, neighbours)
 }

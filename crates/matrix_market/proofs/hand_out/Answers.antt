@@ -12,16 +12,16 @@ use Rattle.matrix_market.proofs.hand_out.Goals.{After-too_long, After-too_short}
 use Rattle.matrix_market.proofs.hand_out.Goals as goal
 
 -- 26 is told by the lengths of the lists
-long : (c : After-too_long) → list_too_long (mesh_of c.args.n (key_lists c.args.n c.args.keys.now)) ≡ c.too_long.result
+long : (c : After-too_long) → list_too_long (mesh_of c.args.pairs.now.nodes (key_lists c.args.pairs.now.nodes c.args.pairs.now.keys.now)) ≡ c.too_long.result
 long c =
-    lists_long c.args.n c.args.keys.now
+    lists_long c.args.pairs.now.nodes c.args.pairs.now.keys.now
     ∙ ap (exists (ltb max_neighbours)) (sym c.count_entries-counts.ensures.1)
     ∙ sym c.too_long.ensures
 
 -- 8 by those of the buffers
-short : (c : After-too_short) → mesh_buffers_too_short (mesh_of c.args.n (key_lists c.args.n c.args.keys.now)) (mesh_capacity (mesh_buffers c.args.starts.now c.args.neighbours.now)) ≡ c.too_short.result
+short : (c : After-too_short) → mesh_buffers_too_short (mesh_of c.args.pairs.now.nodes (key_lists c.args.pairs.now.nodes c.args.pairs.now.keys.now)) (mesh_capacity (mesh_buffers c.args.starts.now c.args.neighbours.now)) ≡ c.too_short.result
 unfolding mesh_of mesh_capacity
-short c = sym (c.too_short.ensures (mesh_of c.args.n (key_lists c.args.n c.args.keys.now)) refl c.requires.2)
+short c = sym (c.too_short.ensures (mesh_of c.args.pairs.now.nodes (key_lists c.args.pairs.now.nodes c.args.pairs.now.keys.now)) refl c.requires.1)
 
 pub returns-then-too_long : goal.returns-then-too_long
 returns-then-too_long c = refused_26 _ _ (long (goal.at.returns-then-too_long c).After-too_long ∙ c.if-too_long.true)
@@ -33,10 +33,10 @@ pub write_lists-requires : goal.write_lists-requires
 unfolding mesh_of
 write_lists-requires c =
     record {
-      sorted_pairs = (c.requires.0, omega (arith, c.count_entries-counts.ensures.0, c.requires.0.few), c.count_entries-counts.ensures.1);
-      n_in_bounds = mesh-fits (mesh_of c.args.n (key_lists c.args.n c.args.keys.now)) (mesh_buffers c.args.starts.now c.args.neighbours.now) (short (goal.at.write_lists-requires c).After-too_short ∙ c.if-too_short.false);
+      counted = (omega (arith, c.count_entries-counts.ensures.0, c.args.pairs.now.sorted.few), c.count_entries-counts.ensures.1);
+      fits = mesh-fits (mesh_of c.args.pairs.now.nodes (key_lists c.args.pairs.now.nodes c.args.pairs.now.keys.now)) (mesh_buffers c.args.starts.now c.args.neighbours.now) (short (goal.at.write_lists-requires c).After-too_short ∙ c.if-too_short.false);
     }
 
 pub returns : goal.returns
 unfolding mesh_of
-returns c = accepted_lists (mesh_of c.args.n (key_lists c.args.n c.args.keys.now)) _ _ _ (long (goal.at.returns c).After-too_long ∙ c.if-too_long.false) (short (goal.at.returns c).After-too_short ∙ c.if-too_short.false) refl (sym c.requires.2) c.write_lists.ensures.starts_after c.write_lists.ensures.neighbours_after
+returns c = accepted_lists (mesh_of c.args.pairs.now.nodes (key_lists c.args.pairs.now.nodes c.args.pairs.now.keys.now)) _ _ _ (long (goal.at.returns c).After-too_long ∙ c.if-too_long.false) (short (goal.at.returns c).After-too_short ∙ c.if-too_short.false) refl (sym c.requires.1) c.write_lists.ensures.starts_after c.write_lists.ensures.neighbours_after

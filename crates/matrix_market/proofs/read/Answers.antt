@@ -113,11 +113,17 @@ module _ (c : In_ok-size_refusal) (p : HasRead c.args.text.now c.in_ok-size.size
   unfolding mesh_of
   lists_entries = ap (λ (m : Mesh). length m.neighbours) lists_mesh ∙ entries
 
+pub invariant_of-sorted : goal.invariant_of-sorted
+invariant_of-sorted c =
+    let u = (goal.at.invariant_of-sorted c).In_ok-size_refusal in
+    let p = (read_of (goal.at.invariant_of-sorted c).In_ok-pairs_refusal) in
+    record { sorted = rw p.head.rows.0 (keys-sorted c.args.text.now (mesh_buffers c.args.starts.now c.args.neighbours.now) (sizes u p) _ (sorted_keys u p)) }
+
 pub hand_out-requires : goal.hand_out-requires
 hand_out-requires c =
     let u = (goal.at.hand_out-requires c).In_ok-size_refusal in
     let p = (read_of (goal.at.hand_out-requires c).In_ok-pairs_refusal) in
-    (rw p.head.rows.0 (keys-sorted c.args.text.now (mesh_buffers c.args.starts.now c.args.neighbours.now) (sizes u p) _ (sorted_keys u p)), omega (arith, sym (entries u p), text_entries c.args.text.now (mesh_buffers c.args.starts.now c.args.neighbours.now) (sizes u p)), lists_entries u p)
+    (omega (arith, sym (entries u p), text_entries c.args.text.now (mesh_buffers c.args.starts.now c.args.neighbours.now) (sizes u p)), lists_entries u p)
 
 pub returns : goal.returns
 returns c =
@@ -128,5 +134,5 @@ returns c =
 pub slice_bounds-keys-end : goal.slice_bounds-keys-end
 slice_bounds-keys-end c = block_room (goal.at.slice_bounds-keys-end c).In_ok-size_refusal (read_of (goal.at.slice_bounds-keys-end c).In_ok-pairs_refusal)
 
-pub slice_bounds-hand_out-end : goal.slice_bounds-hand_out-end
-slice_bounds-hand_out-end c = sym (length-take-le _ _ (block_room (goal.at.slice_bounds-hand_out-end c).In_ok-size_refusal (read_of (goal.at.slice_bounds-hand_out-end c).In_ok-pairs_refusal)))
+pub slice_bounds-sorted-end : goal.slice_bounds-sorted-end
+slice_bounds-sorted-end c = sym (length-take-le _ _ (block_room (goal.at.slice_bounds-sorted-end c).In_ok-size_refusal (read_of (goal.at.slice_bounds-sorted-end c).In_ok-pairs_refusal)))
