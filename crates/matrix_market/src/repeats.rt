@@ -25,6 +25,7 @@ fn gather(text: &[u8], at: usize, keys: &mut [u64]) -> Block
     ensures { Blocked text.now at result keys.old keys.new }
 {
     let mut i = at;
+    // kept: k counts pairs, not lines; a `for` over the keys' places would need a loop inside that passes the lines without a pair
     let mut k: usize = 0;
     while i < text.len() && k < keys.len() {
         let Some(line) = read_pair(text, i) else {
