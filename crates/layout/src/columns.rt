@@ -55,28 +55,6 @@ pub fn mark_rows(rows: &[u16], j: u16, marks: &mut [u16])
     }
 }
 
-// The rows of the children of column j get the mark j. `n` and `tree` are for the contract alone. O(their rows).
-fn mark_children(
-    n: usize,
-    tree: &[u16],
-    column_starts: &[u32],
-    rows: &[u16],
-    first: &[u16],
-    next: &[u16],
-    j: usize,
-    marks: &mut [u16],
-)
-    requires n_le_max_nodes { (n ≤ max_nodes) × Children n tree.now n first.now next.now × (j < n) }
-    requires by_index { (c : ℕ) → c < n → get_or tree.now c 0 ≡ j → ListWithin column_starts.now rows.now c × ((i : ℕ) → is_in i (list_at column_starts.now rows.now c) ≡ true → i < length marks.old) }
-    ensures { Marked j (child_row n tree.now column_starts.now rows.now j) marks.old marks.new }
-{
-    let mut c = first[j];
-    while c != NONE {
-        mark_rows(list(column_starts, rows, c as usize), j as u16, marks);
-        c = next[c as usize];
-    }
-}
-
 // Position k is written at place `at`, and the place moves on if k has the mark j; if not, the next position is written over k.
 // A store costs less here than a branch that nothing predicts. O(1).
 fn put(k: u16, j: u16, marks: &[u16], at: usize, rows: &mut [u16]) -> usize
@@ -94,6 +72,7 @@ fn write_column(n: usize, j: u16, count: usize, tree: &[u16], marks: &[u16], row
     requires count_value { (count ≡ length (marked_below marks.now j n)) × (count ≤ length rows.old) }
     ensures { rows.new ≡ written (marked_below marks.now j n) rows.old }
 {
+    // kept: the way up the tree goes from parent to parent, and ends by the number of rows written
     let mut k = j;
     let mut at: usize = 0;
     while at < count {
@@ -102,38 +81,64 @@ fn write_column(n: usize, j: u16, count: usize, tree: &[u16], marks: &[u16], row
     }
 }
 
-// Column j: its later neighbours and the rows of its children, marked and written at the column's start.
-// O(degree + rows of the children + the way to the last row).
-fn add_column(
-    ordered: &OrderedMesh,
-    tree: &[u16],
-    first: &[u16],
-    next: &[u16],
-    column_starts: &[u32],
-    j: usize,
-    marks: &mut [u16],
-    rows: &mut [u16],
-)
-    requires tree { (ordered.now.mesh.nodes ≤ length tree.now) × Tree (as_lent ordered.now.mesh) ordered.now.order.now tree.now × Children ordered.now.mesh.nodes tree.now ordered.now.mesh.nodes first.now next.now }
-    requires starts { (take (ordered.now.mesh.nodes + 1) column_starts.now ≡ starts_of (columns (as_lent ordered.now.mesh) ordered.now.order.now)) × (length (flatten (columns (as_lent ordered.now.mesh) ordered.now.order.now)) ≤ length rows.old) × (j < ordered.now.mesh.nodes) }
-    requires before { (ordered.now.mesh.nodes ≤ length marks.old) × Unmarked ordered.now.mesh.nodes j marks.old × (rows.old ≡ written (rows_before (as_lent ordered.now.mesh) ordered.now.order.now j) rows.old) }
-    ensures { Unmarked ordered.now.mesh.nodes (j + 1) marks.new × (rows.new ≡ written (rows_before (as_lent ordered.now.mesh) ordered.now.order.now (j + 1)) rows.old) }
-{
-    let n = ordered.mesh.nodes;
-    mark_neighbours(ordered, j, marks);
-    mark_children(n, tree, column_starts, rows, first, next, j, marks);
-    let a = column_starts[j] as usize;
-    let e = column_starts[j + 1] as usize;
-    write_column(n, j as u16, e - a, tree, marks, &mut rows[a..]);
+// What the columns' rows are written from: a mesh in its order, its elimination tree, the children of each column in it, the greatest first, and where
+// each column's rows start.
+#[derive(Clone, Copy)]
+struct Columns<'a, 'b> {
+    ordered: OrderedMesh<'a>,
+    tree: &'a [u16],
+    first: &'b [u16],
+    next: &'b [u16],
+    column_starts: &'a [u32],
+    ghost parents: { (ordered.mesh.nodes ≤ length tree.now) × Tree (as_lent ordered.mesh) ordered.order.now tree.now },
+    ghost children: { Children ordered.mesh.nodes tree.now ordered.mesh.nodes first.now next.now },
+    ghost starts: { take (ordered.mesh.nodes + 1) column_starts.now ≡ starts_of (columns (as_lent ordered.mesh) ordered.order.now) },
+}
+
+impl<'a, 'b> Columns<'a, 'b> {
+    // The rows of the children of column j get the mark j. O(their rows).
+    fn mark_children(&self, j: usize, rows: &[u16], marks: &mut [u16])
+        requires inside { j < self.now.ordered.mesh.nodes }
+        requires by_index { (c : ℕ) → c < self.now.ordered.mesh.nodes → get_or self.now.tree.now c 0 ≡ j → ListWithin self.now.column_starts.now rows.now c × ((i : ℕ) → is_in i (list_at self.now.column_starts.now rows.now c) ≡ true → i < length marks.old) }
+        ensures { Marked j (child_row self.now.ordered.mesh.nodes self.now.tree.now self.now.column_starts.now rows.now j) marks.old marks.new }
+    {
+        // kept: the list of the children is followed from child to child, each column's next one at its own place: no slice that an iterator runs over
+        let mut c = self.first[j];
+        while c != NONE {
+            mark_rows(list(self.column_starts, rows, c as usize), j as u16, marks);
+            c = self.next[c as usize];
+        }
+    }
+
+    // Column j: its later neighbours and the rows of its children, marked and written at the column's start.
+    // O(degree + rows of the children + the way to the last row).
+    fn add(&self, j: usize, marks: &mut [u16], rows: &mut [u16])
+        requires inside { (j < self.now.ordered.mesh.nodes) × (length (flatten (columns (as_lent self.now.ordered.mesh) self.now.ordered.order.now)) ≤ length rows.old) }
+        requires before { (self.now.ordered.mesh.nodes ≤ length marks.old) × Unmarked self.now.ordered.mesh.nodes j marks.old × (rows.old ≡ written (rows_before (as_lent self.now.ordered.mesh) self.now.ordered.order.now j) rows.old) }
+        ensures { Unmarked self.now.ordered.mesh.nodes (j + 1) marks.new × (rows.new ≡ written (rows_before (as_lent self.now.ordered.mesh) self.now.ordered.order.now (j + 1)) rows.old) }
+    {
+        mark_neighbours(&self.ordered, j, marks);
+        self.mark_children(j, rows, marks);
+        let a = self.column_starts[j] as usize;
+        let e = self.column_starts[j + 1] as usize;
+        write_column(
+            self.ordered.mesh.nodes,
+            j as u16,
+            e - a,
+            self.tree,
+            marks,
+            &mut rows[a..],
+        );
+    }
 }
 
 // The rows of all columns. O(4,096 + slots + entries + the ways up the tree).
-pub fn write_columns(
-    mesh: &CheckedMesh,
-    order: &[u16],
-    positions: &[u16],
-    tree: &[u16],
-    column_starts: &[u32],
+pub fn write_columns<'a>(
+    mesh: &CheckedMesh<'a>,
+    order: &'a [u16],
+    positions: &'a [u16],
+    tree: &'a [u16],
+    column_starts: &'a [u32],
     rows: &mut [u16],
 )
     requires ordered { Ordered (as_lent mesh.now) order.now positions.now × (mesh.now.nodes ≤ length tree.now) × Tree (as_lent mesh.now) order.now tree.now }
@@ -149,16 +154,14 @@ pub fn write_columns(
     let mut next = filled(NONE);
     let mut marks = filled(NONE);
     link_children(mesh.nodes, tree, &mut first, &mut next);
+    let columns = Columns {
+        ordered,
+        tree,
+        first: &first,
+        next: &next,
+        column_starts,
+    };
     for j in 0..mesh.nodes {
-        add_column(
-            &ordered,
-            tree,
-            &first,
-            &next,
-            column_starts,
-            j,
-            &mut marks,
-            rows,
-        );
+        columns.add(j, &mut marks, rows);
     }
 }

@@ -34,11 +34,13 @@ loop-j-init c =
     let clear : (i : ℕ) → i < c.args.mesh.now.nodes → get_or c.filled-marks.result i 0 ≡ none = λ i l. ap (λ (m : List ℕ). get_or m i 0) c.filled-marks.ensures.0 ∙ filled_at none i (omega (arith, c.requires.ordered.0.checked.few)) in
     (omega arith, refl, c.filled-marks.ensures.1, λ i r li le lr e. omega (arith, c.requires.ordered.0.checked.few, clear i li), rw (rows_none (as_lent c.args.mesh.now) c.args.order.now))
 
-pub add_column-requires : goal.add_column-requires
-add_column-requires c =
+pub invariant_of-columns : goal.invariant_of-columns
+invariant_of-columns c = record { parents = (c.requires.ordered.1, c.requires.ordered.2); children = c.link_children.ensures; starts = c.requires.column_starts_value.0 }
+
+pub add-requires : goal.add-requires
+add-requires c =
     let lt : c.loop-j.j < c.args.mesh.now.nodes = omega arith in record {
-      tree = (c.requires.ordered.1, c.requires.ordered.2, c.link_children.ensures);
-      starts = (c.requires.column_starts_value.0, omega (arith, c.requires.column_starts_value.1, c.loop-j.invariant.1), lt);
+      inside = (lt, omega (arith, c.requires.column_starts_value.1, c.loop-j.invariant.1));
       before = (
         omega (arith, c.loop-j.invariant.2, c.requires.ordered.0.checked.few),
         c.loop-j.invariant.3,
@@ -51,10 +53,10 @@ loop-j-preserved c =
     let m = (as_lent c.args.mesh.now) in
     let j : ℕ = c.loop-j.j in (
       search rules,
-      c.add_column.auto.rows ∙ c.loop-j.invariant.1,
-      c.add_column.auto.marks ∙ c.loop-j.invariant.2,
-      c.add_column.ensures.0,
-      c.add_column.ensures.1
+      c.add.auto.rows ∙ c.loop-j.invariant.1,
+      c.add.auto.marks ∙ c.loop-j.invariant.2,
+      c.add.ensures.0,
+      c.add.ensures.1
           ∙ ap (written (rows_before m c.args.order.now (j + 1))) c.loop-j.invariant.4
           ∙ rw (rows_more m c.args.order.now j) (written_over (rows_before m c.args.order.now j) (column m c.args.order.now j) c.args.rows.now),
     )
