@@ -164,12 +164,6 @@ way_down tree p c some = rw (ne_eqb c none some) (go (eq_or_ne (child_below tree
     go (inr ne) = rw (ne_eqb (child_below tree p c) none ne) (omega (arith, (child_found tree p c ne).0))
 
 module _ (n : ℕ) (tree : List ℕ) (lists : ℕ → List ℕ) (j : ℕ) (before : List ℕ) where
-  -- no child has been met
-  pub walked_start : (c : ℕ) → c ≡ child_below tree j n → Walked n tree lists j before before c
-  walked_start c e =
-      let z : n - n ≡ 0 = omega arith in
-      record { bound = n; few = omega arith; here = e; marked = rw z (λ i. refl) }
-
   module _ (marks : List ℕ) (c : ℕ) (w : Walked n tree lists j before marks c) where
     -- the next child is one
     pub walked_child : c ≢ none → (c < n) × (get_or tree c 0 ≡ j)

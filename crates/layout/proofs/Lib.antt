@@ -10,4 +10,3 @@ pub mod Climbs
 pub mod Rows
 pub mod ColumnScan
 pub mod Answered
-pub mod Ended

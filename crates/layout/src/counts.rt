@@ -28,6 +28,7 @@ fn climb(i: u16, start: u16, tree: &mut [u16], marks: &mut [u16], counts: &mut [
     if start > i {
         return;
     }
+    // kept: the way up the tree goes from parent to parent, and ends where row i has been before
     let mut k = start as usize;
     while marks[k] != i {
         let p = parent_of(tree[k], i);

@@ -32,7 +32,7 @@ pub bracket_start : (l : List ℕ) (x : ℕ) → Bracket l x 0 (length l)
 bracket_start l x = record { ordered = omega arith; within = omega arith; less = λ i lt. absurd (omega arith); not_less = λ i le lt. absurd (omega arith) }
 
 -- an earlier place holds no greater number
-no_greater : (l : List ℕ) → ascending l ≡ true → (i j : ℕ) → i ≤ j → j < length l → get_or l i 0 ≤ get_or l j 0
+pub no_greater : (l : List ℕ) → ascending l ≡ true → (i j : ℕ) → i ≤ j → j < length l → get_or l i 0 ≤ get_or l j 0
 no_greater l h i j le lt = elim (lt_or_le i j) [
   | inl s ↦ omega (arith, ascending-get_or l h i j s lt)
   | inr s ↦ (let e : i ≡ j = omega arith in rw e (omega arith))

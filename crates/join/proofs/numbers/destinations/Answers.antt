@@ -5,19 +5,12 @@ use mathlib.Core.List.{List}
 use Prim.Native.Nat.{ℕ, ◌<◌}
 use native.Mathlib.Omega.{arith}
 use lib.ListN.{get_or}
-use borrow.Author.Rules.{rules}
 use Rattle.plan.specs.Lists.{is_in, index_of}
 use Rattle.plan.specs.Joining.{pairing}
 use Rattle.mesh.specs.Lists.{none}
 use Rattle.mesh.proofs.Lists.{filled_at}
 use Rattle.join.proofs.Following.{following_goes}
 use Rattle.join.proofs.numbers.destinations.Goals as goal
-
-pub put_paired-requires : goal.put_paired-requires
-put_paired-requires c = (c.requires.2.as_many, c.requires.2.once_second, λ w t. omega (arith, c.requires.2.in_second w t, c.filled-goes.ensures.1))
-
-pub put_unpaired-requires : goal.put_unpaired-requires
-put_unpaired-requires c = search rules
 
 pub returns : goal.returns
 returns c =

@@ -5,10 +5,9 @@ use Prim.Native.Nat.{ℕ, ◌<◌}
 use native.Mathlib.Omega.{arith}
 use lib.ListN.{length, take, get_or}
 use lib.Seq.{length-take-le, get_or-take}
-use borrow.Author.Rules.{rules}
 use Rattle.plan.specs.Mesh.{max_nodes}
 use Rattle.mesh.proofs.Lists.{filled_at}
-use Rattle.join.proofs.Scattered.{scattered_none, scattered_more, scattered_indices}
+use Rattle.join.proofs.Scattered.{scattered_more, scattered_indices}
 use Rattle.join.proofs.numbers.origins.Goals.{In-loop-w, After-filled-from}
 use Rattle.join.proofs.numbers.origins.Goals as goal
 
@@ -35,12 +34,3 @@ returns c = (
   λ v lt. scattered_indices c.loop-w.invariant.1 (omega (arith, many (goal.at.returns c).After-filled-from)) v
       (ap (λ (l : List ℕ). get_or l v 0) c.filled-from.ensures.0 ∙ filled_at c.args.n2 v lt ∙ sym (many (goal.at.returns c).After-filled-from)),
 )
-
-pub loop-w-init : goal.loop-w-init
-loop-w-init c = (search rules, scattered_none (take c.args.n2 c.args.goes.now) (λ i. i) c.filled-from.result)
-
-pub offset_bounds-from-v : goal.offset_bounds-from-v
-offset_bounds-from-v c = omega (arith, inside (goal.at.offset_bounds-from-v c).In-loop-w)
-
-pub bounds-from-v : goal.bounds-from-v
-bounds-from-v c = omega (arith, inside (goal.at.bounds-from-v c).In-loop-w)

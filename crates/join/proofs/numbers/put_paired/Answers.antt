@@ -5,12 +5,9 @@ use Prim.Native.Nat.{ℕ, ◌<◌}
 use native.Mathlib.Omega.{arith}
 use lib.ListN.{length, get_or}
 use Rattle.theory.proofs.Lists.{is_in-get_or}
-use Rattle.join.proofs.Scattered.{scattered_none, scattered_more, scattered_all}
+use Rattle.join.proofs.Scattered.{scattered_more}
 use Rattle.join.proofs.numbers.put_paired.Goals.{In-loop-k}
 use Rattle.join.proofs.numbers.put_paired.Goals as goal
-
-pub loop-k-init : goal.loop-k-init
-loop-k-init c = scattered_none c.args.pairs.now.second.now (λ i. get_or c.args.pairs.now.first.now i 0) c.args.goes.now
 
 -- the node that goes has a place
 inside : (c : In-loop-k) → get_or c.args.pairs.now.second.now c.loop-k.k 0 < length c.args.goes.now
@@ -21,14 +18,5 @@ inside c =
 pub loop-k-preserved : goal.loop-k-preserved
 loop-k-preserved c = scattered_more c.loop-k.invariant c.requires.1 _ _ (omega arith) refl (inside (goal.at.loop-k-preserved c).In-loop-k) refl
 
-pub returns : goal.returns
-returns c = (c.loop-k.invariant.long, scattered_all c.loop-k.invariant (omega arith))
-
-pub offset_bounds-goes-w : goal.offset_bounds-goes-w
-offset_bounds-goes-w c = omega (arith, inside (goal.at.offset_bounds-goes-w c).In-loop-k)
-
 pub bounds-goes-w : goal.bounds-goes-w
 bounds-goes-w c = omega (arith, inside (goal.at.bounds-goes-w c).In-loop-k)
-
-pub shape_of-goes : goal.shape_of-goes
-shape_of-goes c = c.loop-k.invariant.long

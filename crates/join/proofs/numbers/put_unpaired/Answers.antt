@@ -1,7 +1,7 @@
 -- `join::numbers::put_unpaired` meets its contract: a node that waits goes to the next number, the others stay.
 use native.Mathlib.Omega.{arith}
 use borrow.Author.Rules.{rules}
-use Rattle.join.proofs.Following.{followed_none, followed_gone, followed_kept, waiting_few}
+use Rattle.join.proofs.Following.{followed_gone, followed_kept, waiting_few}
 use Rattle.join.proofs.numbers.put_unpaired.Goals.{then-goes-w, else-goes-w}
 use Rattle.join.proofs.numbers.put_unpaired.Goals as goal
 
@@ -16,12 +16,3 @@ loop-w-preserved c = (
     | else-goes-w w ↦ rw (w.goes-is, w.next-is) (followed_kept c.loop-w.invariant.1 w.if-goes-w.false)
   ],
 )
-
-pub returns : goal.returns
-returns c = (c.loop-w.invariant.1.long, λ w lt. c.loop-w.invariant.1.done w (omega arith))
-
-pub loop-w-init : goal.loop-w-init
-loop-w-init c = (search rules, followed_none c.args.n1 c.args.goes.now)
-
-pub shape_of-goes : goal.shape_of-goes
-shape_of-goes c = c.loop-w.invariant.1.long

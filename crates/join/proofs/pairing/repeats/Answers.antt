@@ -7,7 +7,7 @@ use lib.ListN.{get_or}
 use Rattle.plan.specs.Mesh.{max_nodes}
 use Rattle.theory.proofs.Lists.{is_in-get_or}
 use Rattle.mesh.proofs.Lists.{filled_at}
-use Rattle.join.proofs.Seen.{seen_all, seen_again, seen_more}
+use Rattle.join.proofs.Seen.{seen_again, seen_more}
 use Rattle.join.proofs.pairing.repeats.Goals.{In-loop-v}
 use Rattle.join.proofs.pairing.repeats.Goals as goal
 
@@ -24,17 +24,8 @@ returns-then-seen-v-ne0 c = sym (seen_again c.args.nodes.now c.loop-v.seen c.loo
 pub loop-v-preserved : goal.loop-v-preserved
 loop-v-preserved c = seen_more c.args.nodes.now c.loop-v.seen c.loop-v.v-index _ (omega arith) c.loop-v.invariant refl (node (goal.at.loop-v-preserved c).In-loop-v) (omega arith)
 
-pub returns : goal.returns
-returns c = sym (seen_all c.args.nodes.now c.loop-v.seen c.loop-v.v-index (omega arith) c.loop-v.invariant)
-
-pub offset_bounds-seen-v : goal.offset_bounds-seen-v
-offset_bounds-seen-v c = omega (arith, node (goal.at.offset_bounds-seen-v c).In-loop-v)
-
 pub bounds-seen-v : goal.bounds-seen-v
 bounds-seen-v c = node (goal.at.bounds-seen-v c).In-loop-v
-
-pub offset_bounds-seen-v-in-loop-v : goal.offset_bounds-seen-v-in-loop-v
-offset_bounds-seen-v-in-loop-v c = omega (arith, node (goal.at.offset_bounds-seen-v-in-loop-v c).In-loop-v)
 
 pub bounds-seen-v-in-loop-v : goal.bounds-seen-v-in-loop-v
 bounds-seen-v-in-loop-v c = node (goal.at.bounds-seen-v-in-loop-v c).In-loop-v

@@ -18,15 +18,3 @@ pub returns : goal.returns
 returns c =
     children_link c.args.n c.args.tree.now c.args.first.now c.args.next.now c.args.c c.requires.4 c.requires.3
     (omega (arith, (inside (goal.at.returns c).Else-p).0))
-
-pub offset_bounds-first-p : goal.offset_bounds-first-p
-offset_bounds-first-p c = let h = inside (goal.at.offset_bounds-first-p c).Else-p in omega arith
-
-pub bounds-first-p : goal.bounds-first-p
-bounds-first-p c = let h = inside (goal.at.bounds-first-p c).Else-p in omega arith
-
-pub offset_bounds-first-p-2 : goal.offset_bounds-first-p-2
-offset_bounds-first-p-2 c = let h = inside (goal.at.offset_bounds-first-p-2 c).Else-p in omega arith
-
-pub bounds-first-p-2 : goal.bounds-first-p-2
-bounds-first-p-2 c = let h = inside (goal.at.bounds-first-p-2 c).Else-p in omega arith

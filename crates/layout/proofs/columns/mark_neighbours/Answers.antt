@@ -1,5 +1,5 @@
 -- `layout::columns::mark_neighbours` meets its contract: the loop marks the position of each neighbour.
-use mathlib.Core.Path.{◌≡◌, refl}
+use mathlib.Core.Path.{◌≡◌}
 use Prim.Native.Nat.{◌<◌}
 use native.Mathlib.Omega.{arith}
 use borrow.Author.Rules.{rules}
@@ -7,17 +7,12 @@ use lib.ListN.{length, get_or}
 use lib.Seq.{take_all}
 use Rattle.plan.specs.Mesh.{neighbours_of}
 use Rattle.mesh.specs.Lent.{as_lent}
-use Rattle.theory.proofs.Orders.{order-length}
 use Rattle.mesh.proofs.Lists.{listed_node}
 use Rattle.layout.specs.Arrays.{neighbour_position}
 use Rattle.layout.proofs.Inverse.{inverse_inside}
 use Rattle.layout.proofs.Marks.{marked_more}
 use Rattle.layout.proofs.columns.mark_neighbours.Goals.{Start, At-loop-w, In-loop-w}
 use Rattle.layout.proofs.columns.mark_neighbours.Goals as goal
-
--- the order has n positions
-full : (c : Start) → length c.args.ordered.now.order.now ≡ c.args.ordered.now.mesh.nodes
-full c = order-length c.args.ordered.now.mesh.nodes c.args.ordered.now.order.now c.args.ordered.now.ordered.once
 
 -- the entries are the neighbours of the node at position j
 whole : (c : At-loop-w) → c.neighbours-w-items.result.now ≡ neighbours_of (as_lent c.args.ordered.now.mesh) (get_or c.args.ordered.now.order.now c.args.j 0)
@@ -33,9 +28,6 @@ inside c =
     let lt = inverse_inside (as_lent c.args.ordered.now.mesh) c.args.ordered.now.order.now c.args.ordered.now.positions.now c.args.ordered.now.ordered (get_or c.neighbours-w-items.result.now c.loop-w.w-index 0) (known c) in
     omega (arith, lt)
 
-pub loop-w-init : goal.loop-w-init
-loop-w-init c = (refl, λ i. refl)
-
 pub loop-w-preserved : goal.loop-w-preserved
 loop-w-preserved c = (
   search rules,
@@ -46,14 +38,8 @@ pub returns : goal.returns
 unfolding neighbour_position
 returns c = rw (take_all c.loop-w.w-index c.neighbours-w-items.result.now (omega arith), whole (goal.at.returns c).At-loop-w) at c.loop-w.invariant.1
 
-pub offset_bounds-ordered-w : goal.offset_bounds-ordered-w
-offset_bounds-ordered-w c = let h = known (goal.at.offset_bounds-ordered-w c).In-loop-w in omega arith
-
 pub bounds-ordered-w : goal.bounds-ordered-w
 bounds-ordered-w c = let h = known (goal.at.bounds-ordered-w c).In-loop-w in omega (arith, c.args.ordered.now.ordered.long)
-
-pub offset_bounds-marks-ordered : goal.offset_bounds-marks-ordered
-offset_bounds-marks-ordered c = let h = inside (goal.at.offset_bounds-marks-ordered c).In-loop-w in omega arith
 
 pub bounds-marks-ordered : goal.bounds-marks-ordered
 bounds-marks-ordered c = inside (goal.at.bounds-marks-ordered c).In-loop-w

@@ -1,11 +1,9 @@
 -- `layout::columns::mark_rows` meets its contract: the loop marks each row.
-use mathlib.Core.Path.{refl}
 use mathlib.Core.List.{List}
 use Prim.Native.Nat.{ℕ, ◌<◌}
 use native.Mathlib.Omega.{arith}
 use borrow.Author.Rules.{rules}
 use lib.ListN.{length, get_or}
-use lib.Seq.{take_all}
 use Rattle.theory.proofs.Lists.{is_in-get_or}
 use Rattle.layout.proofs.Marks.{marked_more}
 use Rattle.layout.proofs.columns.mark_rows.Goals.{In-loop-i}
@@ -23,15 +21,6 @@ loop-i-preserved c =
       search rules,
       marked_more c.args.j (λ w. w) rows c.loop-i.i-index c.args.marks.now c.loop-i.marks (omega arith) (inside (goal.at.loop-i-preserved c).In-loop-i) c.loop-i.invariant.1,
     )
-
-pub returns : goal.returns
-returns c = rw (take_all c.loop-i.i-index c.args.rows.now (omega arith)) at c.loop-i.invariant.1
-
-pub loop-i-init : goal.loop-i-init
-loop-i-init c = (refl, λ i. refl)
-
-pub offset_bounds-marks-i : goal.offset_bounds-marks-i
-offset_bounds-marks-i c = let h = inside (goal.at.offset_bounds-marks-i c).In-loop-i in omega arith
 
 pub bounds-marks-i : goal.bounds-marks-i
 bounds-marks-i c = inside (goal.at.bounds-marks-i c).In-loop-i

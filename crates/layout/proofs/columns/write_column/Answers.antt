@@ -20,9 +20,6 @@ loop-at-init c = (refl, ascent_start c.args.n c.args.j c.args.tree.now c.args.ma
 pub put-at-requires : goal.put-at-requires
 put-at-requires c = (omega (arith, (up (goal.at.put-at-requires c).In-loop-at).1, c.requires.n_le_max_nodes.3), omega (arith, c.loop-at-test.true, c.requires.count_value.1, c.loop-at.invariant.0))
 
-pub loop-at-smaller : goal.loop-at-smaller
-loop-at-smaller c = omega (arith, up (goal.at.loop-at-smaller c).In-loop-at)
-
 pub loop-at-preserved : goal.loop-at-preserved
 loop-at-preserved c = (
   c.put-at.auto.rows ∙ c.loop-at.invariant.0,
@@ -35,9 +32,3 @@ pub returns : goal.returns
 returns c =
     ascent_end c.args.n c.args.j c.args.tree.now c.args.marks.now c.args.rows.now (omega arith) c.requires.n_le_max_nodes.4 c.loop-at.rows c.loop-at.k c.loop-at.at c.loop-at.invariant.1
     (omega (arith, c.loop-at-test.false, c.requires.count_value.0))
-
-pub offset_bounds-tree-k : goal.offset_bounds-tree-k
-offset_bounds-tree-k c = omega (arith, c.loop-at.invariant.1.known)
-
-pub bounds-tree-k : goal.bounds-tree-k
-bounds-tree-k c = omega (arith, c.loop-at.invariant.1.known)

@@ -1,5 +1,5 @@
 -- `layout::columns::write_columns` meets its contract: the loop writes one column more each turn.
-use mathlib.Core.Path.{◌≡◌, refl, sym, ap, ◌∙◌}
+use mathlib.Core.Path.{◌≡◌, refl, ap, ◌∙◌}
 use mathlib.Core.List.{List}
 use Prim.Native.Nat.{ℕ, ◌+◌, ◌<◌}
 use native.Mathlib.Omega.{arith}
@@ -11,7 +11,7 @@ use Rattle.plan.specs.Elimination.{column}
 use Rattle.mesh.specs.Lists.{none}
 use Rattle.mesh.proofs.Lists.{filled_at}
 use Rattle.layout.specs.Arrays.{rows_before}
-use Rattle.theory.proofs.Written.{written_again, written_over}
+use Rattle.theory.proofs.Written.{written_over}
 use Rattle.layout.proofs.Grown.{rows_none, rows_more, rows_all}
 use Rattle.layout.proofs.Climbs.{tree-rising}
 use Rattle.layout.proofs.columns.write_columns.Goals as goal
@@ -33,20 +33,6 @@ pub loop-j-init : goal.loop-j-init
 loop-j-init c =
     let clear : (i : ℕ) → i < c.args.mesh.now.nodes → get_or c.filled-marks.result i 0 ≡ none = λ i l. ap (λ (m : List ℕ). get_or m i 0) c.filled-marks.ensures.0 ∙ filled_at none i (omega (arith, c.requires.ordered.0.checked.few)) in
     (omega arith, refl, c.filled-marks.ensures.1, λ i r li le lr e. omega (arith, c.requires.ordered.0.checked.few, clear i li), rw (rows_none (as_lent c.args.mesh.now) c.args.order.now))
-
-pub invariant_of-columns : goal.invariant_of-columns
-invariant_of-columns c = record { parents = (c.requires.ordered.1, c.requires.ordered.2); children = c.link_children.ensures; starts = c.requires.column_starts_value.0 }
-
-pub add-requires : goal.add-requires
-add-requires c =
-    let lt : c.loop-j.j < c.args.mesh.now.nodes = omega arith in record {
-      inside = (lt, omega (arith, c.requires.column_starts_value.1, c.loop-j.invariant.1));
-      before = (
-        omega (arith, c.loop-j.invariant.2, c.requires.ordered.0.checked.few),
-        c.loop-j.invariant.3,
-        c.loop-j.invariant.4 ∙ sym (ap (written (rows_before (as_lent c.args.mesh.now) c.args.order.now c.loop-j.j)) c.loop-j.invariant.4 ∙ written_again (rows_before (as_lent c.args.mesh.now) c.args.order.now c.loop-j.j) c.args.rows.now),
-      );
-    }
 
 pub loop-j-preserved : goal.loop-j-preserved
 loop-j-preserved c =

@@ -28,9 +28,6 @@ invariant {i} {start} {tree₀} {marks₀} {counts₀} {tree} {marks} {counts} {
       few = omega (arith, climbing-few w.mesh w.order i w.inside k k tree marks counts y.climbing (omega arith));
     }
 
-pub returns-then-start-i : goal.returns-then-start-i
-returns-then-start-i c = λ w. record { climbing = w.climbing; reached = λ l. absurd (omega arith); kept = λ k e. e; rest_tree = refl; rest_counts = refl }
-
 pub loop-marks-init : goal.loop-marks-init
 loop-marks-init c =
     invariant c.requires refl refl refl
@@ -60,12 +57,3 @@ pub returns : goal.returns
 returns c =
     λ w.
     way_end w.mesh w.order c.args.i w.inside c.args.start c.args.tree.now c.args.marks.now c.args.counts.now c.loop-marks.tree c.loop-marks.marks c.loop-marks.counts c.loop-marks.k (c.loop-marks.invariant.way w) c.loop-marks-test.false
-
-pub shape_of-tree : goal.shape_of-tree
-shape_of-tree c = c.loop-marks.invariant.long_tree
-
-pub shape_of-marks : goal.shape_of-marks
-shape_of-marks c = c.loop-marks.invariant.long_marks
-
-pub shape_of-counts : goal.shape_of-counts
-shape_of-counts c = c.loop-marks.invariant.long_counts

@@ -42,9 +42,6 @@ placed c =
       entry_row (as_lent c.args.ordered.now.mesh) c.args.ordered.now.order.now c.args.ordered.now.positions.now c.args.ordered.now.ordered c.args.i c.requires.inside.0 c.loop-w.w-index lt,
     )
 
-pub offset_bounds-ordered-w : goal.offset_bounds-ordered-w
-offset_bounds-ordered-w c = omega (arith, (placed (goal.at.offset_bounds-ordered-w c).In-loop-w).0)
-
 pub bounds-ordered-w : goal.bounds-ordered-w
 bounds-ordered-w c = omega (arith, (placed (goal.at.bounds-ordered-w c).In-loop-w).0)
 
@@ -99,12 +96,3 @@ returns c =
       );
       rest = (c.loop-w.invariant.rest_tree, c.loop-w.invariant.rest_counts);
     }
-
-pub shape_of-marks : goal.shape_of-marks
-shape_of-marks c = c.loop-w.invariant.long_marks ∙ length-set c.args.marks.now c.args.i c.args.i
-
-pub shape_of-tree : goal.shape_of-tree
-shape_of-tree c = c.loop-w.invariant.long_tree
-
-pub shape_of-counts : goal.shape_of-counts
-shape_of-counts c = c.loop-w.invariant.long_counts

@@ -38,27 +38,6 @@ loop-i-init c =
 kept : (c : At-loop-i) → (length c.loop-i.tree ≡ length c.args.tree.now) × (length c.loop-i.counts ≡ length c.args.counts.now)
 kept c = (c.loop-i.invariant.long_tree ∙ reset_long c.args.mesh.now.nodes none c.args.tree.now c.fill.new.self (omega arith) c.fill.ensures.len, c.loop-i.invariant.long_counts ∙ reset_long c.args.mesh.now.nodes 0 c.args.counts.now c.fill-2.new.self (omega arith) c.fill-2.ensures.len)
 
-pub count_row-requires : goal.count_row-requires
-count_row-requires c =
-    let t = kept (goal.at.count_row-requires c).At-loop-i in
-    record {
-      inside = (omega arith, omega arith, omega (arith, c.loop-i.invariant.long_marks, c.requires.0.checked.few), omega arith);
-      counted = (c.loop-i.invariant.counted, c.loop-i.invariant.unmarked);
-    }
-
-pub loop-i-preserved : goal.loop-i-preserved
-loop-i-preserved c =
-    record {
-      counted = c.count_row.ensures.counted.0;
-      unmarked = c.count_row.ensures.counted.1;
-      low = search rules;
-      long_tree = c.count_row.auto.tree ∙ c.loop-i.invariant.long_tree;
-      long_counts = c.count_row.auto.counts ∙ c.loop-i.invariant.long_counts;
-      long_marks = c.count_row.auto.marks ∙ c.loop-i.invariant.long_marks;
-      rest_tree = c.count_row.ensures.rest.0 ∙ c.loop-i.invariant.rest_tree;
-      rest_counts = c.count_row.ensures.rest.1 ∙ c.loop-i.invariant.rest_counts;
-    }
-
 pub returns : goal.returns
 returns c =
     let t = kept (goal.at.returns c).At-loop-i in
@@ -67,9 +46,3 @@ returns c =
       tree_after = counted_tree (as_lent c.args.mesh.now) c.args.order.now c.loop-i.tree c.loop-i.counts all c.args.tree.now (omega arith) (c.loop-i.invariant.rest_tree ∙ reset_rest c.args.mesh.now.nodes none c.args.tree.now _ (tree_reset (goal.at.returns c).After-fill-2));
       counts_after = counted_rows (as_lent c.args.mesh.now) c.args.order.now c.loop-i.tree c.loop-i.counts all c.args.counts.now (omega arith) (c.loop-i.invariant.rest_counts ∙ reset_rest c.args.mesh.now.nodes 0 c.args.counts.now _ (counts_reset (goal.at.returns c).After-fill-2));
     }
-
-pub shape_of-tree : goal.shape_of-tree
-shape_of-tree c = (kept (goal.at.shape_of-tree c).At-loop-i).0
-
-pub shape_of-counts : goal.shape_of-counts
-shape_of-counts c = (kept (goal.at.shape_of-counts c).At-loop-i).1

@@ -4,7 +4,7 @@ use Prim.Native.Nat.{ℕ, ◌+◌, ◌*◌, ◌≤◌, ◌<◌}
 use native.Mathlib.Omega.{arith}
 use borrow.Author.Rules.{rules}
 use lib.ListN.{length, take, get_or}
-use lib.Seq.{take_all, get_or-take, length-take-le}
+use lib.Seq.{get_or-take, length-take-le}
 use Rattle.plan.specs.Elimination.{multiplications}
 use Rattle.theory.proofs.Sums.{total_more}
 use Rattle.layout.proofs.TotalSlots.{work, product_few, multiplications_more}
@@ -25,21 +25,6 @@ few c =
     let t = product_few (get_or (take c.args.n c.args.counts.now) c.loop-count.count-index 0) (omega arith) in
     (omega arith, t, omega arith, low)
 
-pub overflow_cast-slots : goal.overflow_cast-slots
-overflow_cast-slots c = omega (arith, few (goal.at.overflow_cast-slots c).In-loop-count)
-
-pub overflow_add-slots : goal.overflow_add-slots
-overflow_add-slots c = omega (arith, few (goal.at.overflow_add-slots c).In-loop-count)
-
-pub overflow_add-multiplications : goal.overflow_add-multiplications
-overflow_add-multiplications c = omega (arith, few (goal.at.overflow_add-multiplications c).In-loop-count)
-
-pub overflow_mul-multiplications : goal.overflow_mul-multiplications
-overflow_mul-multiplications c = omega (arith, few (goal.at.overflow_mul-multiplications c).In-loop-count)
-
-pub overflow_add-multiplications-in-loop-count : goal.overflow_add-multiplications-in-loop-count
-overflow_add-multiplications-in-loop-count c = omega (arith, few (goal.at.overflow_add-multiplications-in-loop-count c).In-loop-count)
-
 pub loop-count-preserved : goal.loop-count-preserved
 loop-count-preserved c =
     let h : c.loop-count.count-index < length (take c.args.n c.args.counts.now) = omega arith in
@@ -50,8 +35,3 @@ loop-count-preserved c =
       slots_few = omega (arith, few (goal.at.loop-count-preserved c).In-loop-count);
       products_few = omega (arith, few (goal.at.loop-count-preserved c).In-loop-count);
     }
-
-pub returns : goal.returns
-returns c =
-    let e = take_all c.loop-count.count-index (take c.args.n c.args.counts.now) (omega arith) in
-    (rw e at c.loop-count.invariant.slots, rw e at c.loop-count.invariant.products)

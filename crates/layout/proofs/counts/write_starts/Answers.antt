@@ -1,29 +1,17 @@
 -- `layout::counts::write_starts` meets its contract: each turn writes one more running sum.
-use mathlib.Core.Path.{◌≡◌, refl, sym, ◌∙◌}
-use mathlib.Core.List.{List, [], ◌∷◌}
+use mathlib.Core.Path.{◌≡◌, ◌∙◌}
+use mathlib.Core.List.{List}
 use Prim.Native.Nat.{ℕ, ◌+◌, ◌<◌}
 use native.Mathlib.Omega.{arith}
-use borrow.Author.Rules.{rules}
 use lib.ListN.{length, take, get_or, set, length-set}
-use lib.Seq.{length-take-le, get_or-take, take_all}
+use lib.Seq.{length-take-le, get_or-take}
 use Rattle.plan.specs.Lists.{total, running_sums}
 use Rattle.theory.proofs.Compressed.{sums_length}
-use Rattle.theory.proofs.Written.{written_push, written-set}
+use Rattle.theory.proofs.Written.{written_push}
 use Rattle.theory.proofs.Sums.{total_more}
 use Rattle.layout.proofs.TotalSlots.{sums_more}
 use Rattle.layout.proofs.counts.write_starts.Goals.{At-loop-j, In-loop-j}
 use Rattle.layout.proofs.counts.write_starts.Goals as goal
-
-pub loop-j-init : goal.loop-j-init
-loop-j-init c =
-    let found : List ℕ = c.args.column_starts.now in
-    record {
-      low = search rules;
-      next = refl;
-      few = search rules;
-      sums = written_push [] found 0 0 refl (omega arith) ∙ sym (written-set (0 ∷ []) found 0 (omega arith));
-      long = refl;
-    }
 
 -- a count has 16 bits
 few : (c : In-loop-j) → (get_or (take c.args.n c.args.counts.now) c.loop-j.j 0 < 65536) × (c.loop-j.j < c.args.n) × (length (take c.args.n c.args.counts.now) ≡ c.args.n)
@@ -33,16 +21,6 @@ few c =
     let e = get_or-take c.args.n c.args.counts.now c.loop-j.j 0 low in
     let h = c.type_inv.counts c.loop-j.j in
     (omega arith, low, many)
-
-pub overflow_add-start : goal.overflow_add-start
-overflow_add-start c = omega (arith, few (goal.at.overflow_add-start c).In-loop-j)
-
--- the starts stay as long as they were
-kept : (c : At-loop-j) → length c.loop-j.column_starts ≡ length c.args.column_starts.now
-kept c = c.loop-j.invariant.long ∙ length-set c.args.column_starts.now 0 0
-
-pub bounds-column_starts-j : goal.bounds-column_starts-j
-bounds-column_starts-j c = omega (arith, kept (goal.at.bounds-column_starts-j c).At-loop-j, few (goal.at.bounds-column_starts-j c).In-loop-j)
 
 pub loop-j-preserved : goal.loop-j-preserved
 loop-j-preserved c =
@@ -60,12 +38,3 @@ loop-j-preserved c =
           (written_push (running_sums 0 (take c.loop-j.j counts)) found (c.loop-j.j + 1) (total (take (c.loop-j.j + 1) counts)) many (omega (arith, length-set c.args.column_starts.now 0 0)));
       long = length-set c.loop-j.column_starts (c.loop-j.j + 1) (c.loop-j.start + get_or counts c.loop-j.j 0) ∙ c.loop-j.invariant.long;
     }
-
-pub returns : goal.returns
-returns c =
-    let e = take_all c.loop-j.j (take c.args.n c.args.counts.now) (omega arith) in
-    let sums : List ℕ = running_sums 0 (take c.args.n c.args.counts.now) in
-    rw e at c.loop-j.invariant.sums ∙ written-set sums c.args.column_starts.now 0 (omega (arith, sums_length 0 (take c.args.n c.args.counts.now)))
-
-pub shape_of-column_starts : goal.shape_of-column_starts
-shape_of-column_starts c = kept (goal.at.shape_of-column_starts c).At-loop-j

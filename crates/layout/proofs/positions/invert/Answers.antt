@@ -14,12 +14,6 @@ inside : (c : In-loop-i) → get_or c.args.order.now c.loop-i.i 0 < length c.arg
 inside c =
     order-inside (length c.args.order.now) c.args.order.now c.requires.0 c.loop-i.i (omega arith)
 
-pub loop-i-init : goal.loop-i-init
-loop-i-init c = (search rules, record { long = refl; placed = λ p h. absurd (omega arith); rest = λ v h. refl })
-
-pub offset_bounds-positions-v : goal.offset_bounds-positions-v
-offset_bounds-positions-v c = omega (arith, inside (goal.at.offset_bounds-positions-v c).In-loop-i)
-
 pub bounds-positions-v : goal.bounds-positions-v
 bounds-positions-v c = omega (arith, inside (goal.at.bounds-positions-v c).In-loop-i, c.loop-i.invariant.1.long)
 
@@ -31,6 +25,3 @@ loop-i-preserved c = (
 
 pub returns : goal.returns
 returns c = inverted_all (length c.args.order.now) c.args.order.now c.requires.0 c.args.positions.now c.loop-i.positions c.requires.2 c.loop-i.i (omega arith) c.loop-i.invariant.1
-
-pub shape_of-positions : goal.shape_of-positions
-shape_of-positions c = c.loop-i.invariant.1.long

@@ -3,9 +3,9 @@ use mathlib.Core.Path.{◌≡◌, refl, ap, ◌∙◌}
 use mathlib.Core.List.{map}
 use Prim.Native.Nat.{ℕ, ◌≤◌, ◌<◌}
 use native.Mathlib.Omega.{arith}
-use lib.ListN.{length, get_or, length-map}
+use lib.ListN.{length, length-map}
 use Rattle.plan.specs.Lists.{written}
-use Rattle.plan.specs.Mesh.{max_nodes, neighbours_of}
+use Rattle.plan.specs.Mesh.{max_nodes}
 use Rattle.theory.proofs.Written.{written_push, written-length, front-written}
 use Rattle.mesh.specs.Lent.{as_lent}
 use Rattle.join.specs.Merged.{list_of, lists_of}
@@ -18,29 +18,15 @@ pub loop-v-init : goal.loop-v-init
 unfolding merged_lists
 loop-v-init c = (omega arith, c.filled-counts.ensures.1, refl)
 
--- the two lists
-ones : (c : After-neighbours_of-others) → c.neighbours_of-ones.result.now ≡ neighbours_of (as_lent c.args.self.now.first) c.loop-v.v
-ones c = c.neighbours_of-ones.ensures
-
--- the two lists
-ones_at_after_count_merged : (c : After-count_merged) → c.neighbours_of-ones.result.now ≡ neighbours_of (as_lent c.args.self.now.first) c.loop-v.v
-ones_at_after_count_merged c = c.neighbours_of-ones.ensures
-
-others : (c : After-neighbours_of-others) → c.neighbours_of-others.result.now ≡ neighbours_of (as_lent c.args.self.now.second) (get_or c.args.self.now.from.now c.loop-v.v 0)
-others c = c.neighbours_of-others.ensures
-
-others_at_after_count_merged : (c : After-count_merged) → c.neighbours_of-others.result.now ≡ neighbours_of (as_lent c.args.self.now.second) (get_or c.args.self.now.from.now c.loop-v.v 0)
-others_at_after_count_merged c = c.neighbours_of-others.ensures
-
 -- what was counted is the length of node v's list
 listed : (c : After-count_merged) → c.count_merged.result ≡ length (list_of c.args.self.now c.loop-v.v)
 listed c =
     c.count_merged.ensures
-    ∙ rw (ones_at_after_count_merged c, others_at_after_count_merged c) (merged_counted (as_lent c.args.self.now.first) (as_lent c.args.self.now.second) c.args.self.now.goes.now c.args.self.now.from.now c.args.self.now.nodes c.args.self.now.mergeable c.loop-v.v)
+    ∙ rw (c.neighbours_of-ones.ensures, c.neighbours_of-others.ensures) (merged_counted (as_lent c.args.self.now.first) (as_lent c.args.self.now.second) c.args.self.now.goes.now c.args.self.now.from.now c.args.self.now.nodes c.args.self.now.mergeable c.loop-v.v)
 
 pub count_merged-requires : goal.count_merged-requires
 count_merged-requires c =
-    rw (ones (goal.at.count_merged-requires c).After-neighbours_of-others, others (goal.at.count_merged-requires c).After-neighbours_of-others)
+    rw (c.neighbours_of-ones.ensures, c.neighbours_of-others.ensures)
     (c.args.self.now.mergeable.first.short c.loop-v.v, c.args.self.now.mergeable.second.short _, entry_goes (as_lent c.args.self.now.first) (as_lent c.args.self.now.second) c.args.self.now.goes.now c.args.self.now.from.now c.args.self.now.nodes c.args.self.now.mergeable _)
 
 -- it has room
@@ -69,14 +55,5 @@ returns c =
       front-written c.args.self.now.nodes (map length (lists c.args.self.now.nodes)) c.filled-counts.result c.loop-v.counts all many,
     )
 
-pub bounds-self-v : goal.bounds-self-v
-bounds-self-v c = omega (arith, c.args.self.now.mergeable.coming)
-
 pub overflow_cast-counts : goal.overflow_cast-counts
 overflow_cast-counts c = omega (arith, few (goal.at.overflow_cast-counts c).After-count_merged)
-
-pub offset_bounds-counts-v : goal.offset_bounds-counts-v
-offset_bounds-counts-v c = omega (arith, inside (goal.at.offset_bounds-counts-v c).After-count_merged)
-
-pub bounds-counts-v : goal.bounds-counts-v
-bounds-counts-v c = inside (goal.at.bounds-counts-v c).After-count_merged

@@ -30,9 +30,6 @@ write_entries-requires c =
     let none = found_of_lists c.args.self.now (mesh_buffers c.args.starts.now c.args.neighbours.now) c.count_entries-counts.result c.count_entries-counts.ensures.1 c.sum-entries.result.slots c.sum-entries.ensures.0 0 c.in_ok-check_lists.ensures in
     (lists_fit c.args.self.now (mesh_buffers c.args.starts.now c.args.neighbours.now) none).1
 
-pub overflow_cast-result : goal.overflow_cast-result
-overflow_cast-result c = omega (arith, c.args.self.now.mergeable.few)
-
 pub returns : goal.returns
 unfolding mesh_of starts_of
 returns c =
@@ -41,9 +38,3 @@ returns c =
     accepted-mesh (made_by c.args.self.now) found _ _ _ (sym none) refl (entries_summed c.args.self.now found c.count_entries-counts.result c.count_entries-counts.ensures.1 c.sum-entries.result.slots c.sum-entries.ensures.0)
     (c.write_starts.ensures ∙ ap (λ (l : List ℕ). written (running_sums 0 l) c.args.starts.now) c.count_entries-counts.ensures.1)
     c.write_entries.ensures
-
-pub sum-entries-requires : goal.sum-entries-requires
-sum-entries-requires c = (c.args.self.now.mergeable.few, omega (arith, c.count_entries-counts.ensures.0, c.args.self.now.mergeable.few))
-
-pub check_lists-requires : goal.check_lists-requires
-check_lists-requires c = omega (arith, c.count_entries-counts.ensures.0, c.args.self.now.mergeable.few)

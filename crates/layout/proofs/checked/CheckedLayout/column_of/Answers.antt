@@ -23,10 +23,6 @@ use Rattle.layout.proofs.checked.CheckedLayout.column_of.Goals.{After-partition_
 use Rattle.layout.proofs.checked.CheckedLayout.column_of.Goals as goal
 
 module _ (n : ℕ) (column_starts : List ℕ) (s : ℕ) (starts : Starts n column_starts) where
-  -- the starts of the n columns
-  firsts : List ℕ
-  firsts = take n column_starts
-
   many : length (take n column_starts) ≡ n
   many = length-take-le n column_starts (omega (arith, starts.many))
 

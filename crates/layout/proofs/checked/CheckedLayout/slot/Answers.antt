@@ -1,20 +1,21 @@
 -- `layout::checked::CheckedLayout::slot` meets its contract: row i stands at its place in the column or nowhere, and its slot is as far behind the column's start.
 use mathlib.Core.Path.{◌≡◌, sym, ap, ◌∙◌}
 use mathlib.Core.Logic.{inl, inr}
-use mathlib.Core.Bool.{true, false}
+use mathlib.Core.Bool.{false}
 use mathlib.Core.List.{List}
 use Prim.Native.Nat.{ℕ, ◌≤◌, ◌<◌}
 use native.Mathlib.Omega.{arith}
 use lib.ListN.{length, get_or}
 use Rattle.plan.specs.Lists.{is_in, index_of, list_at, ascending}
 use Rattle.plan.specs.Answers.{accepted}
-use Rattle.theory.proofs.Bools.{lt_or_le, eq_or_ne, refuted}
+use Rattle.theory.proofs.Bools.{lt_or_le, refuted}
 use Rattle.theory.proofs.Lists.{is_in-get_or, get_or-index_of, index_of_lt}
-use Rattle.theory.proofs.Ascending.{ascending-get_or, ascending-index_of}
+use Rattle.theory.proofs.Ascending.{ascending-index_of}
 use Rattle.theory.proofs.SlotsAndPairs.{slot_none, slot_found_lem}
 use Rattle.mesh.proofs.Lists.{list_long}
 use Rattle.layout.proofs.Answered.{known-within, known-few, known-ascends}
 use Rattle.std.proofs.Common.{Ok, Err}
+use Rattle.mesh.proofs.Bisection.{no_greater}
 use Rattle.std.proofs.lemmas.List.Sorted.{searched}
 use Rattle.layout.proofs.checked.CheckedLayout.slot.Goals.{In-Ok, In-Err}
 use Rattle.layout.proofs.checked.CheckedLayout.slot.Goals as goal
@@ -29,16 +30,9 @@ none_there l x k low high = refuted (is_in x l) (λ h.
       | inr behind ↦ omega (arith, high _ behind lt)
     ])
 
--- along such a list no number falls
-rises : (l : List ℕ) → ascending l ≡ true → (i j : ℕ) → i ≤ j → j < length l → get_or l i 0 ≤ get_or l j 0
-rises l up i j le lt = elim (eq_or_ne i j) [
-  | inl e ↦ omega (arith, ap (λ (k : ℕ). get_or l k 0) e)
-  | inr ne ↦ omega (arith, ascending-get_or l up i j (omega (arith, ne)) lt)
-]
-
 -- where row i is found, it is at its place
 found : (c : In-Ok) → (c.in-Ok.k < length (list_at c.args.self.now.column_starts.now c.args.self.now.rows.now c.args.j)) × (get_or (list_at c.args.self.now.column_starts.now c.args.self.now.rows.now c.args.j) c.in-Ok.k 0 ≡ c.args.i)
-found c = rw c.column.ensures at (searched c.column.result.now c.args.i (Ok c.in-Ok.k) c.in-Ok.ensures.position (rises c.column.result.now (ap ascending c.column.ensures ∙ known-ascends c.args.self.now c.args.j c.requires)))
+found c = rw c.column.ensures at (searched c.column.result.now c.args.i (Ok c.in-Ok.k) c.in-Ok.ensures.position (no_greater c.column.result.now (ap ascending c.column.ensures ∙ known-ascends c.args.self.now c.args.j c.requires)))
 
 -- the slot is before the next column's start, which has 32 bits
 pub overflow_cast-result : goal.overflow_cast-result
@@ -58,7 +52,7 @@ returns-in-Ok c =
 pub returns-in-Err : goal.returns-in-Err
 returns-in-Err c =
     let column : List ℕ = list_at c.args.self.now.column_starts.now c.args.self.now.rows.now c.args.j in
-    let none = rw c.column.ensures at (searched c.column.result.now c.args.i (Err c.in-Err.field-0) c.in-Err.ensures.position (rises c.column.result.now (ap ascending c.column.ensures ∙ known-ascends c.args.self.now c.args.j c.requires))) in
+    let none = rw c.column.ensures at (searched c.column.result.now c.args.i (Err c.in-Err.field-0) c.in-Err.ensures.position (no_greater c.column.result.now (ap ascending c.column.ensures ∙ known-ascends c.args.self.now c.args.j c.requires))) in
     ap accepted (sym (slot_none c.args.self.now.column_starts.now c.args.self.now.rows.now c.args.i c.args.j (none_there column c.args.i c.in-Err.field-0 none.1 none.2)))
 
 -- column j has a start

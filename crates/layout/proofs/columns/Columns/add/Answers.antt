@@ -22,10 +22,6 @@ use Rattle.layout.proofs.columns.Columns.add.Goals as goal
 listed : (c : Start) → Listed (as_lent c.args.self.now.ordered.mesh) c.args.self.now.ordered.order.now c.args.self.now.column_starts.now c.args.rows.now c.args.j
 listed c c' lt = column-found (as_lent c.args.self.now.ordered.mesh) c.args.self.now.ordered.order.now c.args.self.now.column_starts.now c.args.self.now.starts c.args.rows.now c.args.j c' (omega arith) lt c.requires.before.2
 
--- the columns before j are found in the rows
-listed_at_after_mark_children : (c : After-mark_children) → Listed (as_lent c.args.self.now.ordered.mesh) c.args.self.now.ordered.order.now c.args.self.now.column_starts.now c.args.rows.now c.args.j
-listed_at_after_mark_children c c' lt = column-found (as_lent c.args.self.now.ordered.mesh) c.args.self.now.ordered.order.now c.args.self.now.column_starts.now c.args.self.now.starts c.args.rows.now c.args.j c' (omega arith) lt c.requires.before.2
-
 -- where column j starts and ends
 bounds : (c : Start) → let a : ℕ = get_or c.args.self.now.column_starts.now c.args.j 0 in
     let e : ℕ = get_or c.args.self.now.column_starts.now (c.args.j + 1) 0 in
@@ -39,32 +35,15 @@ bounds c =
       (column-within m c.args.self.now.ordered.order.now c.args.self.now.column_starts.now c.args.self.now.starts c.args.rows.now c.requires.inside.1 c.args.j c.requires.inside.0).ended,
     )
 
--- where column j starts and ends
-bounds_at_after_mark_children : (c : After-mark_children) → let a : ℕ = get_or c.args.self.now.column_starts.now c.args.j 0 in
-    let e : ℕ = get_or c.args.self.now.column_starts.now (c.args.j + 1) 0 in
-    (c.args.self.now.ordered.mesh.nodes ≤ max_nodes) × (c.args.self.now.ordered.mesh.nodes < length c.args.self.now.column_starts.now) × (a ≡ length (rows_before (as_lent c.args.self.now.ordered.mesh) c.args.self.now.ordered.order.now c.args.j)) × (e ≡ a + length (column (as_lent c.args.self.now.ordered.mesh) c.args.self.now.ordered.order.now c.args.j)) × (e ≤ length c.args.rows.now)
-bounds_at_after_mark_children c =
-    let m = (as_lent c.args.self.now.ordered.mesh) in (
-      c.args.self.now.ordered.ordered.checked.few,
-      starts-long m c.args.self.now.ordered.order.now c.args.self.now.column_starts.now c.args.self.now.starts,
-      start_at m c.args.self.now.ordered.order.now c.args.self.now.column_starts.now c.args.self.now.starts c.args.j (omega arith),
-      start-next m c.args.self.now.ordered.order.now c.args.self.now.column_starts.now c.args.self.now.starts c.args.j c.requires.inside.0,
-      (column-within m c.args.self.now.ordered.order.now c.args.self.now.column_starts.now c.args.self.now.starts c.args.rows.now c.requires.inside.1 c.args.j c.requires.inside.0).ended,
-    )
-
--- the rows take no more than the memory there is
-room : (c : Start) → length c.args.rows.now * 2 < 2 ^ 63
-room c = omega arith
-
 -- with both, the column is marked
 marking : (c : After-mark_children) → Marking (as_lent c.args.self.now.ordered.mesh) c.args.self.now.ordered.order.now c.args.self.now.ordered.positions.now c.args.self.now.tree.now c.args.self.now.column_starts.now c.args.rows.now c.args.j c.args.marks.now c.mark_neighbours.new.marks c.mark_children.new.marks
 marking c =
     record {
       ordered = c.args.self.now.ordered.ordered;
       parents = c.args.self.now.parents.1;
-      few = omega (arith, (bounds_at_after_mark_children c).0);
+      few = omega (arith, c.args.self.now.ordered.ordered.checked.few);
       inside = c.requires.inside.0;
-      listed = listed_at_after_mark_children c;
+      listed = λ k lt. column-found (as_lent c.args.self.now.ordered.mesh) c.args.self.now.ordered.order.now c.args.self.now.column_starts.now c.args.self.now.starts c.args.rows.now c.args.j k (omega arith) lt c.requires.before.2;
       clear = c.requires.before.1;
       neighbours = c.mark_neighbours.ensures;
       children = c.mark_children.ensures;
@@ -74,7 +53,7 @@ marking c =
 inside : (c : Start) (k : ℕ) → k < c.args.self.now.ordered.mesh.nodes → get_or c.args.self.now.tree.now k 0 ≡ c.args.j → (i : ℕ) → is_in i (list_at c.args.self.now.column_starts.now c.args.rows.now k) ≡ true → i < c.args.self.now.ordered.mesh.nodes
 unfolding is_row
 inside c k lk e i h =
-    let f = child_column (as_lent c.args.self.now.ordered.mesh) c.args.self.now.ordered.order.now c.args.self.now.tree.now c.args.self.now.parents.1 (omega (arith, (bounds c).0)) c.args.j c.requires.inside.0 k lk e in
+    let f = child_column (as_lent c.args.self.now.ordered.mesh) c.args.self.now.ordered.order.now c.args.self.now.tree.now c.args.self.now.parents.1 (omega (arith, c.args.self.now.ordered.ordered.checked.few)) c.args.j c.requires.inside.0 k lk e in
     (row_range (as_lent c.args.self.now.ordered.mesh) c.args.self.now.ordered.order.now i k (ap (is_in i) (sym (listed c k f.1)) ∙ h)).1
 
 pub mark_children-requires : goal.mark_children-requires
@@ -106,20 +85,11 @@ returns c = (
 pub bounds-self-j : goal.bounds-self-j
 bounds-self-j c = let b = bounds (goal.at.bounds-self-j c).Start in omega arith
 
-pub offset_bounds-self-j-2 : goal.offset_bounds-self-j-2
-offset_bounds-self-j-2 c = let b = bounds (goal.at.offset_bounds-self-j-2 c).Start in omega arith
-
 pub bounds-self-j-2 : goal.bounds-self-j-2
 bounds-self-j-2 c = let b = bounds (goal.at.bounds-self-j-2 c).Start in omega arith
 
-pub overflow_cast-j : goal.overflow_cast-j
-overflow_cast-j c = omega (arith, (bounds (goal.at.overflow_cast-j c).Start).0, c.requires.inside.0)
-
 pub overflow_sub-e : goal.overflow_sub-e
 overflow_sub-e c = let b = bounds (goal.at.overflow_sub-e c).Start in omega (arith)
-
-pub offset_bounds-rows-a : goal.offset_bounds-rows-a
-offset_bounds-rows-a c = let b = bounds (goal.at.offset_bounds-rows-a c).Start in omega (arith, room (goal.at.offset_bounds-rows-a c).Start)
 
 pub slice_bounds-write_column-count : goal.slice_bounds-write_column-count
 slice_bounds-write_column-count c = let b = bounds (goal.at.slice_bounds-write_column-count c).Start in omega arith

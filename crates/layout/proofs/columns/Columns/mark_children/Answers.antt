@@ -1,11 +1,11 @@
 -- `layout::columns::Columns::mark_children` meets its contract: the loop walks from child to child and marks the rows of each.
-use mathlib.Core.Path.{◌≡◌, refl, sym, ap, ◌∙◌}
+use mathlib.Core.Path.{◌≡◌, sym, ap, ◌∙◌}
 use Prim.Native.Nat.{ℕ, ◌<◌}
 use native.Mathlib.Omega.{arith}
 use lib.ListN.{get_or}
 use Rattle.plan.specs.Lists.{is_in, list_at}
 use Rattle.layout.specs.Arrays.{child_below, child_row}
-use Rattle.layout.proofs.Children.{way_down, walked_start, walked_child, walked_more, walked_end}
+use Rattle.layout.proofs.Children.{way_down, walked_child, walked_more, walked_end}
 use Rattle.layout.proofs.columns.Columns.mark_children.Goals.{In-loop-c}
 use Rattle.layout.proofs.columns.Columns.mark_children.Goals as goal
 
@@ -20,9 +20,6 @@ next_child c =
     let lt : get_or c.args.self.now.tree.now c.loop-c.c 0 < c.args.self.now.ordered.mesh.nodes = omega (arith, here.1) in
     c.args.self.now.children.next c.loop-c.c here.0 lt
     ∙ ap (λ (p : ℕ). child_below c.args.self.now.tree.now p c.loop-c.c) here.1
-
-pub loop-c-init : goal.loop-c-init
-loop-c-init c = (refl, walked_start c.args.self.now.ordered.mesh.nodes c.args.self.now.tree.now (list_at c.args.self.now.column_starts.now c.args.rows.now) c.args.j c.args.marks.now _ (omega (arith, c.args.self.now.children.first c.args.j c.requires.inside)))
 
 pub list-requires : goal.list-requires
 list-requires c =
@@ -48,9 +45,6 @@ loop-c-preserved c = (
 pub returns : goal.returns
 unfolding child_row
 returns c = walked_end c.args.self.now.ordered.mesh.nodes c.args.self.now.tree.now (list_at c.args.self.now.column_starts.now c.args.rows.now) c.args.j c.args.marks.now c.loop-c.marks c.loop-c.c c.loop-c.invariant.1 c.loop-c-test.false (omega arith)
-
-pub offset_bounds-self-c : goal.offset_bounds-self-c
-offset_bounds-self-c c = let h = child (goal.at.offset_bounds-self-c c).In-loop-c in omega arith
 
 pub bounds-self-c : goal.bounds-self-c
 bounds-self-c c =
