@@ -1,8 +1,29 @@
 // Document 01's worked files, and files and lists that tell misreadings of the reader or the writer apart. Where nothing else is said the plan is
 // that of mesh 4.
-use crate::show::{print_answer, print_buffers, print_bytes, print_title, print_written};
-use meshes::{first8, first16, first32, front8, front16, front32};
+use crate::results::{Results, room};
+use crate::show::{print_answer, print_entries, print_results, print_title, print_written};
+use meshes::{first, front};
+use naive::Room;
+use planfile::LentPlan;
 use std::io;
+
+// The columns of mesh 4's plan.
+pub(crate) const STARTS: &[u32] = &[0, 1, 2, 4, 5, 5];
+
+pub(crate) const ROWS: &[u16] = &[1, 4, 3, 4, 4];
+
+// The plan of mesh 4.
+pub(crate) const PATH: LentPlan<'static> = LentPlan {
+    unknowns: 1,
+    nodes: 5,
+    parts: 3,
+    slots: 5,
+    order: &[0, 1, 3, 4, 2],
+    sizes: &[2, 2, 1],
+    parents: &[2, 2, 65535],
+    column_starts: STARTS,
+    rows: ROWS,
+};
 
 // Mesh 4's file of 61 bytes and a byte more: the unknowns stand at 5, n at 7, the order at 19, sizes and parents at 29, row counts at 41, rows at 51.
 pub(crate) fn path_file() -> [u8; 62] {
@@ -25,148 +46,54 @@ pub(crate) fn changed(file: [u8; 62], at: u8, x: u16) -> [u8; 62] {
     f
 }
 
-// A file read into buffers of these lengths: order, positions, sizes, parents, column starts, rows.
-pub(crate) fn read_lent(
-    rt: &impl Print,
-    title: u8,
-    bytes: &[u8],
-    lengths: [usize; 6],
-) -> io::Result<()> {
+// A file read into results of these lengths.
+pub(crate) fn read_lent(rt: &impl Print, title: u8, bytes: &[u8], room: Room) -> io::Result<()> {
     print_title(rt, title)?;
-    let mut order = [60000u16; 16];
-    let mut positions = [60000u16; 16];
-    let mut sizes = [60000u16; 16];
-    let mut parents = [60000u16; 16];
-    let mut column_starts = [60000u32; 16];
-    let mut rows = [60000u16; 16];
+    let mut results = Results::new();
     let answer = planfile::read(
         bytes,
-        front16(&mut order, lengths[0]),
-        front16(&mut positions, lengths[1]),
-        front16(&mut sizes, lengths[2]),
-        front16(&mut parents, lengths[3]),
-        front32(&mut column_starts, lengths[4]),
-        front16(&mut rows, lengths[5]),
+        front(&mut results.order, room.order),
+        front(&mut results.positions, room.positions),
+        front(&mut results.sizes, room.sizes),
+        front(&mut results.parents, room.parents),
+        front(&mut results.column_starts, room.column_starts),
+        front(&mut results.rows, room.rows),
     );
     print_answer(rt, answer)?;
-    print_buffers(
-        rt,
-        first16(&order, lengths[0]),
-        first16(&positions, lengths[1]),
-        first16(&sizes, lengths[2]),
-        first16(&parents, lengths[3]),
-        first32(&column_starts, lengths[4]),
-        first16(&rows, lengths[5]),
-    )
+    print_results(rt, &results, room)
 }
 
-// The first bytes of a file, read into buffers that are long enough for mesh 4.
+// The first bytes of a file, read into results that are long enough for mesh 4.
 pub(crate) fn read_first(
     rt: &impl Print,
     title: u8,
     file: [u8; 62],
     length: usize,
 ) -> io::Result<()> {
-    read_lent(rt, title, first8(&file, length), [6, 6, 6, 6, 7, 6])
+    read_lent(rt, title, first(&file, length), room(6, 6))
 }
 
-// A plan of lists written into so many bytes, which hold 77.
+// A plan written into so many bytes, which hold 77.
 pub(crate) fn write_lent(
     rt: &impl Print,
     title: u8,
-    unknowns: usize,
-    n: usize,
-    p: usize,
-    s: usize,
-    order: &[u16],
-    sizes: &[u16],
-    parents: &[u16],
-    column_starts: &[u32],
-    rows: &[u16],
-    room: usize,
+    plan: LentPlan,
+    length: usize,
 ) -> io::Result<()> {
     print_title(rt, title)?;
     let mut bytes = [77u8; 64];
-    let answer = planfile::write(
-        unknowns,
-        n,
-        p,
-        s,
-        order,
-        sizes,
-        parents,
-        column_starts,
-        rows,
-        front8(&mut bytes, room),
-    );
+    let answer = planfile::write(&plan, front(&mut bytes, length));
     print_written(rt, answer)?;
-    print_bytes(rt, first8(&bytes, room))
-}
-
-// Mesh 4's sizes and parents with so many unknowns for each node and these lists.
-pub(crate) fn write_unknowns(
-    rt: &impl Print,
-    title: u8,
-    unknowns: usize,
-    order: &[u16],
-    column_starts: &[u32],
-    rows: &[u16],
-    room: usize,
-) -> io::Result<()> {
-    let sizes = [2, 2, 1];
-    let parents = [2, 2, 65535];
-    write_lent(
-        rt,
-        title,
-        unknowns,
-        5,
-        3,
-        5,
-        order,
-        &sizes,
-        &parents,
-        column_starts,
-        rows,
-        room,
-    )
-}
-
-// With one unknown.
-pub(crate) fn write_path(
-    rt: &impl Print,
-    title: u8,
-    order: &[u16],
-    column_starts: &[u32],
-    rows: &[u16],
-    room: usize,
-) -> io::Result<()> {
-    write_unknowns(rt, title, 1, order, column_starts, rows, room)
+    print_entries(rt, first(&bytes, length))
 }
 
 // "Meshes worked through", 4 and 10.
 fn worked(rt: &impl Print) -> io::Result<()> {
-    write_path(
-        rt,
-        4,
-        &[0, 1, 3, 4, 2],
-        &[0, 1, 2, 4, 5, 5],
-        &[1, 4, 3, 4, 4],
-        61,
-    )?;
+    write_lent(rt, 4, PATH, 61)?;
     read_first(rt, 4, path_file(), 61)?;
     read_first(rt, 4, path_file_1(), 59)?;
-    read_lent(
-        rt,
-        10,
-        b"NDP\x02\0\0\0\0\0\0\0\0\0\0\0\0\0",
-        [1, 1, 1, 1, 2, 1],
-    )?;
-    read_lent(
-        rt,
-        10,
-        b"NDP\x02\0\0\0\0\0\0\0\0\0\0\0\0",
-        [1, 1, 1, 1, 2, 1],
-    )
+    read_lent(rt, 10, b"NDP\x02\0\0\0\0\0\0\0\0\0\0\0\0\0", room(1, 1))?;
+    read_lent(rt, 10, b"NDP\x02\0\0\0\0\0\0\0\0\0\0\0\0", room(1, 1))
 }
 
 // 11 and 12, in both versions.
@@ -175,35 +102,59 @@ fn worked_rows(rt: &impl Print) -> io::Result<()> {
         rt,
         11,
         b"NDP\x02\0\x01\0\x03\0\0\0\x01\0\0\0\x02\0\0\0\0\0\x01\0\x02\0\x03\0\xff\xff\x02\0\0\0\0\0\x01\0\x02\0",
-        [4, 4, 4, 4, 5, 3],
+        room(4, 3),
     )?;
     read_lent(
         rt,
         11,
         b"NDP\x01\0\x03\0\0\0\x01\0\0\0\x02\0\0\0\0\0\x01\0\x02\0\x03\0\xff\xff\x02\0\0\0\0\0\x01\0\x02\0",
-        [4, 4, 4, 4, 5, 3],
+        room(4, 3),
     )?;
     read_lent(
         rt,
         12,
         b"NDP\x02\0\x01\0\x02\0\0\0\x02\0\0\0\x01\0\0\0\0\0\x01\0\x01\0\xff\xff\x01\0\xff\xff\x01\0\0\0\x01\0",
-        [3, 3, 3, 3, 4, 2],
+        room(3, 2),
     )?;
     read_lent(
         rt,
         12,
         b"NDP\x01\0\x02\0\0\0\x02\0\0\0\x01\0\0\0\0\0\x01\0\x01\0\xff\xff\x01\0\xff\xff\x01\0\0\0\x01\0",
-        [3, 3, 3, 3, 4, 2],
+        room(3, 2),
     )
 }
 
 // Buffers that are too short.
 fn short(rt: &impl Print) -> io::Result<()> {
     let f = path_file();
-    read_lent(rt, 51, first8(&f, 61), [5, 4, 5, 5, 6, 5])?;
-    read_lent(rt, 52, first8(&f, 61), [5, 5, 3, 5, 6, 5])?;
-    read_lent(rt, 53, first8(&f, 61), [5, 5, 4, 5, 6, 4])?;
-    read_lent(rt, 54, first8(&f, 61), [5, 5, 5, 5, 6, 4])
+    read_lent(
+        rt,
+        51,
+        first(&f, 61),
+        Room {
+            positions: 4,
+            ..room(5, 5)
+        },
+    )?;
+    read_lent(
+        rt,
+        52,
+        first(&f, 61),
+        Room {
+            sizes: 3,
+            ..room(5, 5)
+        },
+    )?;
+    read_lent(
+        rt,
+        53,
+        first(&f, 61),
+        Room {
+            sizes: 4,
+            ..room(5, 4)
+        },
+    )?;
+    read_lent(rt, 54, first(&f, 61), room(5, 4))
 }
 
 // A wrong magic (document 01: mark), version, number of nodes or length.
@@ -234,32 +185,54 @@ fn faulty(rt: &impl Print) -> io::Result<()> {
     read_first(rt, 69, changed(f, 35, 1), 61)
 }
 
+// The plan of mesh 4 with another list.
+pub(crate) fn with_order<'a>(order: &'a [u16]) -> LentPlan<'a> {
+    LentPlan { order, ..PATH }
+}
+
+fn with_starts<'a>(column_starts: &'a [u32]) -> LentPlan<'a> {
+    LentPlan {
+        column_starts,
+        ..PATH
+    }
+}
+
+pub(crate) fn with_rows<'a>(rows: &'a [u16]) -> LentPlan<'a> {
+    LentPlan { rows, ..PATH }
+}
+
+// The plan of mesh 4 with lists that are longer than needed.
+const LONGER: LentPlan<'static> = LentPlan {
+    order: &[0, 1, 3, 4, 2, 0],
+    column_starts: &[0, 1, 2, 4, 5, 5, 9],
+    rows: &[1, 4, 3, 4, 4, 0],
+    ..PATH
+};
+
+// The plan of a single node.
+const SINGLE: LentPlan<'static> = LentPlan {
+    unknowns: 1,
+    nodes: 1,
+    parts: 1,
+    slots: 0,
+    order: &[0],
+    sizes: &[1],
+    parents: &[65535],
+    column_starts: &[0, 0],
+    rows: &[],
+};
+
 // Lists that are too short or longer than needed, wrong column starts, and little room.
 fn unwritten(rt: &impl Print) -> io::Result<()> {
-    let rows = [1, 4, 3, 4, 4];
-    write_lent(rt, 71, 1, 1, 1, 0, &[0], &[1], &[65535], &[0, 0], &[], 28)?;
-    write_path(rt, 72, &[0, 1, 3, 4, 2], &[0, 1, 2, 4, 5], &rows, 61)?;
-    write_path(
-        rt,
-        73,
-        &[0, 1, 3, 4, 2],
-        &[0, 1, 2, 4, 5, 5],
-        &[1, 4, 3, 4],
-        61,
-    )?;
-    write_path(
-        rt,
-        74,
-        &[0, 1, 3, 4, 2, 0],
-        &[0, 1, 2, 4, 5, 5, 9],
-        &[1, 4, 3, 4, 4, 0],
-        63,
-    )?;
-    write_path(rt, 75, &[0, 1, 3, 4, 2], &[1, 1, 2, 4, 5, 5], &rows, 61)?;
-    write_path(rt, 76, &[0, 1, 3, 4, 2], &[0, 1, 2, 4, 5, 6], &rows, 61)?;
-    write_path(rt, 77, &[0, 1, 3, 4, 2], &[0, 2, 1, 4, 5, 5], &rows, 61)?;
-    write_path(rt, 78, &[0, 1, 3, 4, 2], &[0, 1, 2, 4, 5, 5], &rows, 60)?;
-    write_path(rt, 79, &[0, 1, 3, 4, 4], &[0, 1, 2, 4, 5, 5], &rows, 0)
+    write_lent(rt, 71, SINGLE, 28)?;
+    write_lent(rt, 72, with_starts(&[0, 1, 2, 4, 5]), 61)?;
+    write_lent(rt, 73, with_rows(&[1, 4, 3, 4]), 61)?;
+    write_lent(rt, 74, LONGER, 63)?;
+    write_lent(rt, 75, with_starts(&[1, 1, 2, 4, 5, 5]), 61)?;
+    write_lent(rt, 76, with_starts(&[0, 1, 2, 4, 5, 6]), 61)?;
+    write_lent(rt, 77, with_starts(&[0, 2, 1, 4, 5, 5]), 61)?;
+    write_lent(rt, 78, PATH, 60)?;
+    write_lent(rt, 79, with_order(&[0, 1, 3, 4, 4]), 0)
 }
 
 pub(crate) fn all(rt: &impl Print) -> io::Result<()> {

@@ -1,38 +1,28 @@
 // Lists of 26 entries, the most that a node may have, and of 27.
-use crate::plan_lists;
-use meshes::{first16, first32, star};
+use crate::{lent, plan_lists};
+use meshes::{first, star};
 use std::io;
 
-// A star whose leaves are all nodes but node 0, planned into buffers of this length, and rows of their length.
+// A star whose leaves are all nodes but node 0, planned into results of this length, and rows of their length.
 fn plan_star(rt: &impl Print, title: u8, leaves: u8, length: u8, slots: usize) -> io::Result<()> {
     let c = star(leaves);
-    let starts = c.starts;
-    let neighbours = c.neighbours;
-    let entries = c.entry_count;
-    let size = leaves as usize + 1;
-    plan_lists(
-        rt,
-        title,
-        size,
-        first32(&starts, size + 1),
-        first16(&neighbours, entries),
-        length,
-        slots,
-    )
+    let m = c.mesh();
+    let mesh = lent(m.nodes, m.starts, m.entries);
+    plan_lists(rt, title, mesh, length, slots)
 }
 
-// 28 nodes of which the first has a list, and no other, planned into buffers that are too short.
+// 28 nodes of which the first has a list, and no other, planned into results that are too short.
 fn plan_first(rt: &impl Print, title: u8, list: &[u16]) -> io::Result<()> {
     let mut starts = [(list.len() % 65536) as u32; 29];
     starts[0] = 0;
-    plan_lists(rt, title, 28, &starts, list, 2, 1)
+    plan_lists(rt, title, lent(28, &starts, list), 2, 1)
 }
 
 // 29 nodes of which the last has a list, and no other, planned likewise.
 fn plan_last(rt: &impl Print, title: u8, list: &[u16]) -> io::Result<()> {
     let mut starts = [0u32; 30];
     starts[29] = (list.len() % 65536) as u32;
-    plan_lists(rt, title, 29, &starts, list, 2, 1)
+    plan_lists(rt, title, lent(29, &starts, list), 2, 1)
 }
 
 // The list of a star's centre, and others that begin like it, as the first node's alone: 26 comes after 4 and 6, before 7, and all of them before 8.
@@ -44,10 +34,10 @@ fn first_lists(rt: &impl Print) -> io::Result<()> {
     outside[26] = 28;
     swapped[0] = 2;
     swapped[1] = 1;
-    plan_first(rt, 103, first16(&outside, 27))?;
-    plan_first(rt, 104, first16(&swapped, 27))?;
-    plan_first(rt, 105, first16(&ascending, 27))?;
-    plan_first(rt, 106, first16(&ascending, 26))
+    plan_first(rt, 103, first(&outside, 27))?;
+    plan_first(rt, 104, first(&swapped, 27))?;
+    plan_first(rt, 105, first(&ascending, 27))?;
+    plan_first(rt, 106, first(&ascending, 26))
 }
 
 // The same as the last node's alone: 26 comes after 5 and before 7.
@@ -56,9 +46,9 @@ fn last_lists(rt: &impl Print) -> io::Result<()> {
     let ascending = c.neighbours;
     let mut itself = c.neighbours;
     itself[26] = 28;
-    plan_last(rt, 107, first16(&itself, 27))?;
-    plan_last(rt, 108, first16(&ascending, 27))?;
-    plan_last(rt, 109, first16(&ascending, 26))
+    plan_last(rt, 107, first(&itself, 27))?;
+    plan_last(rt, 108, first(&ascending, 27))?;
+    plan_last(rt, 109, first(&ascending, 26))
 }
 
 pub(crate) fn all(rt: &impl Print) -> io::Result<()> {

@@ -7,104 +7,77 @@
 mod files;
 mod long_lists;
 mod questions;
+mod results;
 mod row_faults;
 mod show;
 mod slots;
 mod versions;
 
-use crate::show::{print_answer, print_buffers, print_family, print_title};
-use meshes::{first16, first32, from_edges, front16, front32};
+use crate::results::{Results, room};
+use crate::show::{print_answer, print_entries, print_family, print_results, print_title};
+use mesh::LentMesh;
+use meshes::{first, from_edges, front};
+use naive::Room;
 use plan::Plan;
 use std::io;
 
-// A mesh planned with so many unknowns for each node into four buffers of `length` entries, column starts of `columns` and rows of `slots`.
-fn plan_lent(
-    rt: &impl Print,
-    unknowns: usize,
-    n: usize,
-    starts: &[u32],
-    neighbours: &[u16],
-    length: usize,
-    columns: usize,
-    slots: usize,
-) -> io::Result<()> {
-    let mut order = [60000u16; 32];
-    let mut positions = [60000u16; 32];
-    let mut sizes = [60000u16; 32];
-    let mut parents = [60000u16; 32];
-    let mut column_starts = [60000u32; 32];
-    let mut rows = [60000u16; 32];
-    let answer = planner::plan(
-        unknowns,
-        n,
+// A mesh by its lists.
+pub(crate) fn lent<'a>(nodes: usize, starts: &'a [u32], neighbours: &'a [u16]) -> LentMesh<'a> {
+    LentMesh {
+        nodes,
         starts,
         neighbours,
-        front16(&mut order, length),
-        front16(&mut positions, length),
-        front16(&mut sizes, length),
-        front16(&mut parents, length),
-        front32(&mut column_starts, columns),
-        front16(&mut rows, slots),
-    );
-    print_answer(rt, answer)?;
-    print_buffers(
-        rt,
-        first16(&order, length),
-        first16(&positions, length),
-        first16(&sizes, length),
-        first16(&parents, length),
-        first32(&column_starts, columns),
-        first16(&rows, slots),
-    )
+    }
 }
 
-// A mesh of n nodes by its edges, planned into buffers of n + 1 entries, n + 2 for the columns, and rows of this length.
+// A mesh planned with so many unknowns for each node into results of these lengths.
+fn plan_lent(rt: &impl Print, unknowns: usize, mesh: &LentMesh, room: Room) -> io::Result<()> {
+    let mut results = Results::new();
+    let answer = planner::plan(
+        unknowns,
+        mesh,
+        front(&mut results.order, room.order),
+        front(&mut results.positions, room.positions),
+        front(&mut results.sizes, room.sizes),
+        front(&mut results.parents, room.parents),
+        front(&mut results.column_starts, room.column_starts),
+        front(&mut results.rows, room.rows),
+    );
+    print_answer(rt, answer)?;
+    print_results(rt, &results, room)
+}
+
+// A mesh of n nodes by its edges, planned into results of n + 1 entries, one more for the columns, and rows of this length.
 fn plan_edges(rt: &impl Print, title: u8, n: u8, edges: &[u8], slots: usize) -> io::Result<()> {
     print_title(rt, title)?;
     let c = from_edges(n, edges);
-    let starts = c.starts;
-    let neighbours = c.neighbours;
-    let entries = c.entry_count;
-    let size = n as usize;
-    plan_lent(
-        rt,
-        1,
-        size,
-        first32(&starts, size + 1),
-        first16(&neighbours, entries),
-        size + 1,
-        size + 2,
-        slots,
-    )
+    let m = c.mesh();
+    let mesh = lent(m.nodes, m.starts, m.entries);
+    plan_lent(rt, 1, &mesh, room(n.saturating_add(1), slots))
 }
 
-// Any lists of n nodes with so many unknowns each, planned into buffers of this length, one more for the columns, and rows of their length.
+// A mesh with so many unknowns for each node, planned into results of this length, one more for the columns, and rows of their length.
 pub(crate) fn plan_unknowns(
     rt: &impl Print,
     title: u8,
     unknowns: usize,
-    n: usize,
-    starts: &[u32],
-    neighbours: &[u16],
+    mesh: LentMesh,
     length: u8,
     slots: usize,
 ) -> io::Result<()> {
     print_title(rt, title)?;
-    let size = length as usize;
-    plan_lent(rt, unknowns, n, starts, neighbours, size, size + 1, slots)
+    plan_lent(rt, unknowns, &mesh, room(length, slots))
 }
 
-// Such lists with one unknown for each node.
+// A mesh with one unknown for each node.
 pub(crate) fn plan_lists(
     rt: &impl Print,
     title: u8,
-    n: usize,
-    starts: &[u32],
-    neighbours: &[u16],
+    mesh: LentMesh,
     length: u8,
     slots: usize,
 ) -> io::Result<()> {
-    plan_unknowns(rt, title, 1, n, starts, neighbours, length, slots)
+    plan_unknowns(rt, title, 1, mesh, length, slots)
 }
 
 // n nodes without entries: the answer, the last entries of each buffer and the entry behind them.
@@ -119,9 +92,7 @@ fn plan_bare(rt: &impl Print, title: u8, n: usize) -> io::Result<()> {
     let mut rows = [60000u16; 1];
     let answer = planner::plan(
         1,
-        n,
-        first32(&starts, n % (Plan::NODES + 2) + 1),
-        &[],
+        &lent(n, first(&starts, n % (Plan::NODES + 2) + 1), &[]),
         &mut order,
         &mut positions,
         &mut sizes,
@@ -130,15 +101,12 @@ fn plan_bare(rt: &impl Print, title: u8, n: usize) -> io::Result<()> {
         &mut rows,
     );
     print_answer(rt, answer)?;
-    print_buffers(
-        rt,
-        &order[Plan::NODES - 2..Plan::NODES + 1],
-        &positions[Plan::NODES - 2..Plan::NODES + 1],
-        &sizes[Plan::NODES - 2..Plan::NODES + 1],
-        &parents[Plan::NODES - 2..Plan::NODES + 1],
-        &column_starts[Plan::NODES - 1..Plan::NODES + 2],
-        &rows,
-    )
+    print_entries(rt, &order[Plan::NODES - 2..])?;
+    print_entries(rt, &positions[Plan::NODES - 2..])?;
+    print_entries(rt, &sizes[Plan::NODES - 2..])?;
+    print_entries(rt, &parents[Plan::NODES - 2..])?;
+    print_entries(rt, &column_starts[Plan::NODES - 1..])?;
+    print_entries(rt, &rows)
 }
 
 // "Meshes worked through", 1 to 9 and 13.
@@ -150,9 +118,9 @@ fn worked(rt: &impl Print) -> io::Result<()> {
     plan_edges(rt, 4, 5, &[0, 1, 1, 2, 2, 3, 3, 4], 6)?;
     plan_edges(rt, 5, 4, &[0, 1, 1, 2, 2, 3, 0, 3], 6)?;
     plan_edges(rt, 6, 4, &[0, 1, 0, 2, 0, 3], 4)?;
-    plan_lists(rt, 7, 0, &[0], &[], 2, 1)?;
-    plan_lists(rt, 8, 2, &[0, 1, 1], &[1], 3, 1)?;
-    plan_lists(rt, 9, 2, &[0, 2, 2], &[5, 0], 3, 1)?;
+    plan_lists(rt, 7, lent(0, &[0], &[]), 2, 1)?;
+    plan_lists(rt, 8, lent(2, &[0, 1, 1], &[1]), 3, 1)?;
+    plan_lists(rt, 9, lent(2, &[0, 2, 2], &[5, 0]), 3, 1)?;
     plan_bare(rt, 13, Plan::NODES)?;
     plan_bare(rt, 13, Plan::NODES + 1)
 }
@@ -236,13 +204,13 @@ fn telling_deep_degrees(rt: &impl Print) -> io::Result<()> {
 
 // Lists with two faults, or with buffers that are too short, that tell the order of the checks.
 fn refused(rt: &impl Print) -> io::Result<()> {
-    plan_lists(rt, 41, 0, &[], &[], 2, 1)?;
-    plan_lists(rt, 42, 3, &[0, 0, 0], &[], 4, 1)?;
-    plan_lists(rt, 43, 2, &[0, 2, 2], &[1, 0], 3, 1)?;
-    plan_lists(rt, 44, 3, &[0, 2, 2, 2], &[2, 1], 4, 1)?;
-    plan_lists(rt, 45, 2, &[0, 1, 2], &[0, 2], 3, 1)?;
-    plan_lists(rt, 46, 2, &[0, 1, 2], &[1, 0], 1, 0)?;
-    plan_lists(rt, 47, 2, &[0, 1, 2], &[1, 0], 2, 0)
+    plan_lists(rt, 41, lent(0, &[], &[]), 2, 1)?;
+    plan_lists(rt, 42, lent(3, &[0, 0, 0], &[]), 4, 1)?;
+    plan_lists(rt, 43, lent(2, &[0, 2, 2], &[1, 0]), 3, 1)?;
+    plan_lists(rt, 44, lent(3, &[0, 2, 2, 2], &[2, 1]), 4, 1)?;
+    plan_lists(rt, 45, lent(2, &[0, 1, 2], &[0, 2]), 3, 1)?;
+    plan_lists(rt, 46, lent(2, &[0, 1, 2], &[1, 0]), 1, 0)?;
+    plan_lists(rt, 47, lent(2, &[0, 1, 2], &[1, 0]), 2, 0)
 }
 
 // A mesh that tells the order of the candidates. If they came by their own numbers, or if the last level's components were joined through the region,
@@ -260,17 +228,10 @@ fn telling_candidates(rt: &impl Print) -> io::Result<()> {
 // The families of refusals: numbers at both ends of each range, and just outside.
 fn families(rt: &impl Print) -> io::Result<()> {
     print_title(rt, 91)?;
-    print_family(rt, 0)?;
-    print_family(rt, 1)?;
-    print_family(rt, 9)?;
-    print_family(rt, 10)?;
-    print_family(rt, 19)?;
-    print_family(rt, 20)?;
-    print_family(rt, 21)?;
-    print_family(rt, 22)?;
-    print_family(rt, 23)?;
-    print_family(rt, 27)?;
-    print_family(rt, 28)
+    for number in [0, 1, 9, 10, 19, 20, 21, 22, 23, 27, 28] {
+        print_family(rt, number)?;
+    }
+    Ok(())
 }
 
 fn main(rt: HostRuntime) -> io::Result<()> {

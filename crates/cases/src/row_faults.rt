@@ -1,5 +1,7 @@
 // Files and lists whose rows break 17, 18 or both, in one column or in two: 17 is answered wherever it stands.
-use crate::files::{changed, path_file, read_first, read_lent, write_lent, write_path};
+use crate::files::{changed, path_file, read_first, read_lent, with_rows, write_lent};
+use crate::results::room;
+use planfile::LentPlan;
 use std::io;
 
 // A file of 57 bytes and five more: four nodes, each a part. The parents of parts 0, 1 and 2 are 2, 3 and 3, so part 1, which is not below part 2,
@@ -9,31 +11,48 @@ fn branches_file() -> [u8; 62] {
     *b"NDP\x02\0\x01\0\x04\0\0\0\x04\0\0\0\x03\0\0\0\x03\0\x01\0\0\0\x02\0\x01\0\x02\0\x01\0\x03\0\x01\0\x03\0\x01\0\xff\xff\x01\0\x01\0\x01\0\0\0\x02\0\x03\0\x03\0\0\0\0\0\0"
 }
 
+// The plan of that file.
+const BRANCHES: LentPlan<'static> = LentPlan {
+    unknowns: 1,
+    nodes: 4,
+    parts: 4,
+    slots: 3,
+    order: &[3, 1, 0, 2],
+    sizes: &[1, 1, 1, 1],
+    parents: &[2, 3, 3, 65535],
+    column_starts: &[0, 1, 2, 3, 3],
+    rows: &[2, 3, 3],
+};
+
 // The same parts with these lists, written.
-fn write_branches(
+fn write_branches<'a>(
     rt: &impl Print,
     title: u8,
-    parents: &[u16],
-    column_starts: &[u32],
-    rows: &[u16],
+    parents: &'a [u16],
+    column_starts: &'a [u32],
+    rows: &'a [u16],
 ) -> io::Result<()> {
-    let order = [3, 1, 0, 2];
-    let sizes = [1, 1, 1, 1];
-    write_lent(
-        rt,
-        title,
-        1,
-        4,
-        4,
-        3,
-        &order,
-        &sizes,
+    let plan = LentPlan {
         parents,
         column_starts,
         rows,
-        57,
-    )
+        ..BRANCHES
+    };
+    write_lent(rt, title, plan, 57)
 }
+
+// A plan of one part of two nodes with a row that is no position.
+const BEYOND: LentPlan<'static> = LentPlan {
+    unknowns: 1,
+    nodes: 2,
+    parts: 1,
+    slots: 1,
+    order: &[0, 1],
+    sizes: &[2],
+    parents: &[65535],
+    column_starts: &[0, 1, 1],
+    rows: &[7],
+};
 
 // One part of two nodes, and row 7 in column 0.
 fn beyond(rt: &impl Print) -> io::Result<()> {
@@ -41,22 +60,9 @@ fn beyond(rt: &impl Print) -> io::Result<()> {
         rt,
         131,
         b"NDP\x02\0\x01\0\x02\0\0\0\x01\0\0\0\x01\0\0\0\0\0\x01\0\x02\0\xff\xff\x01\0\0\0\x07\0",
-        [3, 3, 3, 3, 4, 2],
+        room(3, 2),
     )?;
-    write_lent(
-        rt,
-        131,
-        1,
-        2,
-        1,
-        1,
-        &[0, 1],
-        &[2],
-        &[65535],
-        &[0, 1, 1],
-        &[7],
-        33,
-    )
+    write_lent(rt, 131, BEYOND, 33)
 }
 
 // The file above as it is; then a fault of 18 alone, in the first column, the middle one and the last one that has a row.
@@ -107,16 +113,14 @@ fn outside_unsorted(rt: &impl Print) -> io::Result<()> {
 // Mesh 4: 18 in column 0 and 17 in column 3, 17 in column 0 and 18 in column 1, 18 in both, and row 3 twice in column 2.
 fn of_path(rt: &impl Print) -> io::Result<()> {
     let f = path_file();
-    let order = [0, 1, 3, 4, 2];
-    let starts = [0, 1, 2, 4, 5, 5];
     read_first(rt, 142, changed(changed(f, 51, 2), 59, 5), 61)?;
-    write_path(rt, 142, &order, &starts, &[2, 4, 3, 4, 5], 61)?;
+    write_lent(rt, 142, with_rows(&[2, 4, 3, 4, 5]), 61)?;
     read_first(rt, 143, changed(changed(f, 51, 5), 53, 3), 61)?;
-    write_path(rt, 143, &order, &starts, &[5, 3, 3, 4, 4], 61)?;
+    write_lent(rt, 143, with_rows(&[5, 3, 3, 4, 4]), 61)?;
     read_first(rt, 144, changed(changed(f, 51, 2), 53, 3), 61)?;
-    write_path(rt, 144, &order, &starts, &[2, 3, 3, 4, 4], 61)?;
+    write_lent(rt, 144, with_rows(&[2, 3, 3, 4, 4]), 61)?;
     read_first(rt, 145, changed(f, 57, 3), 61)?;
-    write_path(rt, 145, &order, &starts, &[1, 4, 3, 3, 4], 61)
+    write_lent(rt, 145, with_rows(&[1, 4, 3, 3, 4]), 61)
 }
 
 pub(crate) fn all(rt: &impl Print) -> io::Result<()> {

@@ -1,16 +1,26 @@
 // Versions of the file and numbers of unknowns for each node that tell misreadings apart. Where nothing else is said the plan is that of mesh 4.
 use crate::files::{
-    changed, path_file, path_file_1, read_first, read_lent, write_lent, write_unknowns,
+    PATH, changed, path_file, path_file_1, read_first, read_lent, with_order, write_lent,
 };
-use crate::plan_unknowns;
-use meshes::first8;
+use crate::results::room;
+use crate::{lent, plan_unknowns};
+use meshes::first;
+use naive::Room;
+use planfile::LentPlan;
 use std::io;
 
 // Mesh 4 with so many unknowns for each node, planned into buffers of this length.
 fn plan_path(rt: &impl Print, title: u8, unknowns: usize, length: u8) -> io::Result<()> {
     let starts = [0, 1, 3, 5, 7, 8];
     let neighbours = [1, 0, 2, 1, 3, 2, 4, 3];
-    plan_unknowns(rt, title, unknowns, 5, &starts, &neighbours, length, 6)
+    plan_unknowns(
+        rt,
+        title,
+        unknowns,
+        lent(5, &starts, &neighbours),
+        length,
+        6,
+    )
 }
 
 // A version behind the letters, and zeros.
@@ -31,26 +41,47 @@ fn planned(rt: &impl Print) -> io::Result<()> {
     plan_path(rt, 152, 65537, 6)?;
     plan_path(rt, 152, 4294967297, 6)?;
     plan_path(rt, 153, 0, 4)?;
-    plan_unknowns(rt, 153, 0, 0, &[0], &[], 2, 1)?;
-    plan_unknowns(rt, 153, 7, 4097, &[], &[], 2, 1)?;
-    plan_unknowns(rt, 154, 6, 0, &[0], &[], 2, 1)
+    plan_unknowns(rt, 153, 0, lent(0, &[0], &[]), 2, 1)?;
+    plan_unknowns(rt, 153, 7, lent(4097, &[], &[]), 2, 1)?;
+    plan_unknowns(rt, 154, 6, lent(0, &[0], &[]), 2, 1)
 }
+
+// A plan with so many unknowns for each node, written.
+fn write_unknowns(
+    rt: &impl Print,
+    title: u8,
+    unknowns: usize,
+    plan: LentPlan,
+    length: usize,
+) -> io::Result<()> {
+    write_lent(rt, title, LentPlan { unknowns, ..plan }, length)
+}
+
+// A plan of nothing.
+const EMPTY: LentPlan<'static> = LentPlan {
+    unknowns: 0,
+    nodes: 0,
+    parts: 0,
+    slots: 0,
+    order: &[],
+    sizes: &[],
+    parents: &[],
+    column_starts: &[],
+    rows: &[],
+};
 
 // 28 comes before 13, for wrong numbers and for short lists, and before 15 and 8.
 fn written(rt: &impl Print) -> io::Result<()> {
-    let order = [0, 1, 3, 4, 2];
-    let starts = [0, 1, 2, 4, 5, 5];
-    let rows = [1, 4, 3, 4, 4];
-    write_unknowns(rt, 155, 6, &order, &starts, &rows, 63)?;
-    write_unknowns(rt, 156, 0, &order, &starts, &rows, 61)?;
-    write_unknowns(rt, 156, 7, &order, &starts, &rows, 61)?;
-    write_unknowns(rt, 156, 65537, &order, &starts, &rows, 61)?;
-    write_unknowns(rt, 156, 4294967297, &order, &starts, &rows, 61)?;
-    write_lent(rt, 157, 0, 0, 0, 0, &[], &[], &[], &[], &[], 19)?;
-    write_unknowns(rt, 157, 7, &[0, 1, 3, 4], &starts, &rows, 61)?;
-    write_unknowns(rt, 157, 7, &[0, 1, 3, 4, 4], &starts, &rows, 60)?;
-    write_lent(rt, 158, 6, 0, 0, 0, &[], &[], &[], &[], &[], 19)?;
-    write_unknowns(rt, 158, 6, &[0, 1, 3, 4], &starts, &rows, 61)
+    write_unknowns(rt, 155, 6, PATH, 63)?;
+    write_unknowns(rt, 156, 0, PATH, 61)?;
+    write_unknowns(rt, 156, 7, PATH, 61)?;
+    write_unknowns(rt, 156, 65537, PATH, 61)?;
+    write_unknowns(rt, 156, 4294967297, PATH, 61)?;
+    write_unknowns(rt, 157, 0, EMPTY, 19)?;
+    write_unknowns(rt, 157, 7, with_order(&[0, 1, 3, 4]), 61)?;
+    write_unknowns(rt, 157, 7, with_order(&[0, 1, 3, 4, 4]), 60)?;
+    write_unknowns(rt, 158, 6, EMPTY, 19)?;
+    write_unknowns(rt, 158, 6, with_order(&[0, 1, 3, 4]), 61)
 }
 
 // Files of version 2: numbers of unknowns; 28 comes before 13, 14 and 15.
@@ -114,8 +145,16 @@ fn older_files(rt: &impl Print) -> io::Result<()> {
 // Such a file read into buffers that are too short.
 fn short_buffers(rt: &impl Print) -> io::Result<()> {
     let f = path_file_1();
-    read_lent(rt, 175, first8(&f, 59), [5, 4, 5, 5, 6, 5])?;
-    read_lent(rt, 175, first8(&f, 59), [5, 5, 5, 5, 6, 4])
+    read_lent(
+        rt,
+        175,
+        first(&f, 59),
+        Room {
+            positions: 4,
+            ..room(5, 5)
+        },
+    )?;
+    read_lent(rt, 175, first(&f, 59), room(5, 4))
 }
 
 pub(crate) fn all(rt: &impl Print) -> io::Result<()> {
