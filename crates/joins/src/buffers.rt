@@ -32,9 +32,7 @@ fn wanted<T: Stale + Copy>(want: &[T], used: usize, i: usize) -> T {
 }
 
 pub(crate) fn holds<T: Stale + Copy + PartialEq>(list: &[T], want: &[T], used: usize) -> bool {
-    let mut same = true;
-    for (i, entry) in list.iter().enumerate() {
-        same = same & (*entry == wanted(want, used, i));
-    }
-    same
+    list.iter()
+        .enumerate()
+        .all(|(i, entry)| *entry == wanted(want, used, i))
 }

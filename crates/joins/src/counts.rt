@@ -1,10 +1,18 @@
 // How often each answer was met, and how often the proved joining and the naive one differed.
-use naive::NaiveMesh;
+use naive::{NaiveMesh, Refused};
 use std::io;
 use tally::{Notes, Tally};
 
 // One more than the greatest refusal.
 const ANSWERS: usize = 34;
+
+// The naive answer to a comparison, whether that is as known, and whether both answered and left the same.
+#[derive(Clone, Copy)]
+pub(crate) struct Outcome {
+    pub(crate) answer: Result<NaiveMesh, Refused>,
+    pub(crate) as_known: bool,
+    pub(crate) same: bool,
+}
 
 // `answers` has a count for each refusal, and at 0 for the joined meshes. `group` is which of the program's parts is run, and `turn` how many
 // comparisons were made in it: they tell where a difference is.
@@ -35,11 +43,12 @@ impl Counts {
         self.turn = 0;
     }
 
-    // One more comparison: the naive answer, whether that is as known, and whether both answered and left the same.
-    pub(crate) fn count(&mut self, answer: NaiveMesh, as_known: bool, same: bool) {
+    // One more comparison.
+    pub(crate) fn count(&mut self, o: Outcome) {
         self.turn = self.turn.saturating_add(1);
-        self.answers.raise(answer.refusal as usize);
-        if !as_known {
+        let number = o.answer.err().map_or(0, |refusal| refusal.0);
+        self.answers.raise(number as usize);
+        if !o.as_known {
             self.notes.failed(
                 &mut self.not_as_known,
                 "different",
@@ -48,7 +57,7 @@ impl Counts {
                 self.turn,
             );
         }
-        if !same {
+        if !o.same {
             self.notes.failed(
                 &mut self.different,
                 "different",

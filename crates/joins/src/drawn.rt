@@ -5,6 +5,7 @@ use crate::made::put_case;
 use crate::pairs::{Fault, Kind, Order, put_pairs};
 use crate::trial::{try_joined, try_without_room};
 use meshes::{Case, damaged, draw, drawn};
+use naive::Refused;
 
 // How many pairs: none, one, as many as can be, or any number.
 fn count(seed: u64, most: usize) -> usize {
@@ -59,8 +60,8 @@ fn try_itself(c: &mut Counts, lists: &mut Lists, a: &Case) {
     let mesh1 = put_case(lists, Side::First, a);
     let mesh2 = put_case(lists, Side::Second, a);
     put_pairs(lists, Order::own(a.n), Order::own(a.n), a.n % 128);
-    let answer = try_without_room(c, &Lent::new(mesh1, mesh2, a.n, Known::Any), lists);
-    if answer.refusal == 8 {
+    let o = try_without_room(c, &Lent::new(mesh1, mesh2, a.n, Known::Any), lists);
+    if let Err(Refused(8)) = o.answer {
         try_joined(c, &Lent::new(mesh1, mesh2, a.n, Known::Itself), lists);
     }
 }

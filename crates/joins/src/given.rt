@@ -1,6 +1,6 @@
 // Small meshes and pairs whose answers are known: paths end to end, with the joined mesh written out, and stars whose centres are paired.
 use crate::buffers::{holds, put_stale};
-use crate::counts::Counts;
+use crate::counts::{Counts, Outcome};
 use crate::lent::{Known, Lent, Lists, Side};
 use crate::made::put_case;
 use crate::pairs::{Order, put_pairs};
@@ -57,9 +57,11 @@ fn leaves(l: &Lent, lists: &Lists, starts: &[u32], neighbours: &[u16]) -> bool {
     let mut left = [0u16; 20];
     put_stale(&mut left_starts);
     put_stale(&mut left);
-    let a = join(l, lists, &mut left_starts, &mut left);
-    a.nodes % 65536 + 1 == starts.len()
-        && a.entries == neighbours.len()
+    let Ok(a) = join(l, lists, &mut left_starts, &mut left) else {
+        return false;
+    };
+    a.nodes as usize + 1 == starts.len()
+        && a.entries as usize == neighbours.len()
         && holds(&left_starts, starts, starts.len())
         && holds(&left, neighbours, neighbours.len())
 }
@@ -70,12 +72,12 @@ fn try_path(c: &mut Counts, lists: &mut Lists, path: &Joined) {
     lists.put_nodes(Side::First.pairs_at(), path.first);
     lists.put_nodes(Side::Second.pairs_at(), path.second);
     let l = Lent::new(mesh1, mesh2, path.first.len(), Known::Mesh);
-    let answer = try_joined(c, &l, lists);
-    c.count(
-        answer,
-        leaves(&l, lists, path.starts, path.neighbours),
-        true,
-    );
+    let o = try_joined(c, &l, lists);
+    c.count(Outcome {
+        as_known: leaves(&l, lists, path.starts, path.neighbours),
+        same: true,
+        ..o
+    });
 }
 
 fn all_paths(c: &mut Counts, lists: &mut Lists) {

@@ -1,5 +1,7 @@
 // What joining is lent. The lists stand in two buffers: both meshes' starts in one, both meshes' neighbours and the pairs' two lists in the other.
 
+use naive::{NodeLists, NodePairs};
+
 // How long the buffers are.
 const STARTS_LENT: usize = 8400;
 
@@ -84,17 +86,21 @@ impl Lists {
         self.nodes.get(at).map_or(0, |x| usize::from(*x))
     }
 
-    // The lists that are lent of a mesh, and of its nodes that are paired.
-    pub(crate) fn starts_of(&self, side: Side, mesh: Mesh) -> &[u32] {
-        part(&self.starts, side.starts_at(), mesh.starts)
+    // The mesh that is lent.
+    pub(crate) fn mesh<'a>(&'a self, side: Side, mesh: Mesh) -> NodeLists<'a> {
+        NodeLists {
+            nodes: mesh.n,
+            starts: part(&self.starts, side.starts_at(), mesh.starts),
+            entries: part(&self.nodes, side.neighbours_at(), mesh.entries),
+        }
     }
 
-    pub(crate) fn neighbours_of(&self, side: Side, mesh: Mesh) -> &[u16] {
-        part(&self.nodes, side.neighbours_at(), mesh.entries)
-    }
-
-    pub(crate) fn paired(&self, side: Side, count: usize) -> &[u16] {
-        part(&self.nodes, side.pairs_at(), count)
+    // The pairs that are lent.
+    pub(crate) fn pairs<'a>(&'a self, l: &Lent) -> NodePairs<'a> {
+        NodePairs {
+            first: part(&self.nodes, Side::First.pairs_at(), l.first),
+            second: part(&self.nodes, Side::Second.pairs_at(), l.second),
+        }
     }
 }
 

@@ -1,11 +1,17 @@
 // Meshes put into the lent buffers: cases of the crate `meshes`, and rings.
 use crate::lent::{Lists, Mesh, Side};
-use meshes::{Case, first16, first32, more};
+use meshes::{Case, more};
+use naive::NodeLists;
 
 // Puts a case as the first or the second mesh.
 pub(crate) fn put_case(lists: &mut Lists, side: Side, c: &Case) -> Mesh {
-    lists.put_starts(side.starts_at(), first32(&c.starts, c.start_count));
-    lists.put_nodes(side.neighbours_at(), first16(&c.neighbours, c.entry_count));
+    let NodeLists {
+        starts,
+        entries,
+        ..
+    } = c.mesh();
+    lists.put_starts(side.starts_at(), starts);
+    lists.put_nodes(side.neighbours_at(), entries);
     Mesh {
         n: c.n,
         starts: c.start_count,
