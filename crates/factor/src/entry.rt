@@ -18,7 +18,7 @@ pub(crate) fn bad_filling(n: usize, s: usize, diagonal: &[f64], values: &[f64]) 
 }
 
 // The checks before the first column: 28, 13, 15 to 19, 29 and 30. O(4,096 + slots + the first rows' columns).
-#[tactic(auto, using(crate::proofs::Checks::plan_passed), unfolding(plan::specs::Refusals::first_fault, plan::specs::Factoring::many_unknowns))]
+#[tactic(auto, using(crate::proofs::Checks::plan_refused, crate::proofs::Checks::plan_passed), unfolding(plan::specs::Refusals::first_fault, plan::specs::Factoring::many_unknowns))]
 pub(crate) fn check(plan: &LentPlan, diagonal: &[f64], values: &[f64]) -> Result<(), Refusal>
     ensures { fault_of result ≡ first_fault (factor_checks (contents_of plan.now) (record { diagonal = diagonal.now; values = values.now })) }
 {
@@ -34,6 +34,7 @@ pub(crate) fn check(plan: &LentPlan, diagonal: &[f64], values: &[f64]) -> Result
 
 // Factoring: checks 28, 13, 15 to 19, 29 and 30 in this order, then the columns in both buffers, up to the first pivot that is refused (31).
 // O(4,096 + multiplications + rows of the columns of all rows).
+#[tactic(auto, using(crate::proofs::Checks::factor_refused))]
 pub fn factor(plan: &LentPlan, diagonal: &mut [f64], values: &mut [f64]) -> Result<Report, Refusal>
     ensures { Factored (contents_of plan.now) result
         (record { diagonal = diagonal.old; values = values.old })

@@ -20,7 +20,7 @@ fn bad_pivot(pivots: &[f64]) -> bool
 }
 
 // The checks before the passes: those of factoring, the vector's length, and the pivots. O(4,096 + slots + the first rows' columns).
-#[tactic(auto, using(crate::proofs::SolveChecks::factor_passed_first), unfolding(plan::specs::Refusals::first_fault, plan::specs::Solving::bad_vector))]
+#[tactic(auto, using(crate::proofs::SolveChecks::factor_refused_first, crate::proofs::SolveChecks::factor_passed_first), unfolding(plan::specs::Refusals::first_fault, plan::specs::Solving::bad_vector))]
 fn check_all(
     plan: &LentPlan,
     diagonal: &[f64],
