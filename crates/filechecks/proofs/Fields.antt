@@ -1,12 +1,15 @@
 -- What checks 13, 15 and 16 look at in a plan, and what checks 10 and 12 tell of a file's length.
 use mathlib.Core.Path.{◌≡◌, refl, sym}
 use mathlib.Core.Bool.{Bool, true, false, cond, not, ◌&&◌, ◌||◌, false≢true}
-use mathlib.Core.List.{List}
+use mathlib.Core.List.{List, [], ◌∷◌}
 use Prim.Native.Nat.{ℕ, ◌+◌, ◌*◌, ◌≤◌}
 use native.Mathlib.Omega.{arith}
 use lib.Dec.{ltb, eqb}
 use lib.ListN.{length}
 use borrow.Author.Tests.{ltb-false}
+use Rattle.std.specs.Prelude.{sum}
+use Rattle.std.specs.List.{fold}
+use Rattle.plan.specs.Lists.{total}
 use Rattle.plan.specs.Refusals.{first_fault}
 use Rattle.plan.specs.Planning.{Contents}
 use Rattle.plan.specs.File.{version_of, nodes_at, length_at, length_in, parse, Whole, bad_header, bad_order, bad_parts}
@@ -47,3 +50,11 @@ head_inside bytes long known many = go (eqb (version_of bytes) 1) (eqb (version_
     go true two h k = long
     go false true h k = ltb-false (length bytes) 19 k
     go false false h k = absurd (false≢true (sym h))
+
+-- the book's total is the library's sum, which adds from the front
+added : (a : ℕ) (l : List ℕ) → a + total l ≡ fold ◌+◌ a l
+added a [] = omega arith
+added a (x ∷ xs) = omega (arith, added (a + x) xs)
+
+pub total_sum : (l : List ℕ) → total l ≡ sum l
+total_sum l = omega (arith, added 0 l)

@@ -1,6 +1,6 @@
 // Checks 15 and 16: the order is each node once, and sizes and parents make a tree of parts.
-ghost use Rattle.std.specs.Prelude.{◌≡◌, not, [], ◌≤◌, length, get_or};
-ghost use Rattle.plan.specs.Lists.{exists, below, each_once, total};
+ghost use Rattle.std.specs.Prelude.{◌≡◌, not, [], ◌≤◌, length, get_or, sum};
+ghost use Rattle.plan.specs.Lists.{exists, below, each_once};
 ghost use Rattle.plan.specs.Refusals.{fault_of, first_fault};
 ghost use Rattle.plan.specs.Mesh.{max_nodes};
 ghost use Rattle.plan.specs.File.{may_be_parent, bad_parts};
@@ -15,8 +15,8 @@ fn bad_order(order: &[u16]) -> bool
     ensures { result ≡ not (each_once (length order.now) order.now) }
 {
     let mut marks = filled(0);
-    for i in 0..order.len() {
-        let v = order[i] as usize;
+    for &node in order {
+        let v = node as usize;
         if v >= order.len() {
             return true;
         }
@@ -31,13 +31,9 @@ fn bad_order(order: &[u16]) -> bool
 // The sum of some sizes. O(length).
 fn sum_sizes(sizes: &[u16]) -> usize
     requires { length sizes.now ≤ max_nodes }
-    ensures { result ≡ total sizes.now }
+    ensures { result ≡ sum sizes.now }
 {
-    let mut sum: usize = 0;
-    for &size in sizes {
-        sum += usize::from(size);
-    }
-    sum
+    sizes.iter().map(|size| usize::from(*size)).sum()
 }
 
 // Whether r may be part q's parent: none, or a later part below p. O(1).
@@ -67,7 +63,7 @@ fn bad_parents(parents: &[u16]) -> bool
 }
 
 // Check 16: a size is 0, the sizes do not sum to n, or a part's parent is neither none nor a later part. O(p).
-#[tactic(auto, unfolding(plan::specs::File::bad_parts))]
+#[tactic(auto, unfolding(plan::specs::File::bad_parts), using(crate::proofs::Fields::total_sum))]
 fn bad_parts(n: usize, sizes: &[u16], parents: &[u16]) -> bool
     requires { (length sizes.now ≤ max_nodes) × (length parents.now ≡ length sizes.now) }
     ensures { result ≡ bad_parts (order_and_parts n [] sizes.now parents.now) }

@@ -14,6 +14,8 @@ use layout::{buffers_too_short, invert, sum, write_starts};
 use mesh::filled;
 use plan::{Plan, Refusal};
 
+// kept: the six lent buffers are parameters of their own, since clauses tell what each holds before and after, which a struct of them would only hide.
+
 // Reading where checks 10 to 19 found no fault: 8 and 9, then the plan in the lent buffers, and its counts. O(n + slots).
 fn read_checked(
     file: &HeadedFile,

@@ -5,25 +5,25 @@ ghost use Rattle.plan.specs.File.{bad_column};
 ghost use Rattle.layout.specs.Arrays.{Marked};
 ghost use Rattle.rowchecks.specs.Rows.{outside_ranges};
 
-use crate::ranges::holds;
+use crate::ranges::PartRanges;
 use crate::rows::Rows;
 
 // kept: the loops go by the rows' places, since rows in bytes are no slice; an iterator over them would count the same places itself.
 
 // Whether rows of column j break neither 17's rule nor 18's. From the last row to the first, each is to be less than the one behind it, the last less
 // than n: one comparison for both, before the row's range is looked up. O(length).
-pub(crate) fn sound<R: Rows>(n: usize, lows: &[u16], ends: &[u16], j: usize, column: R) -> bool
-    requires { (n ≤ length lows.now) × (n ≤ length ends.now) × (j < n) }
-    ensures { result ≡ not (bad_column n j (R.numbers column) || outside_ranges n lows.now ends.now j (R.numbers column)) }
+pub(crate) fn sound<R: Rows>(ranges: &PartRanges, j: usize, column: R) -> bool
+    requires { j < ranges.now.n }
+    ensures { result ≡ not (bad_column ranges.now.n j (R.numbers column) || outside_ranges ranges.now.n ranges.now.lows.now ranges.now.ends.now j (R.numbers column)) }
 {
-    let own = lows[j];
-    let mut behind = n;
+    let own = ranges.lows[j];
+    let mut behind = ranges.n;
     for k in (0..column.count()).rev() {
         let i = column.row(k);
         if i >= behind {
             return false;
         }
-        if !holds(lows, ends, i, own) {
+        if !ranges.holds(i, own) {
             return false;
         }
         behind = i;
@@ -50,16 +50,16 @@ pub(crate) fn bad_column<R: Rows>(n: usize, j: usize, column: R) -> bool
 }
 
 // Whether rows of column j break 18's rule, in whatever order they stand; a row of n or more does. O(length).
-pub(crate) fn outside<R: Rows>(n: usize, lows: &[u16], ends: &[u16], j: usize, column: R) -> bool
-    requires { (n ≤ length lows.now) × (n ≤ length ends.now) × (j < n) }
-    ensures { result ≡ outside_ranges n lows.now ends.now j (R.numbers column) }
+pub(crate) fn outside<R: Rows>(ranges: &PartRanges, j: usize, column: R) -> bool
+    requires { j < ranges.now.n }
+    ensures { result ≡ outside_ranges ranges.now.n ranges.now.lows.now ranges.now.ends.now j (R.numbers column) }
 {
     for k in 0..column.count() {
         let i = column.row(k);
-        if i >= n {
+        if i >= ranges.n {
             return true;
         }
-        if !holds(lows, ends, i, lows[j]) {
+        if !ranges.holds(i, ranges.lows[j]) {
             return true;
         }
     }

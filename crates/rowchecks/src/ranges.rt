@@ -88,13 +88,25 @@ pub(crate) fn ranges(n: usize, sizes: &[u16], parents: &[u16], lows: &mut [u16],
     spread(sizes, &firsts, &lasts, lows, ends);
 }
 
-// Whether the range of position i holds a number. O(1).
-pub(crate) fn holds(lows: &[u16], ends: &[u16], i: usize, x: u16) -> bool
-    requires { (i < length lows.now) × (i < length ends.now) }
-    ensures { result ≡ in_range x (get_or lows.now i 0) (get_or ends.now i 0) }
-{
-    if x < lows[i] {
-        return false;
+// The ranges of the parts of n positions, as lent.
+#[derive(Clone, Copy)]
+pub(crate) struct PartRanges<'a> {
+    pub(crate) n: usize,
+    pub(crate) lows: &'a [u16],
+    pub(crate) ends: &'a [u16],
+    ghost low_room: { n ≤ length lows.now },
+    ghost end_room: { n ≤ length ends.now },
+}
+
+impl<'a> PartRanges<'a> {
+    // Whether the range of position i holds a number. O(1).
+    pub(crate) fn holds(&self, i: usize, x: u16) -> bool
+        requires { i < self.now.n }
+        ensures { result ≡ in_range x (get_or self.now.lows.now i 0) (get_or self.now.ends.now i 0) }
+    {
+        if x < self.lows[i] {
+            return false;
+        }
+        x < self.ends[i]
     }
-    x < ends[i]
 }

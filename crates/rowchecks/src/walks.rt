@@ -10,7 +10,7 @@ ghost use Rattle.rowchecks.specs.Rows.{parts_and_rows, SoundParts, Started, Laid
 
 use crate::columns::{all_marked, bad_column, mark, outside, same, sound};
 use crate::faults::RowFaults;
-use crate::ranges::ranges;
+use crate::ranges::{PartRanges, ranges};
 use crate::rows::Rows;
 use mesh::{NONE, filled};
 use plan::Refusal;
@@ -27,29 +27,40 @@ fn column_of<R: Rows>(column_starts: &[u32], rows: R, j: usize) -> R
 // that the ranges stand for. A column that breaks either rule is looked at again for each of them, since its rows need not ascend. O(rows).
 fn after_column<R: Rows>(
     faults: RowFaults,
-    n: usize,
-    lows: &[u16],
-    ends: &[u16],
+    ranges: &PartRanges,
     column_starts: &[u32],
     rows: R,
     j: usize,
 ) -> RowFaults
-    requires { Started n column_starts.now (R.numbers rows) × (j < n) × (n ≤ length lows.now) × (n ≤ length ends.now) }
-    ensures { (sizes parents : List ℕ) → Ranges n sizes parents lows.now ends.now
-        → Carried j (parts_and_rows n sizes parents column_starts.now (R.numbers rows)) faults.unordered faults.outside
-        → Carried (j + 1) (parts_and_rows n sizes parents column_starts.now (R.numbers rows)) result.unordered result.outside }
+    requires { Started ranges.now.n column_starts.now (R.numbers rows) × (j < ranges.now.n) }
+    ensures { (sizes parents : List ℕ) → Ranges ranges.now.n sizes parents ranges.now.lows.now ranges.now.ends.now
+        → Carried j (parts_and_rows ranges.now.n sizes parents column_starts.now (R.numbers rows)) faults.unordered faults.outside
+        → Carried (j + 1) (parts_and_rows ranges.now.n sizes parents column_starts.now (R.numbers rows)) result.unordered result.outside }
 {
     let column = column_of(column_starts, rows, j);
-    if sound(n, lows, ends, j, column) {
+    if sound(ranges, j, column) {
         return faults;
     }
     RowFaults {
-        unordered: faults.unordered | bad_column(n, j, column),
-        outside: faults.outside | outside(n, lows, ends, j, column),
+        unordered: faults.unordered | bad_column(ranges.n, j, column),
+        outside: faults.outside | outside(ranges, j, column),
     }
 }
 
-// Checks 17, where the starts have no fault, and 18: one walk over the rows. A fault of either does not end it. O(4,096 + n + slots).
+// What the walk carries behind the last column, by the ranges of the parts. A fault of either rule does not end it. O(n + slots).
+fn walk_columns<R: Rows>(ranges: &PartRanges, column_starts: &[u32], rows: R) -> RowFaults
+    requires { Started ranges.now.n column_starts.now (R.numbers rows) }
+    ensures { (sizes parents : List ℕ) → Ranges ranges.now.n sizes parents ranges.now.lows.now ranges.now.ends.now
+        → Carried ranges.now.n (parts_and_rows ranges.now.n sizes parents column_starts.now (R.numbers rows)) result.unordered result.outside }
+{
+    let mut faults = RowFaults::none();
+    for j in 0..ranges.n {
+        faults = after_column(faults, ranges, column_starts, rows, j);
+    }
+    faults
+}
+
+// Checks 17, where the starts have no fault, and 18: one walk over the rows. O(4,096 + n + slots).
 fn walk<R: Rows>(
     n: usize,
     sizes: &[u16],
@@ -63,11 +74,12 @@ fn walk<R: Rows>(
     let mut lows = filled(0);
     let mut ends = filled(0);
     ranges(n, sizes, parents, &mut lows, &mut ends);
-    let mut faults = RowFaults::none();
-    for j in 0..n {
-        faults = after_column(faults, n, &lows, &ends, column_starts, rows, j);
-    }
-    faults
+    let ranges = PartRanges {
+        n,
+        lows: &lows,
+        ends: &ends,
+    };
+    walk_columns(&ranges, column_starts, rows)
 }
 
 // Whether column j keeps 19's rule: its rows behind the first are all in the first row's column. Where that column has as many rows, the two lists

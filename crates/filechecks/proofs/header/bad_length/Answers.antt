@@ -1,5 +1,5 @@
 -- `filechecks::header::bad_length` meets its contract: the length is compared with that of the head's counts.
-use mathlib.Core.Path.{sym, ap, ◌∙◌}
+use mathlib.Core.Path.{ap, ◌∙◌}
 use mathlib.Core.Bool.{not}
 use lib.ListN.{length}
 use lib.Dec.{eqb}

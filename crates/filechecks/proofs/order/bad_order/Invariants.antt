@@ -2,5 +2,5 @@
 use Rattle.filechecks.proofs.Once.{Marked}
 use Rattle.filechecks.proofs.order.bad_order.Given as goal
 
-abbrev pub invariant-loop-i : goal.invariant-loop-i
-invariant-loop-i l = Marked l.order l.marks l.i
+abbrev pub invariant-loop-node : goal.invariant-loop-node
+invariant-loop-node l = Marked l.order l.marks l.node-index

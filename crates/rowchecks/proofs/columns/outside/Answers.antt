@@ -6,8 +6,8 @@ use mathlib.Core.Bool.{not}
 use mathlib.Core.Path.{ap}
 use Rattle.rowchecks.proofs.columns.outside.Goals as goal
 
-pub returns-then-i-n : goal.returns-then-i-n
-returns-then-i-n g c = sym (inside-high c.loop-k.invariant (omega arith) c.row-i.ensures (omega arith))
+pub returns-then-i-ranges : goal.returns-then-i-ranges
+returns-then-i-ranges g c = sym (inside-high c.loop-k.invariant (omega arith) c.row-i.ensures (omega arith))
 
 pub returns-then-not-holds : goal.returns-then-not-holds
 returns-then-not-holds g c = sym (inside_out c.loop-k.invariant (omega arith) c.row-i.ensures c.holds.ensures (ap not c.if-not-holds.true))

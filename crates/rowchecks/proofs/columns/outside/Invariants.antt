@@ -3,4 +3,4 @@ use Rattle.rowchecks.proofs.ColumnDown.{Inside}
 use Rattle.rowchecks.proofs.columns.outside.Given as goal
 
 abbrev pub invariant-loop-k : goal.invariant-loop-k
-invariant-loop-k g l = Inside l.n l.lows l.ends l.j (g.R.Rows.numbers l.column) l.k
+invariant-loop-k g l = Inside l.ranges.n l.ranges.lows.now l.ranges.ends.now l.j (g.R.Rows.numbers l.column) l.k

@@ -7,7 +7,7 @@ use mathlib.Core.Path.{ap}
 use Rattle.rowchecks.proofs.columns.sound.Goals as goal
 
 pub loop-k-init : goal.loop-k-init
-loop-k-init g c = rw c.count-k.ensures (down_start c.args.n c.args.lows.now c.args.ends.now c.args.j (g.R.Rows.numbers c.args.column))
+loop-k-init g c = rw c.count-k.ensures (down_start c.args.ranges.now.n c.args.ranges.now.lows.now c.args.ranges.now.ends.now c.args.j (g.R.Rows.numbers c.args.column))
 
 pub returns-then-i-behind : goal.returns-then-i-behind
 returns-then-i-behind g c = sym (down_high c.loop-k.invariant (omega arith) c.row-i.ensures (omega arith))
