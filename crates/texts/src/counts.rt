@@ -1,5 +1,5 @@
 // How often each answer was met, and how often the proved reader and the naive one differed.
-use naive::{NaiveMesh, TOO_LARGE};
+use naive::{NaiveMesh, Refused, TOO_LARGE};
 use std::io;
 use tally::{Notes, Tally};
 
@@ -18,6 +18,14 @@ pub(crate) struct Counts {
     subject: usize,
     turn: usize,
     notes: Notes,
+}
+
+// The number of an answer: that of the refusal, 0 for none.
+pub(crate) fn number_of(answer: Result<NaiveMesh, Refused>) -> u32 {
+    match answer {
+        Ok(_) => 0,
+        Err(refused) => refused.0,
+    }
 }
 
 impl Counts {
@@ -45,13 +53,13 @@ impl Counts {
     }
 
     // One more comparison, whose answer should be this one.
-    pub(crate) fn count(&mut self, answer: NaiveMesh, same: bool) {
+    pub(crate) fn count(&mut self, answer: Result<NaiveMesh, Refused>, same: bool) {
         self.turn = self.turn.saturating_add(1);
-        if answer.refusal == TOO_LARGE {
+        if answer == Err(Refused(TOO_LARGE)) {
             self.too_large = self.too_large.saturating_add(1);
             return;
         }
-        self.answers.raise(answer.refusal as usize);
+        self.answers.raise(number_of(answer) as usize);
         if !same {
             self.notes.failed(
                 &mut self.different,

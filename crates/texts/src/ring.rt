@@ -2,9 +2,9 @@
 use crate::counts::Counts;
 use crate::given::{known, number};
 use crate::text::Text;
-use crate::trial::{STALE_NEIGHBOURS, STALE_STARTS, read, same};
-use meshes::{front16, front32, less, more};
-use naive::NaiveMesh;
+use crate::trial::{STALE_NEIGHBOURS, STALE_STARTS, read};
+use meshes::{front, less, more};
+use naive::{NaiveMesh, Refused};
 use plan::Plan;
 
 // A text with room for 73,730 lines of two numbers of four digits.
@@ -77,22 +77,22 @@ impl Ring {
     // What the reader is known to answer: a refusal, or, for 0, the ring, of which the pairs left out are the diagonal ones, or none.
     fn known(&self, refusal: u32) -> Known {
         let pairs = self.skipped % 1048576 + self.count % 1048576;
-        let answer = if refusal == 0 {
-            NaiveMesh {
-                refusal,
-                nodes: self.nodes,
-                entries: entries(self.nodes, pairs),
-            }
-        } else {
-            NaiveMesh {
-                refusal,
+        let reach = reach(self.nodes, pairs);
+        if refusal != 0 {
+            return Known {
+                answer: Err(Refused(refusal)),
                 nodes: 0,
                 entries: 0,
-            }
-        };
+                reach,
+            };
+        }
+        let nodes = self.nodes;
+        let entries = entries(nodes, pairs);
         Known {
-            answer,
-            reach: reach(self.nodes, pairs),
+            answer: Ok(NaiveMesh { nodes, entries }),
+            nodes,
+            entries,
+            reach,
         }
     }
 }
@@ -107,10 +107,13 @@ fn entries(nodes: usize, pairs: usize) -> usize {
     pairs.saturating_sub(nodes) % 1048576 * 2
 }
 
-// What the reader is known to answer, and, where that is a mesh, how far its ring reaches: each node is joined to so many on both sides.
+// What the reader is known to answer, the nodes and entries that it then leaves, none where it refuses, and how far the mesh's ring reaches: each node
+// is joined to so many on both sides.
 #[derive(Clone, Copy)]
 struct Known {
-    answer: NaiveMesh,
+    answer: Result<NaiveMesh, Refused>,
+    nodes: usize,
+    entries: usize,
     reach: usize,
 }
 
@@ -137,8 +140,8 @@ impl Known {
     fn entry_holds(&self, neighbours: &[u16; ENTRIES], e: usize) -> bool {
         let w = entry(neighbours, e);
         let degree = self.reach % 65536 * 2;
-        let nodes = self.answer.nodes;
-        if self.answer.entries <= e {
+        let nodes = self.nodes;
+        if self.entries <= e {
             return w == usize::from(STALE_NEIGHBOURS);
         }
         if degree == 0 {
@@ -153,7 +156,7 @@ impl Known {
     // Whether start v is one of the ring, or stale behind them.
     fn start_holds(&self, starts: &[u32; STARTS], v: usize) -> bool {
         let x = start(starts, v);
-        if self.answer.entries == 0 || self.answer.nodes < v {
+        if self.entries == 0 || self.nodes < v {
             return x == STALE_STARTS as usize;
         }
         if v == 0 {
@@ -174,10 +177,10 @@ impl Known {
         let mut neighbours = [STALE_NEIGHBOURS; ENTRIES];
         let answer = read(
             text,
-            front32(&mut starts, start_count),
-            front16(&mut neighbours, entry_count),
+            front(&mut starts, start_count),
+            front(&mut neighbours, entry_count),
         );
-        same(answer, self.answer) && self.holds(&starts, &neighbours)
+        answer == self.answer && self.holds(&starts, &neighbours)
     }
 }
 
