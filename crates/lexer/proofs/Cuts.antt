@@ -162,9 +162,3 @@ module _ (p : ℕ → Bool) (text : List ℕ) (at i : ℕ) where
 
   pub kind_more : Passed other text at i → i < length text → p (get_or text i 0) ≡ true → Passed other text at (i + 1)
   kind_more q lt h = passed_more other text at i q lt (ap not (starts_at p text i lt ∙ h))
-
-  pub kind-last : Passed other text at i → i < length text → p (get_or text i 0) ≡ false → At text i (from other (drop at text))
-  kind-last q lt h = passed-all other text at i q (ap not (starts_at p text i lt ∙ h))
-
-  pub kind-end : Passed other text at i → length text ≤ i → At text i (from other (drop at text))
-  kind-end q le = passed-all other text at i q (at_end other refl text i le)

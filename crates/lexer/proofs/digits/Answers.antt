@@ -1,10 +1,8 @@
 -- `lexer::digits` meets its contract: the loop passes digits only, and counts their value up to 2^32.
-use Rattle.std.proofs.Common.{◌≡◌, sym, ap, ◌∙◌, arith, ℕ, ◌+◌, ◌-◌, ◌≤◌, ◌<◌, length, length-drop, length-take, drop, take, get_or}
+use Rattle.std.proofs.Common.{◌≡◌, sym, ap, ◌∙◌, arith, ℕ, ◌+◌, ◌-◌, ◌<◌, length, drop, take, get_or}
 use Rattle.std.specs.Char.{is_ascii_digit}
-use Rattle.theory.proofs.Segments.{segment-none}
 use Rattle.plan.specs.MatrixMarket.{is_digit}
-use Rattle.lexer.specs.Suffixes.{not_digit}
-use Rattle.lexer.proofs.Cuts.{passed_none, kind_more, kind-last, kind-end, left_long, left_byte}
+use Rattle.lexer.proofs.Cuts.{kind_more, left_long, left_byte}
 use Rattle.lexer.proofs.Numbers.{value-next}
 use Rattle.lexer.proofs.digits.Goals.{After-is_ascii_digit}
 use Rattle.lexer.proofs.digits.Goals as goal
@@ -19,9 +17,6 @@ inside c = left_long c.args.text.now c.args.at c.loop-k.k c.loop-k-test.true
 test : (c : After-is_ascii_digit) → c.is_ascii_digit.result ≡ is_digit (get_or c.args.text.now (c.args.at + c.loop-k.k) 0)
 test c = c.is_ascii_digit.ensures.value ∙ ap is_ascii_digit (byte c)
 
-pub loop-k-init : goal.loop-k-init
-loop-k-init c = let e : c.args.at + 0 ≡ c.args.at = omega arith in rw e (passed_none not_digit c.args.text.now c.args.at c.requires, rw (segment-none c.args.text.now c.args.at))
-
 pub loop-k-preserved : goal.loop-k-preserved
 loop-k-preserved c =
     let u = (goal.at.loop-k-preserved c).After-is_ascii_digit in
@@ -31,14 +26,3 @@ loop-k-preserved c =
       kind_more is_digit c.args.text.now c.args.at i c.loop-k.invariant.0 (inside u) (sym (test u) ∙ c.if-not-is_ascii_digit.false),
       omega (arith, byte u, value-next 4294967296 c.args.text.now c.args.at i c.loop-k.value c.loop-k.invariant.0.least (inside u) c.loop-k.invariant.1),
     )
-
-pub returns-then-not-is_ascii_digit : goal.returns-then-not-is_ascii_digit
-returns-then-not-is_ascii_digit c =
-    let u = (goal.at.returns-then-not-is_ascii_digit c).After-is_ascii_digit in
-    (c.loop-k.invariant.0.least, kind-last is_digit c.args.text.now c.args.at _ c.loop-k.invariant.0 (inside u) (sym (test u) ∙ c.if-not-is_ascii_digit.true), c.loop-k.invariant.1)
-
-pub returns : goal.returns
-returns c =
-    let over : length (take (length c.args.text.now - c.args.at) (drop c.args.at c.args.text.now)) ≤ c.loop-k.k = c.loop-k-test.false in
-    let e : c.args.at + c.loop-k.k ≡ length c.args.text.now = omega (arith, over, c.loop-k.invariant.0.most, length-take (length c.args.text.now - c.args.at) (drop c.args.at c.args.text.now), length-drop c.args.at c.args.text.now) in
-    (c.requires, rw e at (kind-end is_digit c.args.text.now c.args.at _ c.loop-k.invariant.0 (omega (arith, e))), rw e at c.loop-k.invariant.1)

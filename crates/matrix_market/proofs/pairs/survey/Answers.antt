@@ -1,20 +1,15 @@
 -- `pairs::survey` meets its contract.
-use mathlib.Core.Path.{◌≡◌, refl, sym, ap, ◌∙◌}
-use mathlib.Core.List.{List, [], ◌∷◌, ◌++◌}
-use Prim.Native.Nat.{ℕ, ◌<◌}
+use mathlib.Core.Path.{◌≡◌, ap, ◌∙◌}
+use mathlib.Core.List.{[], ◌∷◌, ◌++◌}
+use Prim.Native.Nat.{◌<◌}
 use native.Mathlib.Omega.{arith}
 use lib.ListN.{length, length-set}
-use lib.Seq.{take-nil}
 use borrow.Author.Rules.{rules}
-use Rattle.plan.specs.Lists.{written}
 use Rattle.matrix_market.specs.declared.pairs.Tally.{Tally}
 use Rattle.lexer.specs.Suffixes.{words_at, lines_at}
 use Rattle.lexer.proofs.Suffixes.{line_passed}
-use Rattle.matrix_market.proofs.Runs.{passed_start, passed-all, passed-blank, passed-pair, passed_bad, told-next, stored_next, links_few, read_none, read_blank, read_some}
+use Rattle.matrix_market.proofs.Runs.{passed-all, passed-blank, passed-pair, passed_bad, told-next, stored_next, links_few, read_none, read_blank, read_some}
 use Rattle.matrix_market.proofs.pairs.survey.Goals as goal
-
-pub loop-i-init : goal.loop-i-init
-loop-i-init c = record { front = []; passed = passed_start c.args.text.now c.args.at c.requires; told = refl; stored = sym (ap (λ (l : List ℕ). written l c.args.keys.now) (take-nil (length c.args.keys.now))); long = refl }
 
 pub returns-in_err-line : goal.returns-in_err-line
 returns-in_err-line c =
@@ -38,11 +33,6 @@ loop-i-preserved-in_default c =
       stored = c.loop-i.invariant.stored;
       long = c.loop-i.invariant.long;
     }
-
-pub key-requires : goal.key-requires
-key-requires c =
-    let held = read_some _ _ _ c.read_pair.ensures c.in_ok-line.line c.in_ok-line.was c.in-Some.pair c.in-Some.is in
-    (held.0.row.1, held.0.column.1)
 
 pub with-s-requires : goal.with-s-requires
 with-s-requires c =

@@ -2,17 +2,14 @@
 use mathlib.Core.Path.{refl, sym, ◌∙◌}
 use mathlib.Core.Bool.{false≢true}
 use mathlib.Core.List.{[], ◌∷◌, ◌++◌}
-use Prim.Native.Nat.{◌≤◌, ◌<◌}
+use Prim.Native.Nat.{◌<◌}
 use native.Mathlib.Omega.{arith}
 use lib.ListN.{length, length-append, length-set}
 use borrow.Author.Rules.{rules}
 use Rattle.lexer.specs.Suffixes.{words_at}
 use Rattle.lexer.proofs.Suffixes.{line_passed}
-use Rattle.matrix_market.proofs.Runs.{passed_start, passed-blank, passed-pair, passed_bad, gathered_next, read_none, read_blank, read_some}
+use Rattle.matrix_market.proofs.Runs.{passed-blank, passed-pair, passed_bad, gathered_next, read_none, read_blank, read_some}
 use Rattle.matrix_market.proofs.repeats.gather.Goals as goal
-
-pub loop-i-init : goal.loop-i-init
-loop-i-init c = record { front = []; passed = passed_start c.args.text.now c.args.at c.requires.0; many = refl; fits = omega arith; stored = refl; long = refl }
 
 -- a line that has words has a pair
 -- each line holds a pair or nothing
@@ -36,11 +33,6 @@ loop-i-preserved-in_default-pair c =
       long = c.loop-i.invariant.long;
     }
 
-pub key-requires : goal.key-requires
-key-requires c =
-    let held = read_some _ _ _ c.read_pair.ensures c.in-Some.line c.in-Some.is c.in-Some-pair.pair c.in-Some-pair.is in
-    (held.0.row.1, held.0.column.1)
-
 pub loop-i-smaller : goal.loop-i-smaller
 loop-i-smaller c =
     let lt : c.loop-i.i < length c.args.text.now = search rules in
@@ -59,30 +51,4 @@ loop-i-preserved c =
       fits = omega (arith, lt);
       stored = gathered_next c.loop-i.invariant.front line _ _ held.0.row.0 held.0.column.0 c.args.keys.now c.loop-i.keys _ c.loop-i.k c.key.result c.loop-i.invariant.stored c.loop-i.invariant.many lt c.key.ensures refl;
       long = length-set c.loop-i.keys c.loop-i.k c.key.result ∙ c.loop-i.invariant.long;
-    }
-
-pub returns-else-k-keys : goal.returns-else-k-keys
-returns-else-k-keys c =
-    let full : length c.loop-i.keys ≤ c.loop-i.k = search rules in
-    record {
-      front = c.loop-i.invariant.front;
-      lines = c.loop-i.invariant.passed.lines;
-      many = c.loop-i.invariant.many;
-      keys = c.loop-i.invariant.stored;
-      fits = c.loop-i.invariant.fits;
-      within = c.loop-i.invariant.passed.within;
-      moved = λ lt some. omega (arith, c.loop-i.invariant.passed.few, c.loop-i.invariant.many, c.loop-i.invariant.long, some, full);
-    }
-
-pub returns-after-loop-i : goal.returns-after-loop-i
-returns-after-loop-i c =
-    let over : length c.args.text.now ≤ c.loop-i.i = search rules in
-    record {
-      front = c.loop-i.invariant.front;
-      lines = c.loop-i.invariant.passed.lines;
-      many = c.loop-i.invariant.many;
-      keys = c.loop-i.invariant.stored;
-      fits = c.loop-i.invariant.fits;
-      within = c.loop-i.invariant.passed.within;
-      moved = λ lt some. omega (arith, lt, over);
     }

@@ -1,5 +1,5 @@
 -- `repeats::meets` meets its contract.
-use mathlib.Core.Path.{◌≡◌, refl, sym, ap, ap₂, ◌∙◌}
+use mathlib.Core.Path.{◌≡◌, sym, ap, ap₂, ◌∙◌}
 use mathlib.Core.Bool.{false≢true}
 use mathlib.Core.List.{[], ◌∷◌, ◌++◌}
 use Prim.Native.Nat.{ℕ, ◌<◌}
@@ -10,13 +10,10 @@ use Rattle.plan.specs.Lists.{exists, is_in}
 use Rattle.theory.specs.Keys.{key_of}
 use Rattle.lexer.specs.Suffixes.{words_at}
 use Rattle.lexer.proofs.Suffixes.{line_passed}
-use Rattle.matrix_market.proofs.Runs.{passed_start, passed-all, passed-blank, passed-pair, passed_bad, read_none, read_blank, read_some}
+use Rattle.matrix_market.proofs.Runs.{passed-all, passed-blank, passed-pair, passed_bad, read_none, read_blank, read_some}
 use Rattle.matrix_market.proofs.Blocks.{key_among, among_found, among_more}
 use Rattle.matrix_market.proofs.repeats.meets.Goals.{After-contains}
 use Rattle.matrix_market.proofs.repeats.meets.Goals as goal
-
-pub loop-i-init : goal.loop-i-init
-loop-i-init c = record { front = []; passed = passed_start c.args.text.now c.args.at c.requires.0; none = refl }
 
 -- a line that has words has a pair
 -- each line holds a pair or nothing
@@ -43,11 +40,6 @@ found c =
     let held = read_some _ _ _ c.read_pair.ensures c.in-Some.line c.in-Some.is c.in-Some-pair.pair c.in-Some-pair.is in
     c.contains.ensures
     ∙ ap (λ (x : ℕ). is_in x c.args.keys.now) (c.key.ensures ∙ ap₂ (λ (a b : ℕ). key_of (a, b)) held.0.row.0 held.0.column.0)
-
-pub key-requires : goal.key-requires
-key-requires c =
-    let held = read_some _ _ _ c.read_pair.ensures c.in-Some.line c.in-Some.is c.in-Some-pair.pair c.in-Some-pair.is in
-    (held.0.row.1, held.0.column.1)
 
 pub returns-then-contains : goal.returns-then-contains
 returns-then-contains c =

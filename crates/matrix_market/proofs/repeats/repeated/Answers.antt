@@ -40,25 +40,3 @@ returns-then-crowded c =
       value = (sym again, refl);
       keys_after = λ le. absurd (omega (arith, le, c.if-pairs-keys.false));
     }
-
-pub returns : goal.returns
-returns c =
-    record {
-      value = c.repeated_in_blocks.ensures;
-      keys_after = λ le. absurd (omega (arith, le, c.if-pairs-keys.false));
-    }
-
-pub sort_block-requires : goal.sort_block-requires
-sort_block-requires c = c.if-pairs-keys.true
-
-pub shape_of-keys-then-pairs-keys : goal.shape_of-keys-then-pairs-keys
-shape_of-keys-then-pairs-keys c = (sorted_front _ _ _ c.if-pairs-keys.true c.sort_block.ensures.1).1
-
-pub crowded-requires : goal.crowded-requires
-crowded-requires c = (c.requires.at_in_bounds.2, c.requires.at_in_bounds.3)
-
-pub repeated_in_blocks-requires : goal.repeated_in_blocks-requires
-repeated_in_blocks-requires c = (c.requires.at_in_bounds.0, c.requires.at_value.0, c.requires.at_in_bounds.1)
-
-pub shape_of-keys : goal.shape_of-keys
-shape_of-keys c = c.repeated_in_blocks.ensures.1

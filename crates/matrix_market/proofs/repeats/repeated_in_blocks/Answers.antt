@@ -1,9 +1,8 @@
 -- `repeats::repeated_in_blocks` meets its contract.
-use mathlib.Core.Path.{◌≡◌, refl, sym, ap, ◌∙◌}
-use Prim.Native.Nat.{ℕ, ◌≤◌, ◌<◌}
+use mathlib.Core.Path.{◌≡◌, sym, ap, ◌∙◌}
+use Prim.Native.Nat.{ℕ, ◌≤◌}
 use native.Mathlib.Omega.{arith}
 use lib.ListN.{length, take}
-use lib.Seq.{length-take-le}
 use borrow.Author.Rules.{rules}
 use Rattle.plan.specs.MatrixMarket.{given_again}
 use Rattle.sorting.specs.Sorted.{sorted}
@@ -14,9 +13,6 @@ use Rattle.matrix_market.proofs.Blocks.{block_long, block_fits, block_rest, bloc
 use Rattle.matrix_market.proofs.repeats.repeated_in_blocks.Goals.{After-sort_block}
 use Rattle.matrix_market.proofs.repeats.repeated_in_blocks.Goals as goal
 
-pub loop-from-init : goal.loop-from-init
-loop-from-init c = record { within = c.requires.0; good = c.requires.1; same = refl; long = refl }
-
 -- the block, sorted
 front : (c : After-sort_block) → (take c.gather-b.result.count c.sort_block.new.keys ≡ sorted (take c.gather-b.result.count c.gather-b.new.keys))
     × (length c.sort_block.new.keys ≡ length c.gather-b.new.keys)
@@ -25,10 +21,6 @@ front c = sorted_front c.gather-b.result.count c.gather-b.new.keys c.sort_block.
 -- the buffer is as long as it was
 long : (c : After-sort_block) → length c.sort_block.new.keys ≡ length c.args.keys.now
 long c = (front c).1 ∙ block_long _ _ _ _ _ c.gather-b.ensures ∙ c.loop-from.invariant.long
-
--- and holds the block
-room : (c : After-sort_block) → c.gather-b.result.count ≤ length c.sort_block.new.keys
-room c = omega (arith, (front c).1, block_fits _ _ _ _ _ c.gather-b.ensures)
 
 pub returns-then-sort_block : goal.returns-then-sort_block
 returns-then-sort_block c = (sym (c.loop-from.invariant.same ∙ block_twice _ _ _ _ _ c.gather-b.ensures c.loop-from.invariant.good c.sort_block.result c.sort_block.ensures.0 c.if-sort_block.true), long (goal.at.returns-then-sort_block c).After-sort_block)
@@ -42,11 +34,6 @@ meets-requires c = (
 
 pub returns-then-meets : goal.returns-then-meets
 returns-then-meets c = (sym (c.loop-from.invariant.same ∙ block_met _ _ _ _ _ c.gather-b.ensures c.loop-from.invariant.good _ (front (goal.at.returns-then-meets c).After-sort_block).0 (sym c.meets.ensures ∙ c.if-meets.true)), long (goal.at.returns-then-meets c).After-sort_block)
-
-pub loop-from-smaller : goal.loop-from-smaller
-loop-from-smaller c =
-    let lt : c.loop-from.from < length c.args.text.now = search rules in
-    omega (arith, lt, c.gather-b.ensures.moved lt (omega (arith, c.loop-from.invariant.long, c.requires.2)))
 
 pub loop-from-preserved : goal.loop-from-preserved
 loop-from-preserved c =
@@ -62,24 +49,3 @@ returns c =
     let over : length c.args.text.now ≤ c.loop-from.from = search rules in
     let e : c.loop-from.from ≡ length c.args.text.now = omega (arith, c.loop-from.invariant.within, over) in
     (sym (c.loop-from.invariant.same ∙ ap (λ (i : ℕ). given_again (pairs_in (lines_at c.args.text.now i))) e ∙ ap (λ l. given_again (pairs_in l)) (lines_over c.args.text.now)), c.loop-from.invariant.long)
-
-pub gather-b-requires : goal.gather-b-requires
-gather-b-requires c = (c.loop-from.invariant.within, c.loop-from.invariant.good)
-
-pub sort_block-requires : goal.sort_block-requires
-sort_block-requires c = block_fits _ _ _ _ _ c.gather-b.ensures
-
-pub shape_of-keys-then-sort_block : goal.shape_of-keys-then-sort_block
-shape_of-keys-then-sort_block c = long (goal.at.shape_of-keys-then-sort_block c).After-sort_block
-
-pub slice_bounds-meets-end : goal.slice_bounds-meets-end
-slice_bounds-meets-end c = room (goal.at.slice_bounds-meets-end c).After-sort_block
-
-pub slice_bounds-meets-end-in-loop-from : goal.slice_bounds-meets-end-in-loop-from
-slice_bounds-meets-end-in-loop-from c = sym (length-take-le _ _ (room (goal.at.slice_bounds-meets-end-in-loop-from c).After-sort_block))
-
-pub shape_of-keys-then-meets : goal.shape_of-keys-then-meets
-shape_of-keys-then-meets c = long (goal.at.shape_of-keys-then-meets c).After-sort_block
-
-pub shape_of-keys : goal.shape_of-keys
-shape_of-keys c = c.loop-from.invariant.long
