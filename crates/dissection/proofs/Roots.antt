@@ -44,7 +44,7 @@ level-high last n nodes old new h r v t = rw (renumbered_in (only_level last) no
     go true = omega arith
     go false = omega arith
 
-module _ (m : Mesh) (nodes : List ℕ) {numbers queue : List ℕ} {root last : ℕ} (h : Regional m nodes numbers queue) (rooted : Rooted m nodes root last) where
+module _ (m : Mesh) (nodes : List ℕ) (within : Within m.nodes nodes) {numbers queue : List ℕ} {root last : ℕ} (h : Regional m nodes numbers queue) (rooted : Rooted m nodes root last) where
   -- the levels
   abbrev ls : List (List ℕ)
   ls = levels (adjacent m) nodes root
@@ -65,7 +65,7 @@ module _ (m : Mesh) (nodes : List ℕ) {numbers queue : List ℕ} {root last : �
   level-ascends zero lt = rw (level-first (adjacent m) nodes root)
   level-ascends (suc j) lt =
       let k = level-kept (adjacent m) nodes root (suc j) (omega arith) lt in
-      rw k.same (ascending-keep k.test nodes h.within.ascends)
+      rw k.same (ascending-keep k.test nodes within.ascends)
 
   -- the nodes of the last one are of the region
   last-inside : (v : ℕ) → is_in v (get_last_d ls []) ≡ true → is_in v nodes ≡ true
@@ -75,7 +75,7 @@ module _ (m : Mesh) (nodes : List ℕ) {numbers queue : List ℕ} {root last : �
   last_within : Within m.nodes (get_last_d ls [])
   last_within = record {
     ascends = ap ascending last_is ∙ level-ascends last (omega (arith, last-count));
-    inside = λ v t. h.within.inside v (last-inside v t);
+    inside = λ v t. within.inside v (last-inside v t);
   }
 
   module _ (checked : Checked m) (standing : Standing m nodes root numbers) where
@@ -87,7 +87,7 @@ module _ (m : Mesh) (nodes : List ℕ) {numbers queue : List ℕ} {root last : �
     number-own : (v : ℕ) → is_in v nodes ≡ true → get_or numbers v 0 ≡ last → is_in v (get_last_d ls []) ≡ true
     number-own v i e =
         ap (is_in v) last_is
-        ∙ sym (number-level m nodes h.within root checked numbers standing last v (omega (arith, last-count)) (h.within.inside v i))
+        ∙ sym (number-level m nodes within root checked numbers standing last v (omega (arith, last-count)) (within.inside v i))
         ∙ eq-eqb (get_or numbers v 0) last e
 
     module _ (kept : List ℕ) (renumbered : Renumbered (only_level last) nodes numbers kept) where
@@ -162,7 +162,6 @@ module _ (m : Mesh) (nodes : List ℕ) {numbers queue : List ℕ} {root last : �
 pub regional_over : (m : Mesh) (nodes : List ℕ) {numbers queue new after : List ℕ} → Regional m nodes numbers queue
     → Only m.nodes nodes new → m.nodes ≤ length new → length after ≡ length queue → Regional m nodes new after
 regional_over m nodes h only e f = record {
-  within = h.within;
   some = h.some;
   only = only;
   numbers_long = e;

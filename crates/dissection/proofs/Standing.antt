@@ -26,9 +26,9 @@ use Rattle.dissection.proofs.Renumbering.{renumbered_in, renumbered_out}
 -- ---- what a walk leaves
 
 -- once each node of a region has the fresh number, the region is what is fresh
-filled-fresh : (m : Mesh) (nodes numbers filled queue : List ℕ) → Regional m nodes numbers queue → Renumbered (λ _. fresh) nodes numbers filled → fresh_of m.nodes filled ≡ nodes
-filled-fresh m nodes numbers filled queue h f =
-    fresh-same m.nodes filled nodes h.within
+filled-fresh : (m : Mesh) (nodes numbers filled queue : List ℕ) → Within m.nodes nodes → Regional m nodes numbers queue → Renumbered (λ _. fresh) nodes numbers filled → fresh_of m.nodes filled ≡ nodes
+filled-fresh m nodes numbers filled queue within h f =
+    fresh-same m.nodes filled nodes within
     (renumbered_in (λ _. fresh) nodes numbers filled f)
     (λ v lt t e. omega (arith, h.only v lt t, renumbered_out (λ _. fresh) nodes numbers filled f v t))
 
@@ -37,11 +37,11 @@ module _ (m : Mesh) (nodes : List ℕ) where
   pub level-inside : (r v : ℕ) → is_in r nodes ≡ true → is_in v (flatten (levels (adjacent m) nodes r)) ≡ true → is_in v nodes ≡ true
   level-inside r v h t = (of_component (adjacent m) nodes r v (sym (levels_cover (adjacent m) nodes r h v) ∙ t)).0
 
-  module _ {numbers filled queue new after : List ℕ} {r last widest reached : ℕ} (h : Regional m nodes numbers queue) (inside : is_in r nodes ≡ true)
+  module _ (within : Within m.nodes nodes) {numbers filled queue new after : List ℕ} {r last widest reached : ℕ} (h : Regional m nodes numbers queue) (inside : is_in r nodes ≡ true)
       (walked : Walked m.nodes (adjacent m) (fresh_of m.nodes filled) r filled new after last widest reached) (f : Renumbered (λ _. fresh) nodes numbers filled) where
     -- so a walk in what is fresh is one in the region
     over : Walked m.nodes (adjacent m) nodes r filled new after last widest reached
-    over = rw (filled-fresh m nodes numbers filled queue h f) at walked
+    over = rw (filled-fresh m nodes numbers filled queue within h f) at walked
 
     -- it tells the number of the last level and the node count of the widest
     pub walk_measured : Measured m nodes r last widest

@@ -5,11 +5,10 @@ use Rattle.plan.specs.Lists.{exists, is_in, without}
 use Rattle.plan.specs.Mesh.{Mesh, neighbours_of, adjacent}
 use Rattle.plan.specs.Levels.{levels, components}
 use Rattle.plan.specs.Choice.{george_liu}
-use Rattle.dissection.specs.Numbers.{fresh, outside, fresh_of, Within, Only, grouped, Begins}
+use Rattle.dissection.specs.Numbers.{fresh, outside, fresh_of, Only, grouped, Begins}
 
 -- what is asked of the lent arrays by each function over a region
 pub record Regional (m : Mesh) (nodes numbers queue : List ℕ) : Type 0 where
-  pub within : Within m.nodes nodes
   pub some : 0 < length nodes
   pub only : Only m.nodes nodes numbers
   pub numbers_long : m.nodes ≤ length numbers

@@ -10,6 +10,7 @@ ghost use Rattle.dissection.specs.Rooted.{Rooted};
 
 use crate::levels::label;
 use crate::numbers::{FRESH, OUTSIDE, fill, renumber};
+use crate::region::Region;
 use crate::root::search;
 use crate::touch::Touch;
 use mesh::CheckedMesh;
@@ -44,30 +45,30 @@ fn separated(mesh: &CheckedMesh, v: usize, j: u16, numbers: &[u16]) -> u16
 
 // The nodes of the separator, those of level j that have a neighbour in level j + 1, are left out. In place: a number that changes is j, and only j
 // and j + 1 are looked for. O(length + entries of level j).
-fn separate(mesh: &CheckedMesh, nodes: &[u16], j: u16, numbers: &mut [u16])
-    requires { Within mesh.now.nodes nodes.now × (mesh.now.nodes ≤ length numbers.old) × (j < mesh.now.nodes) }
-    ensures { NumberedBy (λ v. cond (separates_at (as_lent mesh.now) j numbers.old v) outside (get_or numbers.old v 0)) nodes.now numbers.old numbers.new }
+fn separate(region: &Region, j: u16, numbers: &mut [u16])
+    requires { (region.now.mesh.nodes ≤ length numbers.old) × (j < region.now.mesh.nodes) }
+    ensures { NumberedBy (λ v. cond (separates_at (as_lent region.now.mesh) j numbers.old v) outside (get_or numbers.old v 0)) region.now.nodes.now numbers.old numbers.new }
 {
-    for &v in nodes {
+    for &v in region.nodes {
         let v = v as usize;
-        numbers[v] = separated(mesh, v, j, numbers);
+        numbers[v] = separated(&region.mesh, v, j, numbers);
     }
 }
 
 // A region's part is left out and its other nodes become fresh, by the levels that stand in the numbers. "If ℓ is 0 or 1 the whole region is one
 // part". O(length + entries of the cut level).
-fn choose(mesh: &CheckedMesh, nodes: &[u16], last: u16, numbers: &mut [u16])
-    requires inside { Within mesh.now.nodes nodes.now × (mesh.now.nodes ≤ length numbers.old) }
-    requires rooted { Rooted (as_lent mesh.now) nodes.now (root_of (as_lent mesh.now) nodes.now) last × Standing (as_lent mesh.now) nodes.now (root_of (as_lent mesh.now) nodes.now) numbers.old }
-    ensures { Parted (as_lent mesh.now) nodes.now numbers.new }
+fn choose(region: &Region, last: u16, numbers: &mut [u16])
+    requires long { region.now.mesh.nodes ≤ length numbers.old }
+    requires rooted { Rooted (as_lent region.now.mesh) region.now.nodes.now (root_of (as_lent region.now.mesh) region.now.nodes.now) last × Standing (as_lent region.now.mesh) region.now.nodes.now (root_of (as_lent region.now.mesh) region.now.nodes.now) numbers.old }
+    ensures { Parted (as_lent region.now.mesh) region.now.nodes.now numbers.new }
 {
     if last <= 1 {
-        fill(nodes, OUTSIDE, numbers);
+        fill(region.nodes, OUTSIDE, numbers);
         return;
     }
-    separate(mesh, nodes, (last + 1) / 2, numbers);
+    separate(region, (last + 1) / 2, numbers);
     renumber(
-        nodes,
+        region.nodes,
         |x| if x == OUTSIDE { OUTSIDE } else { FRESH },
         numbers,
     );
@@ -76,21 +77,24 @@ fn choose(mesh: &CheckedMesh, nodes: &[u16], last: u16, numbers: &mut [u16])
 // A region divided: the nodes of the regions left get the numbers 0, 1, .. of their regions, by smallest node, and those of the part the number
 // behind them, which is returned. O(candidates tried · entries of the region).
 pub(crate) fn divide<T: Touch>(
-    mesh: &CheckedMesh,
-    nodes: &[u16],
+    region: &Region,
     at: u16,
     numbers: &mut [u16],
     trial: &mut [u16],
     queue: &mut [u16],
     begins: &mut [u16],
 ) -> usize
-    requires { Regional (as_lent mesh.now) nodes.now numbers.old queue.old × Only mesh.now.nodes [] trial.old × (mesh.now.nodes ≤ length trial.old) × (mesh.now.nodes < length begins.old) × (at ≤ mesh.now.nodes) }
-    ensures { Divided (as_lent mesh.now) nodes.now at numbers.new begins.new result × Only mesh.now.nodes [] trial.new }
+    requires { Regional (as_lent region.now.mesh) region.now.nodes.now numbers.old queue.old × Only region.now.mesh.nodes [] trial.old × (region.now.mesh.nodes ≤ length trial.old) × (region.now.mesh.nodes < length begins.old) × (at ≤ region.now.mesh.nodes) }
+    ensures { Divided (as_lent region.now.mesh) region.now.nodes.now at numbers.new begins.new result × Only region.now.mesh.nodes [] trial.new }
 {
-    let last = search::<T>(mesh, nodes, numbers, trial, queue, begins);
-    choose(mesh, nodes, last, numbers);
-    let count = label::<T>(mesh, nodes, at, numbers, queue, begins);
+    let last = search::<T>(region, numbers, trial, queue, begins);
+    choose(region, last, numbers);
+    let count = label::<T>(region, at, numbers, queue, begins);
     let part = count as u16;
-    renumber(nodes, |x| if x == OUTSIDE { part } else { x }, numbers);
+    renumber(
+        region.nodes,
+        |x| if x == OUTSIDE { part } else { x },
+        numbers,
+    );
     count
 }

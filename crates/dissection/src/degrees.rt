@@ -6,16 +6,17 @@ ghost use Rattle.dissection.specs.Numbers.{outside, Within, grouped};
 ghost use Rattle.dissection.specs.Degrees.{degree_by, Compared, Leads};
 
 use crate::numbers::OUTSIDE;
+use crate::region::Region;
 use mesh::{CheckedMesh, NONE};
 
-// The degree of node v in the region whose nodes are not outside in `region`. O(entries of v).
-fn degree(mesh: &CheckedMesh, v: usize, region: &[u16]) -> u16
-    requires { (v < mesh.now.nodes) × (mesh.now.nodes ≤ length region.now) }
-    ensures { result ≡ degree_by (as_lent mesh.now) region.now v }
+// The degree of node v in the region whose nodes are not outside in the numbers. O(entries of v).
+fn degree(mesh: &CheckedMesh, v: usize, numbers: &[u16]) -> u16
+    requires { (v < mesh.now.nodes) × (mesh.now.nodes ≤ length numbers.now) }
+    ensures { result ≡ degree_by (as_lent mesh.now) numbers.now v }
 {
     mesh.list(v)
         .iter()
-        .filter(|&&w| region[w as usize] != OUTSIDE)
+        .filter(|&&w| numbers[w as usize] != OUTSIDE)
         .count() as u16
 }
 
@@ -23,21 +24,21 @@ fn degree(mesh: &CheckedMesh, v: usize, region: &[u16]) -> u16
 fn compare(
     mesh: &CheckedMesh,
     v: u16,
-    region: &[u16],
+    numbers: &[u16],
     groups: &[u16],
     count: usize,
     best: &mut [u16],
     degrees: &mut [u16],
 )
-    requires { (v < mesh.now.nodes) × (mesh.now.nodes ≤ length region.now) × (mesh.now.nodes ≤ length groups.now) × (count ≤ length best.old) × (count ≤ length degrees.old) }
-    ensures { Compared (degree_by (as_lent mesh.now) region.now) v groups.now count best.old degrees.old best.new degrees.new }
+    requires { (v < mesh.now.nodes) × (mesh.now.nodes ≤ length numbers.now) × (mesh.now.nodes ≤ length groups.now) × (count ≤ length best.old) × (count ≤ length degrees.old) }
+    ensures { Compared (degree_by (as_lent mesh.now) numbers.now) v groups.now count best.old degrees.old best.new degrees.new }
 {
     let u = v as usize;
     let c = groups[u] as usize;
     if c >= count {
         return;
     }
-    let d = degree(mesh, u, region);
+    let d = degree(mesh, u, numbers);
     if d < degrees[c] {
         best[c] = v;
         degrees[c] = d;
@@ -55,19 +56,18 @@ fn clear(count: usize, degrees: &mut [u16])
 // In each of the first `count` groups of the nodes a node of least degree, the smallest on a tie, and its degree.
 // O(length + entries of the groups' nodes).
 pub(crate) fn least(
-    mesh: &CheckedMesh,
-    nodes: &[u16],
-    region: &[u16],
+    region: &Region,
+    numbers: &[u16],
     groups: &[u16],
     count: usize,
     best: &mut [u16],
     degrees: &mut [u16],
 )
-    requires { Within mesh.now.nodes nodes.now × (mesh.now.nodes ≤ length region.now) × (mesh.now.nodes ≤ length groups.now) × (count ≤ length best.old) × (count ≤ length degrees.old) }
-    ensures { (c : ℕ) → c < count → Leads (degree_by (as_lent mesh.now) region.now) (get_or (grouped count groups.now nodes.now) c []) (get_or best.new c 0) (get_or degrees.new c 0) }
+    requires { (region.now.mesh.nodes ≤ length numbers.now) × (region.now.mesh.nodes ≤ length groups.now) × (count ≤ length best.old) × (count ≤ length degrees.old) }
+    ensures { (c : ℕ) → c < count → Leads (degree_by (as_lent region.now.mesh) numbers.now) (get_or (grouped count groups.now region.now.nodes.now) c []) (get_or best.new c 0) (get_or degrees.new c 0) }
 {
     clear(count, degrees);
-    for &v in nodes {
-        compare(mesh, v, region, groups, count, best, degrees);
+    for &v in region.nodes {
+        compare(&region.mesh, v, numbers, groups, count, best, degrees);
     }
 }

@@ -7,6 +7,7 @@ ghost use Rattle.dissection.specs.Numbers.{fresh, fresh_of, Within, Walked, Skip
 ghost use Rattle.dissection.specs.Spread.{Spread, Room};
 
 use crate::numbers::{FRESH, fill};
+use crate::region::Region;
 use crate::touch::Touch;
 use mesh::CheckedMesh;
 
@@ -118,21 +119,20 @@ fn component<T: Touch>(
 // number c, the components being counted by their smallest nodes. Where they begin, standing one after the other from place `at`, is noted,
 // and their number is returned. O(length + entries of the nodes reached).
 pub(crate) fn label<T: Touch>(
-    mesh: &CheckedMesh,
-    nodes: &[u16],
+    region: &Region,
     at: u16,
     numbers: &mut [u16],
     queue: &mut [u16],
     begins: &mut [u16],
 ) -> usize
-    requires listed { Within mesh.now.nodes nodes.now × ((v : ℕ) → is_in v (fresh_of mesh.now.nodes numbers.old) ≡ true → is_in v nodes.now ≡ true) × ((v : ℕ) → is_in v nodes.now ≡ true → mesh.now.nodes ≤ get_or numbers.old v 0) }
-    requires at_le_n { (at ≤ mesh.now.nodes) × (mesh.now.nodes ≤ length numbers.old) × (mesh.now.nodes < length queue.old) × (mesh.now.nodes < length begins.old) }
-    ensures { Labelled mesh.now.nodes (adjacent (as_lent mesh.now)) nodes.now at numbers.old numbers.new begins.new result }
+    requires listed { ((v : ℕ) → is_in v (fresh_of region.now.mesh.nodes numbers.old) ≡ true → is_in v region.now.nodes.now ≡ true) × ((v : ℕ) → is_in v region.now.nodes.now ≡ true → region.now.mesh.nodes ≤ get_or numbers.old v 0) }
+    requires at_le_n { (at ≤ region.now.mesh.nodes) × (region.now.mesh.nodes ≤ length numbers.old) × (region.now.mesh.nodes < length queue.old) × (region.now.mesh.nodes < length begins.old) }
+    ensures { Labelled region.now.mesh.nodes (adjacent (as_lent region.now.mesh)) region.now.nodes.now at numbers.old numbers.new begins.new result }
 {
     begins[0] = at;
     let mut count: usize = 0;
-    for &v in nodes {
-        count = component::<T>(mesh, v, numbers, queue, begins, count);
+    for &v in region.nodes {
+        count = component::<T>(&region.mesh, v, numbers, queue, begins, count);
     }
     count
 }

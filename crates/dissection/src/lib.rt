@@ -6,6 +6,7 @@ mod degrees;
 mod levels;
 mod numbers;
 mod parts;
+mod region;
 mod root;
 mod state;
 mod touch;

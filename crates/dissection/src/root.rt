@@ -11,8 +11,8 @@ ghost use Rattle.dissection.specs.Rooted.{Rooted, Measured, Better};
 use crate::degrees::least;
 use crate::levels::{label, walk};
 use crate::numbers::{FRESH, OUTSIDE, fill, renumber, transfer};
+use crate::region::Region;
 use crate::touch::Touch;
-use mesh::CheckedMesh;
 
 // A root with the number of its last level (document 01: ℓ) and the node count of its widest level.
 #[derive(Clone, Copy)]
@@ -33,40 +33,37 @@ fn replaces(next: Root, root: Root) -> bool
 // returned. `found` has the places where the components begin until the candidates are written over them, and `queue` their degrees at the end.
 // O(length + entries of the last level).
 fn candidates<T: Touch>(
-    mesh: &CheckedMesh,
-    nodes: &[u16],
+    region: &Region,
     root: Root,
     levels: &[u16],
     trial: &mut [u16],
     queue: &mut [u16],
     found: &mut [u16],
 ) -> usize
-    requires regional { Regional (as_lent mesh.now) nodes.now trial.old queue.old × (mesh.now.nodes ≤ length levels.now) × (mesh.now.nodes < length found.old) }
-    requires rooted { Rooted (as_lent mesh.now) nodes.now root.node root.last × Standing (as_lent mesh.now) nodes.now root.node levels.now }
-    ensures { (take result found.new ≡ candidates_of (as_lent mesh.now) nodes.now root.node) × (result ≤ mesh.now.nodes) × Only mesh.now.nodes nodes.now trial.new }
+    requires regional { Regional (as_lent region.now.mesh) region.now.nodes.now trial.old queue.old × (region.now.mesh.nodes ≤ length levels.now) × (region.now.mesh.nodes < length found.old) }
+    requires rooted { Rooted (as_lent region.now.mesh) region.now.nodes.now root.node root.last × Standing (as_lent region.now.mesh) region.now.nodes.now root.node levels.now }
+    ensures { (take result found.new ≡ candidates_of (as_lent region.now.mesh) region.now.nodes.now root.node) × (result ≤ region.now.mesh.nodes) × Only region.now.mesh.nodes region.now.nodes.now trial.new }
 {
-    transfer(nodes, levels, trial);
+    transfer(region.nodes, levels, trial);
     let last = root.last;
-    renumber(nodes, |x| if x == last { FRESH } else { OUTSIDE }, trial);
-    let count = label::<T>(mesh, nodes, 0, trial, queue, found);
-    least(mesh, nodes, levels, trial, count, found, queue);
+    renumber(
+        region.nodes,
+        |x| if x == last { FRESH } else { OUTSIDE },
+        trial,
+    );
+    let count = label::<T>(region, 0, trial, queue, found);
+    least(region, levels, trial, count, found, queue);
     count
 }
 
 // The levels from node r, which then stand in the numbers. Returned is the root r with the number of its last level and the node count of its widest.
 // O(length + entries of the region).
-fn levels_from<T: Touch>(
-    mesh: &CheckedMesh,
-    nodes: &[u16],
-    r: u16,
-    numbers: &mut [u16],
-    queue: &mut [u16],
-) -> Root
-    requires { Regional (as_lent mesh.now) nodes.now numbers.old queue.old × (is_in r nodes.now ≡ true) }
-    ensures { (result.node ≡ r) × Measured (as_lent mesh.now) nodes.now r result.last result.width × Standing (as_lent mesh.now) nodes.now r numbers.new }
+fn levels_from<T: Touch>(region: &Region, r: u16, numbers: &mut [u16], queue: &mut [u16]) -> Root
+    requires { Regional (as_lent region.now.mesh) region.now.nodes.now numbers.old queue.old × (is_in r region.now.nodes.now ≡ true) }
+    ensures { (result.node ≡ r) × Measured (as_lent region.now.mesh) region.now.nodes.now r result.last result.width × Standing (as_lent region.now.mesh) region.now.nodes.now r numbers.new }
 {
-    fill(nodes, FRESH, numbers);
-    let w = walk::<T>(mesh, r, numbers, queue);
+    fill(region.nodes, FRESH, numbers);
+    let w = walk::<T>(&region.mesh, r, numbers, queue);
     Root {
         node: r,
         last: w.last,
@@ -77,23 +74,22 @@ fn levels_from<T: Touch>(
 // The first of the candidates that replaces the root, whose levels then stand in the numbers; the root where there is none. The former root, which
 // the root has replaced, does not replace it, so it is not walked from. O(candidates · entries of the region).
 fn first_better<T: Touch>(
-    mesh: &CheckedMesh,
-    nodes: &[u16],
+    region: &Region,
     root: Root,
     former: u16,
     found: &[u16],
     numbers: &mut [u16],
     queue: &mut [u16],
 ) -> Root
-    requires regional { Regional (as_lent mesh.now) nodes.now numbers.old queue.old × Measured (as_lent mesh.now) nodes.now root.node root.last root.width × (improves (as_lent mesh.now) nodes.now root.node former ≡ false) }
-    requires inside { (x : ℕ) → is_in x found.now ≡ true → is_in x nodes.now ≡ true }
-    ensures { (result.node ≡ head_d (keep (improves (as_lent mesh.now) nodes.now root.node) found.now) root.node) × Better (as_lent mesh.now) nodes.now root.node result.node result.last result.width numbers.new }
+    requires regional { Regional (as_lent region.now.mesh) region.now.nodes.now numbers.old queue.old × Measured (as_lent region.now.mesh) region.now.nodes.now root.node root.last root.width × (improves (as_lent region.now.mesh) region.now.nodes.now root.node former ≡ false) }
+    requires inside { (x : ℕ) → is_in x found.now ≡ true → is_in x region.now.nodes.now ≡ true }
+    ensures { (result.node ≡ head_d (keep (improves (as_lent region.now.mesh) region.now.nodes.now root.node) found.now) root.node) × Better (as_lent region.now.mesh) region.now.nodes.now root.node result.node result.last result.width numbers.new }
 {
     for &candidate in found {
         if candidate == former {
             continue;
         }
-        let next = levels_from::<T>(mesh, nodes, candidate, numbers, queue);
+        let next = levels_from::<T>(region, candidate, numbers, queue);
         if replaces(next, root) {
             return next;
         }
@@ -104,8 +100,7 @@ fn first_better<T: Touch>(
 // The root after one turn of the search, from one whose levels stand in `levels`; a better one's levels then stand in `trial`.
 // O(candidates · entries of the region).
 fn improve<T: Touch>(
-    mesh: &CheckedMesh,
-    nodes: &[u16],
+    region: &Region,
     root: Root,
     former: u16,
     levels: &[u16],
@@ -113,39 +108,38 @@ fn improve<T: Touch>(
     queue: &mut [u16],
     found: &mut [u16],
 ) -> Root
-    requires regional { Regional (as_lent mesh.now) nodes.now trial.old queue.old × (mesh.now.nodes ≤ length levels.now) × (mesh.now.nodes < length found.old) }
-    requires measured { Measured (as_lent mesh.now) nodes.now root.node root.last root.width × Standing (as_lent mesh.now) nodes.now root.node levels.now × (improves (as_lent mesh.now) nodes.now root.node former ≡ false) }
-    ensures { (result.node ≡ next_root (as_lent mesh.now) nodes.now root.node) × Better (as_lent mesh.now) nodes.now root.node result.node result.last result.width trial.new }
+    requires regional { Regional (as_lent region.now.mesh) region.now.nodes.now trial.old queue.old × (region.now.mesh.nodes ≤ length levels.now) × (region.now.mesh.nodes < length found.old) }
+    requires measured { Measured (as_lent region.now.mesh) region.now.nodes.now root.node root.last root.width × Standing (as_lent region.now.mesh) region.now.nodes.now root.node levels.now × (improves (as_lent region.now.mesh) region.now.nodes.now root.node former ≡ false) }
+    ensures { (result.node ≡ next_root (as_lent region.now.mesh) region.now.nodes.now root.node) × Better (as_lent region.now.mesh) region.now.nodes.now root.node result.node result.last result.width trial.new }
 {
-    let count = candidates::<T>(mesh, nodes, root, levels, trial, queue, found);
-    first_better::<T>(mesh, nodes, root, former, &found[..count], trial, queue)
+    let count = candidates::<T>(region, root, levels, trial, queue, found);
+    first_better::<T>(region, root, former, &found[..count], trial, queue)
 }
 
 // The number of the last level from the region's pseudo-peripheral root, whose levels then stand in the numbers. No root comes twice, since each
 // improves on all before it. Candidates are walked from in `trial`, so that the root's own levels stay and are not walked again; in it every node is
 // outside, before and after. O(candidates tried · entries of the region).
 pub(crate) fn search<T: Touch>(
-    mesh: &CheckedMesh,
-    nodes: &[u16],
+    region: &Region,
     numbers: &mut [u16],
     trial: &mut [u16],
     queue: &mut [u16],
     found: &mut [u16],
 ) -> u16
-    requires { Regional (as_lent mesh.now) nodes.now numbers.old queue.old × Only mesh.now.nodes [] trial.old × (mesh.now.nodes ≤ length trial.old) × (mesh.now.nodes < length found.old) }
-    ensures { Rooted (as_lent mesh.now) nodes.now (root_of (as_lent mesh.now) nodes.now) result × Standing (as_lent mesh.now) nodes.now (root_of (as_lent mesh.now) nodes.now) numbers.new × Only mesh.now.nodes [] trial.new }
+    requires { Regional (as_lent region.now.mesh) region.now.nodes.now numbers.old queue.old × Only region.now.mesh.nodes [] trial.old × (region.now.mesh.nodes ≤ length trial.old) × (region.now.mesh.nodes < length found.old) }
+    ensures { Rooted (as_lent region.now.mesh) region.now.nodes.now (root_of (as_lent region.now.mesh) region.now.nodes.now) result × Standing (as_lent region.now.mesh) region.now.nodes.now (root_of (as_lent region.now.mesh) region.now.nodes.now) numbers.new × Only region.now.mesh.nodes [] trial.new }
 {
-    let mut root = levels_from::<T>(mesh, nodes, nodes[0], numbers, queue);
+    let mut root = levels_from::<T>(region, region.nodes[0], numbers, queue);
     let mut former = root.node;
     loop {
-        let next = improve::<T>(mesh, nodes, root, former, numbers, trial, queue, found);
+        let next = improve::<T>(region, root, former, numbers, trial, queue, found);
         if next.node == root.node {
             break;
         }
-        transfer(nodes, trial, numbers);
+        transfer(region.nodes, trial, numbers);
         former = root.node;
         root = next;
     }
-    fill(nodes, OUTSIDE, trial);
+    fill(region.nodes, OUTSIDE, trial);
     root.last
 }

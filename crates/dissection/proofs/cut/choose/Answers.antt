@@ -9,14 +9,14 @@ use Rattle.dissection.proofs.cut.choose.Goals.{Start}
 use Rattle.dissection.proofs.cut.choose.Goals as goal
 
 -- the number of the last level is at most the number of nodes
-few : (c : Start) → c.args.last ≤ c.args.mesh.now.nodes
-few c = last-few (as_lent c.args.mesh.now) c.args.nodes.now c.requires.inside.0 c.args.last c.requires.rooted.0 c.args.numbers.now c.requires.rooted.1
+few : (c : Start) → c.args.last ≤ c.args.region.now.mesh.nodes
+few c = last-few (as_lent c.args.region.now.mesh) c.args.region.now.nodes.now c.args.region.now.within c.args.last c.requires.rooted.0 c.args.numbers.now c.requires.rooted.1
 
 pub fill-requires : goal.fill-requires
-fill-requires c v h = omega (arith, c.requires.inside.0.inside v h, c.requires.inside.1)
+fill-requires c v h = omega (arith, c.args.region.now.within.inside v h, c.requires.long)
 
 pub returns-then-last-le1 : goal.returns-then-last-le1
-returns-then-last-le1 c = parted-whole (as_lent c.args.mesh.now) c.args.nodes.now c.requires.inside.0 c.args.last c.requires.rooted.0 c.args.numbers.now c.requires.rooted.1 c.if-last-le1.true _ c.fill.ensures
+returns-then-last-le1 c = parted-whole (as_lent c.args.region.now.mesh) c.args.region.now.nodes.now c.args.region.now.within c.args.last c.requires.rooted.0 c.args.numbers.now c.requires.rooted.1 c.if-last-le1.true _ c.fill.ensures
 
 pub overflow_add-last : goal.overflow_add-last
 overflow_add-last c =
@@ -26,10 +26,10 @@ overflow_add-last c =
 pub separate-requires : goal.separate-requires
 separate-requires c =
     let le = few (goal.at.separate-requires c).Start in
-    (c.requires.inside.0, c.requires.inside.1, omega arith)
+    (c.requires.long, omega arith)
 
 pub renumber-requires-clause-within : goal.renumber-requires-clause-within
-renumber-requires-clause-within c = record { ascends = c.requires.inside.0.ascends; inside = λ v h. let lt = c.requires.inside.0.inside v h in search rules }
+renumber-requires-clause-within c = record { ascends = c.args.region.now.within.ascends; inside = λ v h. let lt = c.args.region.now.within.inside v h in search rules }
 
 pub returns : goal.returns
-returns c = parted_cut (as_lent c.args.mesh.now) c.args.nodes.now c.requires.inside.0 c.args.last c.requires.rooted.0 c.args.numbers.now c.requires.rooted.1 c.args.mesh.now.checked (omega (arith, c.if-last-le1.false)) c.separate.new.numbers _ c.separate.ensures (c.renumber.ensures rest_fresh (λ x r e. search (rules, e)))
+returns c = parted_cut (as_lent c.args.region.now.mesh) c.args.region.now.nodes.now c.args.region.now.within c.args.last c.requires.rooted.0 c.args.numbers.now c.requires.rooted.1 c.args.region.now.mesh.checked (omega (arith, c.if-last-le1.false)) c.separate.new.numbers _ c.separate.ensures (c.renumber.ensures rest_fresh (λ x r e. search (rules, e)))

@@ -12,8 +12,8 @@ use Rattle.dissection.proofs.cut.separate.Goals.{In-loop-v}
 use Rattle.dissection.proofs.cut.separate.Goals as goal
 
 -- a node of the list is a node of the mesh
-inside : (c : In-loop-v) → get_or c.args.nodes.now c.loop-v.v-index 0 < c.args.mesh.now.nodes
-inside c = (c.requires.0.inside (get_or c.args.nodes.now c.loop-v.v-index 0) (is_in-get_or c.args.nodes.now c.loop-v.v-index 0 c.loop-v-test.true))
+inside : (c : In-loop-v) → get_or c.args.region.now.nodes.now c.loop-v.v-index 0 < c.args.region.now.mesh.nodes
+inside c = (c.args.region.now.within.inside (get_or c.args.region.now.nodes.now c.loop-v.v-index 0) (is_in-get_or c.args.region.now.nodes.now c.loop-v.v-index 0 c.loop-v-test.true))
 
 pub loop-v-init : goal.loop-v-init
 loop-v-init c = renumbering_none _ _ _
@@ -29,9 +29,9 @@ bounds-numbers-v c = let lt = inside (goal.at.bounds-numbers-v c).In-loop-v in s
 
 pub loop-v-preserved : goal.loop-v-preserved
 loop-v-preserved c =
-    renumbering_more c.loop-v.invariant refl (omega arith) (λ v h. omega (arith, c.requires.0.inside v h, c.requires.1)) c.separated.result
+    renumbering_more c.loop-v.invariant refl (omega arith) (λ v h. omega (arith, c.args.region.now.within.inside v h, c.requires.0)) c.separated.result
     (c.separated.ensures
-    ∙ left_out_next (as_lent c.args.mesh.now) c.args.j (omega (arith, c.requires.2, c.args.mesh.now.checked.few)) c.loop-v.invariant (omega arith) c.requires.0.ascends)
+    ∙ left_out_next (as_lent c.args.region.now.mesh) c.args.j (omega (arith, c.requires.1, c.args.region.now.mesh.checked.few)) c.loop-v.invariant (omega arith) c.args.region.now.within.ascends)
 
 pub returns : goal.returns
 returns c = renumbering_all c.loop-v.invariant (omega arith)

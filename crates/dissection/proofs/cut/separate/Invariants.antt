@@ -5,4 +5,4 @@ use Rattle.dissection.proofs.Cuts.{left_out}
 use Rattle.dissection.proofs.cut.separate.Given as goal
 
 abbrev pub invariant-loop-v : goal.invariant-loop-v
-invariant-loop-v l = Renumbering (left_out (as_lent l.mesh) l.j l.initial.numbers) l.nodes l.initial.numbers l.v-index l.numbers
+invariant-loop-v l = Renumbering (left_out (as_lent l.region.mesh) l.j l.initial.numbers) l.region.nodes.now l.initial.numbers l.v-index l.numbers

@@ -20,17 +20,17 @@ count-requires-clause-can c = (
   tt,
   tt,
   serves_from_places (YieldsList-from_slice c.list.result.now (cc)) (search of_calls) (λ x k lt e.
-      let inside : x.now < length c.args.region.now = omega (arith, e, get_or_default c.list.result.now k x.now 0 lt, listed_node (as_lent c.args.mesh.now) c.args.mesh.now.checked c.args.v c.list.result.now c.list.ensures k lt, c.requires.1) in
+      let inside : x.now < length c.args.numbers.now = omega (arith, e, get_or_default c.list.result.now k x.now 0 lt, listed_node (as_lent c.args.mesh.now) c.args.mesh.now.checked c.args.v c.list.result.now c.list.ensures k lt, c.requires.1) in
       search (rules, inside)),
 )
 
 -- the entries that are counted are those in the region
-own : (c : After-count) → c.count.result ≡ degree_by (as_lent c.args.mesh.now) c.args.region.now c.args.v
-own c = rw (← c.list.ensures) (count_from_yields_List c.filter.result c.count.result c.count.ensures.ran (YieldsList-from_filter _ (is_inside c.args.region.now) (YieldsList-from_slice c.list.result.now (cc)) c.filter.ensures.closure (λ x r q k. search (rules, tests))))
+own : (c : After-count) → c.count.result ≡ degree_by (as_lent c.args.mesh.now) c.args.numbers.now c.args.v
+own c = rw (← c.list.ensures) (count_from_yields_List c.filter.result c.count.result c.count.ensures.ran (YieldsList-from_filter _ (is_inside c.args.numbers.now) (YieldsList-from_slice c.list.result.now (cc)) c.filter.ensures.closure (λ x r q k. search (rules, tests))))
 
 pub overflow_cast-result : goal.overflow_cast-result
 overflow_cast-result c =
-    let few = degree_few (as_lent c.args.mesh.now) c.args.mesh.now.checked c.args.region.now c.args.v in
+    let few = degree_few (as_lent c.args.mesh.now) c.args.mesh.now.checked c.args.numbers.now c.args.v in
     let is = own (goal.at.overflow_cast-result c).After-count in
     omega (arith, few, is)
 

@@ -9,5 +9,5 @@ use Rattle.dissection.proofs.degrees.least.Given as goal
 
 abbrev pub invariant-loop-v : goal.invariant-loop-v
 invariant-loop-v l =
-    (l.v-index ≤ length l.nodes) × (length l.best ≡ length l.initial.best) × (length l.degrees ≡ length l.initial.degrees)
-    × Leading (degree_by (as_lent l.mesh) l.region) l.groups l.count (take l.v-index l.nodes) l.best l.degrees
+    (l.v-index ≤ length l.region.nodes.now) × (length l.best ≡ length l.initial.best) × (length l.degrees ≡ length l.initial.degrees)
+    × Leading (degree_by (as_lent l.region.mesh) l.numbers) l.groups l.count (take l.v-index l.region.nodes.now) l.best l.degrees

@@ -11,8 +11,8 @@ use Rattle.dissection.proofs.levels.label.Goals as goal
 use Rattle.dissection.proofs.levels.label.Given as given
 
 -- what is asked of the nodes and the numbers
-asked : (g : given.Over) (c : Start g) → Labelable c.args.mesh.now.nodes c.args.nodes.now c.args.numbers.now
-asked g c = record { small = omega (arith, c.args.mesh.now.checked.few); within = c.requires.listed.0; whole = c.requires.listed.1; unlabelled = c.requires.listed.2 }
+asked : (g : given.Over) (c : Start g) → Labelable c.args.region.now.mesh.nodes c.args.region.now.nodes.now c.args.numbers.now
+asked g c = record { small = omega (arith, c.args.region.now.mesh.checked.few); within = c.args.region.now.within; whole = c.requires.listed.0; unlabelled = c.requires.listed.1 }
 
 -- there is room for as many places as at the start
 long : (g : given.Over) (c : At-loop-v g) → length c.loop-v.begins ≡ length c.args.begins.now
@@ -23,10 +23,10 @@ loop-v-init g c = (refl, refl, refl, labelling_none _ _ _ _ _ c.args.begins.now 
 
 pub component-count-requires : goal.component-count-requires
 component-count-requires g c =
-    let lt : c.loop-v.v-index < length c.args.nodes.now = omega arith in
+    let lt : c.loop-v.v-index < length c.args.region.now.nodes.now = omega arith in
     record {
       bounded = (
-        c.requires.listed.0.inside (get_or c.args.nodes.now c.loop-v.v-index 0) (is_in-get_or c.args.nodes.now c.loop-v.v-index 0 lt),
+        c.args.region.now.within.inside (get_or c.args.region.now.nodes.now c.loop-v.v-index 0) (is_in-get_or c.args.region.now.nodes.now c.loop-v.v-index 0 lt),
         search rules,
         search rules,
         omega (arith, long g (goal.at.component-count-requires g c).At-loop-v),

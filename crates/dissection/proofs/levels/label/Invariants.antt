@@ -11,4 +11,4 @@ invariant-loop-v g l =
     (length l.numbers ≡ length l.initial.numbers)
     × (length l.queue ≡ length l.initial.queue)
     × (length l.begins ≡ length l.initial.begins)
-    × Labelling l.mesh.nodes (adjacent (as_lent l.mesh)) l.nodes l.at l.initial.numbers l.v-index l.numbers l.begins l.count
+    × Labelling l.region.mesh.nodes (adjacent (as_lent l.region.mesh)) l.region.nodes.now l.at l.initial.numbers l.v-index l.numbers l.begins l.count

@@ -19,32 +19,32 @@ loop-candidate-preserved-then-candidate-former g c = (
   c.loop-candidate.invariant.0,
   c.loop-candidate.invariant.1,
   c.loop-candidate.invariant.2,
-  scan_miss (improves (as_lent c.args.mesh.now) c.args.nodes.now c.args.root.node) c.args.found.now c.loop-candidate.candidate-index (omega arith) c.loop-candidate.invariant.3 (ap (improves (as_lent c.args.mesh.now) c.args.nodes.now c.args.root.node) c.if-candidate-former.true ∙ c.requires.regional.2),
+  scan_miss (improves (as_lent c.args.region.now.mesh) c.args.region.now.nodes.now c.args.root.node) c.args.found.now c.loop-candidate.candidate-index (omega arith) c.loop-candidate.invariant.3 (ap (improves (as_lent c.args.region.now.mesh) c.args.region.now.nodes.now c.args.root.node) c.if-candidate-former.true ∙ c.requires.regional.2),
 )
 
 pub returns-then-replaces : goal.returns-then-replaces
 returns-then-replaces g c = (
   c.levels_from-next.ensures.0
-      ∙ sym (scan_hit (improves (as_lent c.args.mesh.now) c.args.nodes.now c.args.root.node) c.args.found.now c.loop-candidate.candidate-index c.args.root.node (omega arith) c.loop-candidate.invariant.3
-      (improves_is (as_lent c.args.mesh.now) c.args.nodes.now c.requires.regional.1 c.levels_from-next.ensures.1 ∙ sym c.replaces.ensures ∙ c.if-replaces.true)),
-  better_walked (as_lent c.args.mesh.now) c.args.nodes.now c.levels_from-next.ensures.0 c.levels_from-next.ensures.1 c.levels_from-next.ensures.2,
+      ∙ sym (scan_hit (improves (as_lent c.args.region.now.mesh) c.args.region.now.nodes.now c.args.root.node) c.args.found.now c.loop-candidate.candidate-index c.args.root.node (omega arith) c.loop-candidate.invariant.3
+      (improves_is (as_lent c.args.region.now.mesh) c.args.region.now.nodes.now c.requires.regional.1 c.levels_from-next.ensures.1 ∙ sym c.replaces.ensures ∙ c.if-replaces.true)),
+  better_walked (as_lent c.args.region.now.mesh) c.args.region.now.nodes.now c.levels_from-next.ensures.0 c.levels_from-next.ensures.1 c.levels_from-next.ensures.2,
 )
 
 pub loop-candidate-preserved : goal.loop-candidate-preserved
 loop-candidate-preserved g c =
-    let new : length c.levels_from-next.new.numbers ≡ length c.loop-candidate.numbers = c.numbers-1.given in
-    let after : length c.levels_from-next.new.queue ≡ length c.loop-candidate.queue = c.queue-1.given in (
+    let new : length c.levels_from-next.new.numbers ≡ length c.loop-candidate.numbers = c.levels_from-next.auto.numbers in
+    let after : length c.levels_from-next.new.queue ≡ length c.loop-candidate.queue = c.levels_from-next.auto.queue in (
       new ∙ c.loop-candidate.invariant.0,
       after ∙ c.loop-candidate.invariant.1,
-      regional_again (as_lent c.args.mesh.now) c.args.nodes.now c.loop-candidate.invariant.2 c.levels_from-next.ensures.2.only new after,
-      scan_miss (improves (as_lent c.args.mesh.now) c.args.nodes.now c.args.root.node) c.args.found.now c.loop-candidate.candidate-index (omega arith) c.loop-candidate.invariant.3
-          (improves_is (as_lent c.args.mesh.now) c.args.nodes.now c.requires.regional.1 c.levels_from-next.ensures.1 ∙ sym c.replaces.ensures ∙ c.if-replaces.false),
+      regional_again (as_lent c.args.region.now.mesh) c.args.region.now.nodes.now c.loop-candidate.invariant.2 c.levels_from-next.ensures.2.only new after,
+      scan_miss (improves (as_lent c.args.region.now.mesh) c.args.region.now.nodes.now c.args.root.node) c.args.found.now c.loop-candidate.candidate-index (omega arith) c.loop-candidate.invariant.3
+          (improves_is (as_lent c.args.region.now.mesh) c.args.region.now.nodes.now c.requires.regional.1 c.levels_from-next.ensures.1 ∙ sym c.replaces.ensures ∙ c.if-replaces.false),
     )
 
 pub returns : goal.returns
 returns g c = (
-  sym (scan_none (improves (as_lent c.args.mesh.now) c.args.nodes.now c.args.root.node) c.args.found.now c.loop-candidate.candidate-index c.args.root.node (omega arith) c.loop-candidate.invariant.3),
-  better_same (as_lent c.args.mesh.now) c.args.nodes.now c.requires.regional.1 c.loop-candidate.invariant.2.only,
+  sym (scan_none (improves (as_lent c.args.region.now.mesh) c.args.region.now.nodes.now c.args.root.node) c.args.found.now c.loop-candidate.candidate-index c.args.root.node (omega arith) c.loop-candidate.invariant.3),
+  better_same (as_lent c.args.region.now.mesh) c.args.region.now.nodes.now c.requires.regional.1 c.loop-candidate.invariant.2.only,
 )
 
 pub loop-candidate-init : goal.loop-candidate-init

@@ -9,5 +9,5 @@ use Rattle.dissection.proofs.root.first_better.Given as goal
 
 abbrev pub invariant-loop-candidate : goal.invariant-loop-candidate
 invariant-loop-candidate g l =
-    (length l.numbers ≡ length l.initial.numbers) × (length l.queue ≡ length l.initial.queue) × Regional (as_lent l.mesh) l.nodes l.numbers l.queue
-    × (keep (improves (as_lent l.mesh) l.nodes l.root.node) l.found ≡ keep (improves (as_lent l.mesh) l.nodes l.root.node) (drop l.candidate-index l.found))
+    (length l.numbers ≡ length l.initial.numbers) × (length l.queue ≡ length l.initial.queue) × Regional (as_lent l.region.mesh) l.region.nodes.now l.numbers l.queue
+    × (keep (improves (as_lent l.region.mesh) l.region.nodes.now l.root.node) l.found ≡ keep (improves (as_lent l.region.mesh) l.region.nodes.now l.root.node) (drop l.candidate-index l.found))

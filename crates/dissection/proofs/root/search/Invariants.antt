@@ -26,7 +26,7 @@ pub record Searched (m : Mesh) (nodes numbers trial queue : List ℕ) (root last
 abbrev pub invariant-loop-root : goal.invariant-loop-root
 invariant-loop-root g l =
     (length l.numbers ≡ length l.initial.numbers) × (length l.trial ≡ length l.initial.trial) × (length l.queue ≡ length l.initial.queue) × (length l.found ≡ length l.initial.found)
-    × Searched (as_lent l.mesh) l.nodes l.numbers l.trial l.queue l.root.node l.root.last l.root.width l.former
+    × Searched (as_lent l.region.mesh) l.region.nodes.now l.numbers l.trial l.queue l.root.node l.root.last l.root.width l.former
 
 abbrev pub decreases-loop-root : goal.decreases-loop-root
-decreases-loop-root g l = improvers (as_lent l.mesh) l.nodes l.root.node
+decreases-loop-root g l = improvers (as_lent l.region.mesh) l.region.nodes.now l.root.node
