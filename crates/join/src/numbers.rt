@@ -15,8 +15,8 @@ fn put_paired(pairs: &Pairing, goes: &mut [u16])
     requires { (length pairs.now.first.now ≡ length pairs.now.second.now) × (twice pairs.now.second.now ≡ false) × ((w : ℕ) → is_in w pairs.now.second.now ≡ true → w < length goes.old) }
     ensures { (length goes.new ≡ length goes.old) × ((w : ℕ) → get_or goes.new w 0 ≡ cond (is_in w pairs.now.second.now) (get_or pairs.now.first.now (index_of w pairs.now.second.now) 0) (get_or goes.old w 0)) }
 {
-    for (k, &w) in pairs.second.iter().enumerate() {
-        goes[w as usize] = pairs.first[k];
+    for (v, w) in pairs.first.iter().zip(pairs.second.iter()) {
+        goes[*w as usize] = *v;
     }
 }
 
