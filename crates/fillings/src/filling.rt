@@ -1,7 +1,8 @@
 // What the factorization, the solution and the question about a pair are lent: four numbers, a plan's five lists, the two buffers of values and the
 // vector, each the first entries of an array, and the pair.
-use meshes::{Case, first16, first32};
-use naive::NaivePlan;
+use meshes::{Case, first};
+use naive::{GivenPlan, GivenValues, NaivePlan, NodeLists, Room};
+use planfile::LentPlan;
 
 // The numbers: how many unknowns a node has, n, p and s, then the lengths of the lists, in their order, of both buffers and of the vector, and the two
 // positions.
@@ -61,6 +62,32 @@ pub(crate) struct Filling {
 // fault in them; its buffers and the vector have the right lengths and hold zeros, and the pair is 0 and 0. A plan of no nodes where the mesh has
 // none.
 pub(crate) fn planned(c: &Case) -> Filling {
+    let room = Room {
+        order: 64,
+        positions: 64,
+        sizes: 64,
+        parents: 64,
+        column_starts: 65,
+        rows: 2016,
+    };
+    match naive::plan(1, c.mesh(), room) {
+        Ok(plan) => of_plan(plan),
+        Err(_) => Filling {
+            numbers: [1, 0, 0, 0, 64, 64, 64, 65, 2016, 0, 0, 0, 0, 0],
+            multiplications: 0,
+            order: [0; 64],
+            sizes: [0; 64],
+            parents: [0; 64],
+            column_starts: [0; 65],
+            rows: [0; 2016],
+            diagonal: [0.0; 64],
+            values: [0.0; 2016],
+            vector: [0.0; 64],
+        },
+    }
+}
+
+fn of_plan(plan: NaivePlan) -> Filling {
     let NaivePlan {
         nodes,
         parts,
@@ -72,18 +99,7 @@ pub(crate) fn planned(c: &Case) -> Filling {
         column_starts,
         rows,
         ..
-    } = naive::plan(
-        1,
-        c.n,
-        first32(&c.starts, c.start_count),
-        first16(&c.neighbours, c.entry_count),
-        64,
-        64,
-        64,
-        64,
-        65,
-        2016,
-    );
+    } = plan;
     let n = nodes as usize;
     let p = parts as usize;
     let s = slots as usize;
@@ -101,11 +117,6 @@ pub(crate) fn planned(c: &Case) -> Filling {
     }
 }
 
-// The first k entries, or all where there are not so many.
-fn first(list: &[f64], k: usize) -> &[f64] {
-    list.get(..k).unwrap_or(list)
-}
-
 impl Filling {
     pub(crate) fn number(&self, number: Number) -> usize {
         self.numbers[number as usize]
@@ -117,23 +128,23 @@ impl Filling {
     }
 
     pub(crate) fn order(&self) -> &[u16] {
-        first16(&self.order, self.number(Number::Order))
+        first(&self.order, self.number(Number::Order))
     }
 
     pub(crate) fn sizes(&self) -> &[u16] {
-        first16(&self.sizes, self.number(Number::Sizes))
+        first(&self.sizes, self.number(Number::Sizes))
     }
 
     pub(crate) fn parents(&self) -> &[u16] {
-        first16(&self.parents, self.number(Number::Parents))
+        first(&self.parents, self.number(Number::Parents))
     }
 
     pub(crate) fn column_starts(&self) -> &[u32] {
-        first32(&self.column_starts, self.number(Number::ColumnStarts))
+        first(&self.column_starts, self.number(Number::ColumnStarts))
     }
 
     pub(crate) fn rows(&self) -> &[u16] {
-        first16(&self.rows, self.number(Number::Rows))
+        first(&self.rows, self.number(Number::Rows))
     }
 
     pub(crate) fn diagonal(&self) -> &[f64] {
@@ -142,6 +153,51 @@ impl Filling {
 
     pub(crate) fn values(&self) -> &[f64] {
         first(&self.values, self.number(Number::Values))
+    }
+
+    // The plan as it is lent to the library.
+    pub(crate) fn lent<'a>(&'a self) -> LentPlan<'a> {
+        LentPlan {
+            unknowns: self.number(Number::Unknowns),
+            nodes: self.number(Number::Nodes),
+            parts: self.number(Number::Parts),
+            slots: self.number(Number::Slots),
+            order: self.order(),
+            sizes: self.sizes(),
+            parents: self.parents(),
+            column_starts: self.column_starts(),
+            rows: self.rows(),
+        }
+    }
+
+    // Its columns as they are lent to `naive`,
+    pub(crate) fn columns<'a>(&'a self) -> NodeLists<'a> {
+        NodeLists {
+            nodes: self.number(Number::Nodes),
+            starts: self.column_starts(),
+            entries: self.rows(),
+        }
+    }
+
+    // the plan,
+    pub(crate) fn given<'a>(&'a self) -> GivenPlan<'a> {
+        GivenPlan {
+            unknowns: self.number(Number::Unknowns),
+            parts: self.number(Number::Parts),
+            slots: self.number(Number::Slots),
+            order: self.order(),
+            sizes: self.sizes(),
+            parents: self.parents(),
+            columns: self.columns(),
+        }
+    }
+
+    // and its values.
+    pub(crate) fn given_values<'a>(&'a self) -> GivenValues<'a> {
+        GivenValues {
+            diagonal: self.diagonal(),
+            values: self.values(),
+        }
     }
 
     // The same with lists of just the lengths that are needed.

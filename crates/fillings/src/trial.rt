@@ -2,23 +2,14 @@
 use crate::counts::{Answer, Asked, Counts, Outcome};
 use crate::filling::{Filling, Number};
 use crate::solution::try_passes;
-use naive::NaiveFactor;
-
-// The first k entries of a buffer, or all where there are not so many.
-pub(crate) fn front(list: &mut [f64], k: usize) -> &mut [f64] {
-    if k <= list.len() {
-        return &mut list[..k];
-    }
-    list
-}
+use meshes::front;
+use naive::{NaiveFactor, NaiveReport, Refused};
+use plan::{Refusal, Report};
 
 // What the library leaves: its answer and the arrays whose first entries were lent.
 #[derive(Clone, Copy)]
 struct Left {
-    refusal: u32,
-    smallest: f64,
-    largest: f64,
-    operations: u64,
+    answer: Result<Report, Refusal>,
     diagonal: [f64; 64],
     values: [f64; 2016],
 }
@@ -28,43 +19,23 @@ fn factor(f: &Filling) -> Left {
     let mut diagonal = f.diagonal;
     let mut values = f.values;
     let answer = factor::factor(
-        f.number(Number::Unknowns),
-        f.number(Number::Nodes),
-        f.number(Number::Parts),
-        f.number(Number::Slots),
-        f.order(),
-        f.sizes(),
-        f.parents(),
-        f.column_starts(),
-        f.rows(),
+        &f.lent(),
         front(&mut diagonal, f.number(Number::Diagonal)),
         front(&mut values, f.number(Number::Values)),
     );
-    let report = answer.report;
     Left {
-        refusal: answer.refusal,
-        smallest: report.smallest,
-        largest: report.largest,
-        operations: report.operations,
+        answer,
         diagonal,
         values,
     }
 }
 
-fn factor_naively(f: &Filling) -> NaiveFactor {
-    naive::factor(
-        f.number(Number::Unknowns),
-        f.number(Number::Nodes),
-        f.number(Number::Parts),
-        f.number(Number::Slots),
-        f.order(),
-        f.sizes(),
-        f.parents(),
-        f.column_starts(),
-        f.rows(),
-        f.diagonal(),
-        f.values(),
-    )
+// The number of an answer of `naive`: that of the refusal, 0 for none.
+pub(crate) fn number_of<T>(answer: &Result<T, Refused>) -> u32 {
+    match answer {
+        Ok(_) => 0,
+        Err(refused) => refused.0,
+    }
 }
 
 // Whether two floats have the same bits; one NaN is taken for another. Equal floats have, but for the two zeros, whose reciprocals differ.
@@ -81,12 +52,22 @@ pub(crate) fn holds(left: &[f64], want: &[f64], lent: usize, found: &[f64]) -> b
     left.iter().zip(wanted).all(|(x, y)| same(*x, *y))
 }
 
+// Whether both report the same in every bit, or refuse by the same number.
+fn same_report(b: Result<Report, Refusal>, w: Result<NaiveReport, Refused>) -> bool {
+    match (b, w) {
+        (Ok(report), Ok(want)) => {
+            same(report.smallest, want.smallest)
+                && same(report.largest, want.largest)
+                && report.operations == want.operations
+        }
+        (Err(refusal), Err(refused)) => refusal.number() == refused.0,
+        _ => false,
+    }
+}
+
 // Whether both answered and left the same, in every bit of both arrays, and no pair of two rows of a column is without a slot.
 fn agree(f: &Filling, b: &Left, w: &NaiveFactor) -> bool {
-    b.refusal == w.refusal
-        && same(b.smallest, w.smallest)
-        && same(b.largest, w.largest)
-        && b.operations == w.operations
+    same_report(b.answer, w.answer)
         && w.strays == 0
         && holds(
             &b.diagonal,
@@ -95,6 +76,14 @@ fn agree(f: &Filling, b: &Left, w: &NaiveFactor) -> bool {
             &f.diagonal,
         )
         && holds(&b.values, &w.values, f.number(Number::Values), &f.values)
+}
+
+// Whether the library counted as many operations as were planned, if it factored and they are known.
+fn as_planned(f: &Filling, answer: Result<Report, Refusal>) -> bool {
+    match answer {
+        Ok(report) => f.multiplications == 0 || report.operations == f.multiplications,
+        Err(_) => true,
+    }
 }
 
 impl Filling {
@@ -114,15 +103,16 @@ impl Filling {
 // A filling that is factored by both, solved and read. Where buffers were changed, which 31 does too, it is solved and read with these as well.
 pub(crate) fn try_filling(c: &mut Counts, f: &Filling) {
     let b = factor(f);
-    let w = factor_naively(f);
+    let w = naive::factor(f.given(), f.given_values());
+    let number = number_of(&w.answer);
     c.count(Outcome {
         asked: Asked::Factor,
-        answer: Answer::Number(w.refusal),
+        answer: Answer::Number(number),
         same: agree(f, &b, &w),
-        as_planned: w.refusal != 0 || f.multiplications == 0 || b.operations == f.multiplications,
+        as_planned: as_planned(f, b.answer),
     });
     try_passes(c, f);
-    if w.refusal == 0 || w.refusal == 31 {
+    if number == 0 || number == 31 {
         try_passes(c, &f.with_left(b));
     }
 }
