@@ -84,18 +84,18 @@ fn write_column(n: usize, j: u16, count: usize, tree: &[u16], marks: &[u16], row
 // What the columns' rows are written from: a mesh in its order, its elimination tree, the children of each column in it, the greatest first, and where
 // each column's rows start.
 #[derive(Clone, Copy)]
-struct Columns<'a, 'b> {
+struct Columns<'a, 'b, 'c> {
     ordered: OrderedMesh<'a>,
-    tree: &'a [u16],
-    first: &'b [u16],
-    next: &'b [u16],
-    column_starts: &'a [u32],
+    tree: &'b [u16],
+    first: &'c [u16],
+    next: &'c [u16],
+    column_starts: &'b [u32],
     ghost parents: { (ordered.mesh.nodes ≤ length tree.now) × Tree (as_lent ordered.mesh) ordered.order.now tree.now },
     ghost children: { Children ordered.mesh.nodes tree.now ordered.mesh.nodes first.now next.now },
     ghost starts: { take (ordered.mesh.nodes + 1) column_starts.now ≡ starts_of (columns (as_lent ordered.mesh) ordered.order.now) },
 }
 
-impl<'a, 'b> Columns<'a, 'b> {
+impl<'a, 'b, 'c> Columns<'a, 'b, 'c> {
     // The rows of the children of column j get the mark j. O(their rows).
     fn mark_children(&self, j: usize, rows: &[u16], marks: &mut [u16])
         requires inside { j < self.now.ordered.mesh.nodes }
@@ -133,12 +133,12 @@ impl<'a, 'b> Columns<'a, 'b> {
 }
 
 // The rows of all columns. O(4,096 + slots + entries + the ways up the tree).
-pub fn write_columns<'a>(
-    mesh: &CheckedMesh<'a>,
-    order: &'a [u16],
-    positions: &'a [u16],
-    tree: &'a [u16],
-    column_starts: &'a [u32],
+pub fn write_columns(
+    mesh: &CheckedMesh,
+    order: &[u16],
+    positions: &[u16],
+    tree: &[u16],
+    column_starts: &[u32],
     rows: &mut [u16],
 )
     requires ordered { Ordered (as_lent mesh.now) order.now positions.now × (mesh.now.nodes ≤ length tree.now) × Tree (as_lent mesh.now) order.now tree.now }
