@@ -1,5 +1,6 @@
 // The slots of a draft as a matrix, a cell for each column and row below 64, and drafts with other slots.
 use crate::draft::{Draft, Field};
+use meshes::Buffers;
 
 // Whether there is a slot, by column and row. Columns and rows from 64 on have the cells of their remainders.
 #[derive(Clone, Copy)]
@@ -77,8 +78,13 @@ fn put_rows(rows: &mut [u16; 2100], at: usize, column: &[bool; 64]) -> usize {
 // The draft with these slots.
 pub(crate) fn with_cells(mut d: Draft, cells: &Cells) -> Draft {
     let mut at = 0usize;
-    d.column_starts = [meshes::STALE_COLUMN_STARTS; 80];
-    d.rows = [meshes::STALE_ROWS; 2100];
+    let Buffers {
+        column_starts,
+        rows,
+        ..
+    } = Buffers::new();
+    d.column_starts = column_starts;
+    d.rows = rows;
     d.column_starts[0] = 0;
     for (j, column) in cells.columns.iter().enumerate().take(d.n) {
         at = put_rows(&mut d.rows, at, column);

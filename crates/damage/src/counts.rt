@@ -1,5 +1,6 @@
 // How often each operation was met with each answer, and how often the proved code and the naive code differed.
-use naive::TOO_LARGE;
+use naive::{Refused, TOO_LARGE};
+use plan::Refusal;
 use std::io;
 use tally::{Notes, Tally};
 
@@ -105,19 +106,20 @@ impl Counts {
     }
 
     // One more drawn mesh that planning refuses, as it should for 26 alone: such a mesh has no other fault.
-    pub(crate) fn refused(&mut self, refusal: u32) {
+    pub(crate) fn refused(&mut self, refusal: Refusal) {
         self.meshes_refused = self.meshes_refused.saturating_add(1);
-        self.compare(Operation::Plan, refusal == 26);
+        self.compare(Operation::Plan, refusal == Refusal::TooManyNeighbours);
     }
 
     // One more answer of an operation. Where the naive code has none (too large), nothing is compared.
-    pub(crate) fn count(&mut self, operation: Operation, refusal: u32, same: bool) {
-        if refusal == TOO_LARGE {
+    pub(crate) fn count(&mut self, operation: Operation, refusal: Option<Refused>, same: bool) {
+        let number = refusal.map_or(0, |refusal| refusal.0);
+        if number == TOO_LARGE {
             self.too_large = self.too_large.saturating_add(1);
             return;
         }
         if let Some(met) = self.met.get_mut(operation as usize) {
-            met.raise(refusal as usize);
+            met.raise(number as usize);
         }
         self.compare(operation, same);
     }

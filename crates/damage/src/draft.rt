@@ -1,8 +1,9 @@
 // What the writer is lent: four numbers and five lists, each the first entries of an array, and room for the bytes.
 use crate::file::File;
-use meshes::{Held, first16, first32, front8, holds8};
-use naive::{LONGEST, NaiveFile};
-use plan::WriteAnswer;
+use meshes::{Buffers, Held, first, front, holds};
+use naive::{GivenPlan, LONGEST, NaiveFile, NodeLists, Refused};
+use plan::{Plan, Refusal};
+use planfile::LentPlan;
 
 // What has a length: the lists, and the room for the bytes.
 #[derive(Clone, Copy)]
@@ -72,22 +73,23 @@ pub(crate) struct Draft {
 // Lists and room that are longer than needed.
 pub(crate) const LENGTHS: [usize; 6] = [80, 80, 80, 80, 2100, LONGEST];
 
-// The draft of a plan, its lists and the room longer than needed.
+// The draft of a plan, its lists and the room longer than needed. A draft of no nodes where there is no plan.
 impl From<Held> for Draft {
     fn from(h: Held) -> Draft {
-        let Held {
+        let plan = h.answer.unwrap_or(Plan::new(0, 0, 0, 0, 0));
+        let Buffers {
             order,
             sizes,
             parents,
             column_starts,
             rows,
             ..
-        } = h;
+        } = h.buffers;
         Draft {
-            unknowns: h.unknowns as usize,
-            n: h.nodes as usize,
-            p: h.parts as usize,
-            s: h.slots as usize,
+            unknowns: plan.unknowns as usize,
+            n: plan.nodes as usize,
+            p: plan.parts as usize,
+            s: plan.slots as usize,
             order,
             sizes,
             parents,
@@ -98,31 +100,36 @@ impl From<Held> for Draft {
     }
 }
 
-// What writing leaves: the refusal or 0, the length or 0, and the bytes, which were 77.
-#[derive(Clone, Copy)]
+// What writing leaves: the length or the refusal, and the bytes, which were 77.
+#[derive(Clone, Copy, PartialEq, Eq)]
 pub(crate) struct Wrote {
-    pub(crate) refusal: u32,
-    pub(crate) length: usize,
+    pub(crate) answer: Result<usize, Refusal>,
     bytes: [u8; LONGEST],
 }
 
 impl Wrote {
     // Whether these bytes were written, and the rest is as it was lent.
     pub(crate) fn holds(&self, bytes: &[u8; LONGEST], length: usize) -> bool {
-        self.length == length && holds8(&self.bytes, bytes, length, 77)
+        self.answer == Ok(length) && holds(&self.bytes, bytes, length, &77)
     }
 
-    // Whether both wrote the same, in every byte that was lent.
-    pub(crate) fn same_bytes(&self, other: &Wrote) -> bool {
-        self.length == other.length && self.bytes == other.bytes
+    // Whether the naive writer answered the same, and the bytes are its file's, or, for a refusal, as they were lent.
+    pub(crate) fn agrees(&self, want: &Result<NaiveFile, Refused>) -> bool {
+        match (self.answer, want) {
+            (Ok(_), Ok(file)) => self.holds(&file.bytes, file.length),
+            (Err(refusal), Err(want)) => {
+                refusal.number() == want.0 && holds(&self.bytes, &[], 0, &77)
+            }
+            _ => false,
+        }
     }
 
-    // The file that was written.
+    // The file that was written, or one of no bytes.
     pub(crate) fn file(&self) -> File {
         File {
             version: 2,
             bytes: self.bytes,
-            length: self.length,
+            length: self.answer.unwrap_or(0),
         }
     }
 }
@@ -144,80 +151,57 @@ impl Draft {
         self.lengths[lent as usize]
     }
 
-    pub(crate) fn order(&self) -> &[u16] {
-        first16(&self.order, self.length(Lent::Order))
-    }
-
-    pub(crate) fn sizes(&self) -> &[u16] {
-        first16(&self.sizes, self.length(Lent::Sizes))
-    }
-
-    pub(crate) fn parents(&self) -> &[u16] {
-        first16(&self.parents, self.length(Lent::Parents))
-    }
-
-    pub(crate) fn column_starts(&self) -> &[u32] {
-        first32(&self.column_starts, self.length(Lent::ColumnStarts))
-    }
-
-    pub(crate) fn rows(&self) -> &[u16] {
-        first16(&self.rows, self.length(Lent::Rows))
-    }
-
-    pub(crate) fn write(&self) -> Wrote {
-        let mut bytes = [77u8; LONGEST];
-        let answer = planfile::write(
-            self.unknowns,
-            self.n,
-            self.p,
-            self.s,
-            self.order(),
-            self.sizes(),
-            self.parents(),
-            self.column_starts(),
-            self.rows(),
-            front8(&mut bytes, self.length(Lent::Room)),
-        );
-        let (refusal, length) = match answer {
-            WriteAnswer::Written(length) => (0, length),
-            WriteAnswer::Refused(number) => (number, 0),
-        };
-        Wrote {
-            refusal,
-            length,
-            bytes,
+    // The layout that is lent.
+    pub(crate) fn columns<'a>(&'a self) -> NodeLists<'a> {
+        NodeLists {
+            nodes: self.n,
+            starts: first(&self.column_starts, self.length(Lent::ColumnStarts)),
+            entries: first(&self.rows, self.length(Lent::Rows)),
         }
     }
 
-    pub(crate) fn write_naively(&self) -> NaiveFile {
-        naive::write(
-            self.unknowns,
-            self.n,
-            self.p,
-            self.s,
-            self.order(),
-            self.sizes(),
-            self.parents(),
-            self.column_starts(),
-            self.rows(),
-            self.length(Lent::Room),
-        )
+    // The plan that is lent.
+    fn plan<'a>(&'a self) -> GivenPlan<'a> {
+        GivenPlan {
+            unknowns: self.unknowns,
+            parts: self.p,
+            slots: self.s,
+            order: first(&self.order, self.length(Lent::Order)),
+            sizes: first(&self.sizes, self.length(Lent::Sizes)),
+            parents: first(&self.parents, self.length(Lent::Parents)),
+            columns: self.columns(),
+        }
+    }
+
+    pub(crate) fn write(&self) -> Wrote {
+        let plan = self.plan();
+        let lent = LentPlan {
+            unknowns: plan.unknowns,
+            nodes: plan.columns.nodes,
+            parts: plan.parts,
+            slots: plan.slots,
+            order: plan.order,
+            sizes: plan.sizes,
+            parents: plan.parents,
+            column_starts: plan.columns.starts,
+            rows: plan.columns.entries,
+        };
+        let mut bytes = [77u8; LONGEST];
+        let answer = planfile::write(&lent, front(&mut bytes, self.length(Lent::Room)));
+        Wrote { answer, bytes }
+    }
+
+    pub(crate) fn write_naively(&self) -> Result<NaiveFile, Refused> {
+        naive::write(self.plan(), self.length(Lent::Room))
     }
 
     // The file of this version, 1 or 2, of the draft as it stands, sound or not, for n and p of at most 64 and s of at most 2,016.
     pub(crate) fn encoded(&self, version: usize) -> File {
-        let NaiveFile { bytes, length, .. } = naive::encode(
-            version,
-            self.unknowns,
-            self.n,
-            self.p,
-            self.s,
-            &self.order,
-            &self.sizes,
-            &self.parents,
-            &self.column_starts,
-            &self.rows,
-        );
+        let whole = Draft {
+            lengths: LENGTHS,
+            ..*self
+        };
+        let NaiveFile { bytes, length } = naive::encode(version, whole.plan());
         File {
             version,
             bytes,

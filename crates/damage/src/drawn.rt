@@ -1,7 +1,7 @@
 // Drafts with parts, parents and slots that no planner has chosen: of at most eight nodes that a seed draws, and with every slot.
 use crate::cells::{Cells, with_cells};
 use crate::draft::{Draft, LENGTHS};
-use meshes::{allowed_unknowns, draw, less, more};
+use meshes::{Buffers, allowed_unknowns, draw, less, more};
 
 // A slot with a chance of three to eight tenths.
 fn drawn_slot(seed: u64, n: usize, j: usize, i: usize) -> bool {
@@ -96,16 +96,24 @@ fn with_order(mut d: Draft, seed: u64) -> Draft {
 
 // A draft of n nodes, each with so many unknowns, without parts and slots.
 pub(crate) fn empty(unknowns: usize, n: usize) -> Draft {
+    let Buffers {
+        order,
+        sizes,
+        parents,
+        column_starts,
+        rows,
+        ..
+    } = Buffers::new();
     Draft {
         unknowns,
         n,
         p: 0,
         s: 0,
-        order: [meshes::STALE_ORDER; 80],
-        sizes: [meshes::STALE_SIZES; 80],
-        parents: [meshes::STALE_PARENTS; 80],
-        column_starts: [meshes::STALE_COLUMN_STARTS; 80],
-        rows: [meshes::STALE_ROWS; 2100],
+        order,
+        sizes,
+        parents,
+        column_starts,
+        rows,
         lengths: LENGTHS,
     }
 }

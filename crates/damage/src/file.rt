@@ -1,6 +1,6 @@
 // A file of at most `LONGEST` bytes, of version 1 or 2, and its fields: the version, n, p, s, in version 2 the unknowns, and then each number of two
 // bytes from the order on.
-use meshes::first8;
+use meshes::first;
 use naive::LONGEST;
 
 // The fields that are called by name. kept: a field is its number, for files are damaged in each field, in each two and in drawn ones.
@@ -64,7 +64,7 @@ fn next(at: usize) -> usize {
 
 impl File {
     pub(crate) fn as_slice(&self) -> &[u8] {
-        first8(&self.bytes, self.length)
+        first(&self.bytes, self.length)
     }
 
     pub(crate) fn with_byte(mut self, at: usize, x: usize) -> File {

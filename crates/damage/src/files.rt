@@ -2,9 +2,9 @@
 use crate::borders::{LONG, SHORT, borders};
 use crate::counts::Counts;
 use crate::file::{File, N, P, S, order_at, order_field};
-use crate::held::Room;
 use crate::trials::{try_file, try_lent};
 use meshes::{draw, less};
+use naive::Room;
 
 // Every value of a byte.
 fn every_value(c: &mut Counts, f: &File, at: usize) {
@@ -113,7 +113,7 @@ fn short_room(f: &File, mask: u8) -> Room {
 // Results too short by one, every choice of them.
 pub(crate) fn every_short(c: &mut Counts, f: &File) {
     for mask in 0..64u8 {
-        try_lent(c, f, &short_room(f, mask));
+        try_lent(c, f, short_room(f, mask));
     }
 }
 
@@ -121,7 +121,7 @@ pub(crate) fn every_short(c: &mut Counts, f: &File) {
 pub(crate) fn every_rows_length(c: &mut Counts, f: &File) {
     let enough = short_room(f, 0);
     for rows in 0..f.field(S) % 65536 {
-        try_lent(c, f, &Room { rows, ..enough });
+        try_lent(c, f, Room { rows, ..enough });
     }
 }
 
@@ -182,6 +182,6 @@ fn drawn_mask(seed: u64) -> u8 {
 pub(crate) fn drawn_pairs(c: &mut Counts, f: &File, first: u64, count: u64) {
     for seed in first..first.saturating_add(count) {
         let g = drawn_cut(drawn_damage(f, seed), seed);
-        try_lent(c, &g, &short_room(&g, drawn_mask(seed)));
+        try_lent(c, &g, short_room(&g, drawn_mask(seed)));
     }
 }

@@ -4,61 +4,69 @@ use crate::counts::{Counts, DRAWN_LAYOUTS, Operation};
 use crate::draft::{Draft, Field, Lent};
 use crate::drawn::drawn_draft;
 use crate::slots::{ask_slots, leads_home};
-use naive::{NaiveColumn, NaivePair};
-use plan::{PairAnswer, Span};
+use naive::{NaiveColumn, NaivePair, NodeLists, Refused};
+use plan::{PairAnswer, Refusal, Span};
 
-// What a question is asked about: n, the column starts and the rows.
-#[derive(Clone, Copy)]
-pub(crate) struct Layout<'a> {
-    pub(crate) n: usize,
-    pub(crate) starts: &'a [u32],
-    pub(crate) rows: &'a [u16],
-}
-
-fn same_pair(answer: PairAnswer, p: NaivePair) -> bool {
-    match answer {
-        PairAnswer::Slot(slot) => p.refusal == 0 && p.found && slot as usize == p.slot,
-        PairAnswer::Diagonal => p.refusal == 0 && p.diagonal,
-        PairAnswer::NoSlot => p.refusal == 0 && !p.diagonal && !p.found,
-        PairAnswer::Refused(number) => p.refusal != 0 && number == p.refusal,
+fn same_pair(answer: Result<PairAnswer, Refusal>, want: Result<NaivePair, Refused>) -> bool {
+    match (answer, want) {
+        (Ok(PairAnswer::Slot(slot)), Ok(NaivePair::Slot(want))) => slot as usize == want,
+        (Ok(PairAnswer::Diagonal), Ok(NaivePair::Diagonal)) => true,
+        (Ok(PairAnswer::NoSlot), Ok(NaivePair::NoSlot)) => true,
+        (Err(refusal), Err(want)) => refusal.number() == want.0,
+        _ => false,
     }
 }
 
 // The question about a pair. Where it has a slot, the way back is asked too.
-fn ask_pair(c: &mut Counts, l: Layout<'_>, a: usize, b: usize) {
-    let p = naive::slot_of_pair(l.n, l.starts, l.rows, a, b);
-    let answer = layout::slot_of_pair(l.n, l.starts, l.rows, a, b);
-    let same = same_pair(answer, p) && leads_home(l, a, b, answer);
-    c.count(Operation::Pair, p.refusal, same);
+fn ask_pair(c: &mut Counts, l: NodeLists, a: usize, b: usize) {
+    let want = naive::slot_of_pair(l, a, b);
+    let answer = layout::slot_of_pair(l.nodes, l.starts, l.entries, a, b);
+    let same = same_pair(answer, want) && leads_home(l, a, b, answer);
+    c.count(Operation::Pair, want.err(), same);
 }
 
-// Whether a span is the one from p's first row to its end.
-fn same_span(span: Span, p: NaiveColumn) -> bool {
-    span.start == p.first && p.end.checked_sub(p.first) == Some(span.count)
+// Whether a span goes from one place up to another.
+fn is_span(span: Span, first: usize, end: usize) -> bool {
+    span.start == first && end.checked_sub(first) == Some(span.count)
 }
 
-fn same_column(number: u32, column: &[u16], rows: &[u16], p: NaiveColumn) -> bool {
-    number == p.refusal && column == rows.get(p.first..p.end).unwrap_or(rows)
+// Whether a column's rows and their span are as wanted: none where the question is refused.
+fn same_column(
+    answer: Result<(), Refusal>,
+    column: &[u16],
+    span: Span,
+    rows: &[u16],
+    want: Result<NaiveColumn, Refused>,
+) -> bool {
+    match (answer, want) {
+        (Ok(()), Ok(NaiveColumn { first, end })) => {
+            is_span(span, first, end) && column == rows.get(first..end).unwrap_or(rows)
+        }
+        (Err(refusal), Err(want)) => {
+            is_span(span, 0, 0) && column.is_empty() && refusal.number() == want.0
+        }
+        _ => false,
+    }
 }
 
-fn ask_column(c: &mut Counts, l: Layout<'_>, j: usize) {
-    let p = naive::column(l.n, l.starts, l.rows, j);
-    let column = layout::column_rows(l.n, l.starts, l.rows, j);
-    let number = layout::column_refusal(l.n, l.starts, l.rows, j);
-    let span = layout::column_span(l.n, l.starts, l.rows, j);
-    let same = same_column(number, column, l.rows, p) && same_span(span, p);
-    c.count(Operation::Column, p.refusal, same);
+fn ask_column(c: &mut Counts, l: NodeLists, j: usize) {
+    let want = naive::column(l, j);
+    let column = layout::column_rows(l.nodes, l.starts, l.entries, j);
+    let answer = layout::column_refusal(l.nodes, l.starts, l.entries, j);
+    let span = layout::column_span(l.nodes, l.starts, l.entries, j);
+    let same = same_column(answer, column, span, l.entries, want);
+    c.count(Operation::Column, want.err(), same);
 }
 
 // Pairs of position a with those below `end`.
-fn ask_pairs(c: &mut Counts, l: Layout<'_>, a: usize, end: usize) {
+fn ask_pairs(c: &mut Counts, l: NodeLists, a: usize, end: usize) {
     for b in 0..end {
         ask_pair(c, l, a, b);
     }
 }
 
 // Every question about positions below `end`.
-fn ask_all(c: &mut Counts, l: Layout<'_>, end: usize) {
+fn ask_all(c: &mut Counts, l: NodeLists, end: usize) {
     for a in 0..end {
         ask_column(c, l, a);
         ask_pairs(c, l, a, end);
@@ -67,11 +75,7 @@ fn ask_all(c: &mut Counts, l: Layout<'_>, end: usize) {
 
 // Every question over a draft's layout, about its slots, the positions of n nodes and two beyond.
 fn ask_draft(c: &mut Counts, d: &Draft, n: usize) {
-    let l = Layout {
-        n: d.n,
-        starts: d.column_starts(),
-        rows: d.rows(),
-    };
+    let l = d.columns();
     ask_all(c, l, n % 65536 + 2);
     ask_slots(c, l);
 }

@@ -26,6 +26,7 @@ use crate::file::{File, order_at};
 use crate::held::{ENOUGH, planned, read};
 use crate::trials::{try_file, try_writing};
 use meshes::{Case, Held, allowed_unknowns, from_edges};
+use plan::Plan;
 use std::io;
 
 // A plan written, read into results that are longer than needed, and written again.
@@ -33,17 +34,21 @@ fn round_trip(c: &mut Counts, h: &Held) {
     let d = Draft::from(*h);
     let w = d.write();
     let f = w.file();
-    let k = read(&f, &ENOUGH);
+    let k = read(&f, ENOUGH);
     try_writing(c, &d);
     try_file(c, &f);
-    c.returned(w.refusal == 0 && *h == k && w.same_bytes(&Draft::from(k).write()));
+    c.returned(w.answer.is_ok() && *h == k && w == Draft::from(k).write());
 }
 
 // A plan's file of version 1, which is read as the plan with one unknown.
 fn version_1_trip(c: &mut Counts, h: &Held) {
     let f = Draft::from(*h).encoded(1);
     try_file(c, &f);
-    c.returned(read(&f, &ENOUGH) == Held { unknowns: 1, ..*h });
+    let answer = h.answer.map(|plan| Plan {
+        unknowns: 1,
+        ..plan
+    });
+    c.returned(read(&f, ENOUGH) == Held { answer, ..*h });
 }
 
 // A plan's files of both versions.
@@ -173,8 +178,8 @@ fn all_full(c: &mut Counts) {
 fn drawn_mesh(c: &mut Counts, seed: u64) {
     let h = planned(allowed_unknowns(seed), &meshes::drawn(seed));
     c.begin(DRAWN_MESHES, seed);
-    if h.refusal != 0 {
-        return c.refused(h.refusal);
+    if let Err(refusal) = h.answer {
+        return c.refused(refusal);
     }
     let d = Draft::from(h);
     let first = seed % 65536 * 16;

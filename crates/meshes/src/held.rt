@@ -18,7 +18,7 @@ const STALE_COLUMN_STARTS: u32 = 60005;
 const STALE_ROWS: u16 = 60006;
 
 // The arrays whose fronts are lent as results.
-#[derive(Clone, Copy)]
+#[derive(Clone, Copy, PartialEq, Eq)]
 pub struct Buffers {
     pub order: [u16; 80],
     pub positions: [u16; 80],
@@ -91,7 +91,7 @@ impl Buffers {
 }
 
 // An answer and the arrays that it came with.
-#[derive(Clone, Copy)]
+#[derive(Clone, Copy, PartialEq, Eq)]
 pub struct Held {
     pub answer: Result<Plan, Refusal>,
     pub buffers: Buffers,
