@@ -48,7 +48,7 @@
  * asks, that it is null only where the length is 0, and that no buffer that is written overlaps another. Beyond that every function takes every
  * number and every content of its buffers, and ends. Where it refuses, the reply's other fields are 0 and every buffer is as it was; where it
  * accepts, entries past those used are as they were. Nothing is allocated and there is no static state: threads may call at once, each with result
- * buffers of its own. ndp_matrix_market needs less than 320 KB of stack, ndp_plan less than 128 KB, ndp_read less than 96 KB, every other function
+ * buffers of its own. ndp_matrix_market needs less than 320 KB of stack, ndp_plan less than 168 KB, ndp_read less than 112 KB, every other function
  * less than 80 KB.
  *
  * REFUSALS. A reply has the number of the first check that fails, or 0; ndp_refusal_text, at the end, says what each number means. Planning checks
