@@ -14,6 +14,7 @@ fn divide(values: &mut [f64], kept: &mut [f64], lower: &mut [f64], from: usize, 
     ensures values_after { values.new ≡ divided (up_from from (to - from)) d values.old }
     ensures keeps { Keeps kept.new values.old from to × Keeps lower.new values.new from to }
 {
+    // kept: of three buffers, two begin at their fronts: the head of a zipped loop is longer than this body
     for s in from..to {
         let l = values[s] / d;
         kept[s - from] = values[s];

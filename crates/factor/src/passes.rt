@@ -43,6 +43,7 @@ fn forward_two(filled: &FilledColumns, vector: &mut [f64], j: usize)
     vector[j + 1] = z;
     // in the next column a row's slot is so far ahead
     let ahead = to - from - 1;
+    // kept: a zip of a zip, one part without its first, is no plainer than two slots that go side by side
     for s in from + 1..to {
         let t = s + ahead;
         let i = filled.columns.rows[t] as usize;

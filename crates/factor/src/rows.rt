@@ -2,6 +2,7 @@
 // run down side by side. They are not compared where the first rows of column k are just these; nor where k is the first row of the column before it in
 // the same way, which otherwise has the same rows: then the places are known from there. In all of it `first` is the column's first slot; from there on
 // `kept` keeps v, before the divisions, and `lower` l, after them.
+// kept: what is asked of a row (`AtRow`, `Beside`) stays a clause, for it tells of the lengths of buffers that are written, which no field of a struct can
 ghost use Rattle.std.specs.Prelude.{◌≡◌, true, List, ◌+◌, ◌-◌, ◌≤◌, ◌<◌, length, get_or, Float};
 ghost use Rattle.plan.specs.Lists.{up_from};
 ghost use Rattle.factor.specs.Down.{less_down, Keeps, Beside, along_front, Placed, continued};
@@ -26,6 +27,7 @@ fn less_along(
     ensures { (l : List Float) → Keeps lower.now l first to → values.new ≡ less_down columns.now.starts.now columns.now.rows.now l k v (up_from from (to - from)) values.old }
 {
     let start = columns.starts[k] as usize;
+    // kept: zipped, the bounds of both parts would say what u and t say, in a head longer than the body; so in `less_known`
     for t in from..to {
         let u = start + (t - from);
         values[u] = values[u] - lower[t - first] * v;
