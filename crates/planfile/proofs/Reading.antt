@@ -49,8 +49,8 @@ module _ (bytes : List ℕ) (head : Head) (headed : Headed bytes head) (found : 
   header-passed = first-none (header_checks bytes) _ refl (sym headed.good)
 
   -- what 15 to 19 refuse is refused
-  pub contents-refused : (r : Refusal) → number_of r ≡ first_fault (contents_checks (parse bytes)) → Filled (reading bytes (capacity found)) (Err r) found found
-  contents-refused r e =
+  pub contents_refused : (r : Refusal) → number_of r ≡ first_fault (contents_checks (parse bytes)) → Filled (reading bytes (capacity found)) (Err r) found found
+  contents_refused r e =
       refused bytes found r (e ∙ sym (header-passed ∙ first_some (contents_checks (parse bytes)) _ (λ z. omega (arith, e ∙ z, (number-suc r).1))))
 
   module _ (good : 0 ≡ first_fault (contents_checks (parse bytes))) where

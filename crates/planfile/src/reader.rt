@@ -94,6 +94,7 @@ fn read_headed(
 
 // Reading: checks 10 to 12, 10 again, 28, 13 to 19, 8 and 9 in this order, then the plan in the lent buffers; the multiplications are counted anew.
 // O(4,096 + slots + the first rows' columns).
+#[tactic(auto, using(crate::proofs::Reading::header_refused))]
 pub fn read(
     bytes: &[u8],
     order: &mut [u16],

@@ -71,6 +71,7 @@ fn write_plan(plan: &UsedPlan, bytes: &mut [u8])
 
 // Writing: checks 28, 13, 15 to 19 and 8 in this order, then the bytes, and the file's length is returned; lists may be longer than their counts say.
 // O(4,096 + slots + the first rows' columns).
+#[tactic(auto, using(crate::proofs::WriteAnswers::refused_supplied))]
 pub fn write(plan: &LentPlan, bytes: &mut [u8]) -> Result<usize, Refusal>
     ensures { Wrote (contents_of plan.now) result bytes.old bytes.new }
 {

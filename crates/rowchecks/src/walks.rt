@@ -15,6 +15,8 @@ use crate::rows::Rows;
 use mesh::{NONE, filled};
 use plan::Refusal;
 
+// kept: n, the starts and the rows stay three parameters. The ranges know n too, so a struct of these would ask for a clause that the two agree.
+
 // Column j's rows. O(1).
 fn column_of<R: Rows>(column_starts: &[u32], rows: R, j: usize) -> R
     requires { ListWithin column_starts.now (R.numbers rows) j }

@@ -8,7 +8,7 @@ use Rattle.plan.specs.Planning.{buffers}
 use Rattle.theory.proofs.Written.{front-written}
 use Rattle.planfile.specs.Filed.{row_counts_in}
 use Rattle.planfile.proofs.Headed.{headed_sizes, counts-many}
-use Rattle.planfile.proofs.Reading.{contents-refused}
+use Rattle.planfile.proofs.Reading.{contents_refused}
 use Rattle.planfile.proofs.reader.read_headed.Goals.{After-read_row_counts}
 use Rattle.planfile.proofs.reader.read_headed.Goals as goal
 
@@ -25,7 +25,7 @@ check-requires c = counted (goal.at.check-requires c).After-read_row_counts
 pub returns-in_err-check : goal.returns-in_err-check
 returns-in_err-check c =
     let p = err_from_is_err_and c.from_residual.result c.from_residual.ensures.1 in
-    rw (p.1, p.2) (contents-refused _ _ c.args.file.now.headed (buffers c.args.order.now c.args.positions.now c.args.sizes.now c.args.parents.now c.args.column_starts.now c.args.rows.now) c.in_err-check.field-0.0 c.in_err-check.ensures)
+    rw (p.1, p.2) (contents_refused _ _ c.args.file.now.headed (buffers c.args.order.now c.args.positions.now c.args.sizes.now c.args.parents.now c.args.column_starts.now c.args.rows.now) c.in_err-check.field-0.0 c.in_err-check.ensures)
 
 pub read_checked-requires-clause-counted : goal.read_checked-requires-clause-counted
 read_checked-requires-clause-counted c = counted (goal.at.read_checked-requires-clause-counted c).After-read_row_counts

@@ -4,7 +4,6 @@ use mathlib.Core.Bool.{false}
 use Prim.Native.Nat.{◌≤◌}
 use native.Mathlib.Omega.{arith}
 use lib.ListN.{length}
-use Rattle.std.proofs.lemmas.Result.{err_from_is_err_and}
 use Rattle.plan.specs.Planning.{Contents, bad_unknowns}
 use Rattle.plan.specs.Lists.{written}
 use Rattle.plan.specs.File.{nodes_at, length_at, length_in, file_length, encode, bad_header}
@@ -14,14 +13,9 @@ use Rattle.theory.proofs.RoundTrips.{used-long, supplied_sound}
 use Rattle.planfile.specs.Supplied.{NarrowColumns}
 use Rattle.planfile.specs.LentPlans.{contents_of}
 use Rattle.planfile.proofs.SuppliedChecks.{supply_passed}
-use Rattle.planfile.proofs.WriteAnswers.{sound-narrow, refused_supplied, refused-room, accepted-writing}
+use Rattle.planfile.proofs.WriteAnswers.{sound-narrow, refused-room, accepted-writing}
 use Rattle.planfile.proofs.writer.write.Goals.{After-file_length-length}
 use Rattle.planfile.proofs.writer.write.Goals as goal
-
-pub returns-in_err-check : goal.returns-in_err-check
-returns-in_err-check c =
-    let p = err_from_is_err_and c.from_residual.result c.from_residual.ensures.1 in
-    rw (p.1, p.2) (refused_supplied (contents_of c.args.plan.now) c.args.bytes.now c.in_err-check.field-0.0 c.in_err-check.ensures)
 
 pub file_length-length-requires : goal.file_length-length-requires
 unfolding bad_header used
