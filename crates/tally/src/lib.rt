@@ -2,6 +2,9 @@
 // Cost: each function O(1), or O(N) for a tally of N, but for what it prints.
 #![tactic(auto)]
 
+ghost use Rattle.std.specs.Prelude.{◌≡◌, get_or, replicate};
+ghost use Rattle.tally.specs.Tallies.{raised};
+
 use std::io;
 
 // How often each of N answers was met.
@@ -11,18 +14,24 @@ pub struct Tally<const N: usize> {
 }
 
 impl<const N: usize> Tally<N> {
-    pub fn new() -> Tally<N> {
+    pub fn new() -> Tally<N>
+        ensures { result.times ≡ replicate N 0 }
+    {
         Tally { times: [0; N] }
     }
 
     // One more of this answer. What is no answer is not counted.
-    pub fn raise(&mut self, answer: usize) {
-        if let Some(times) = self.times.get_mut(answer) {
-            *times = times.saturating_add(1);
+    pub fn raise(&mut self, answer: usize)
+        ensures { self.new.times ≡ raised self.old.times answer }
+    {
+        if answer < N {
+            self.times[answer] = self.times[answer].saturating_add(1);
         }
     }
 
-    pub fn times(&self, answer: usize) -> usize {
+    pub fn times(&self, answer: usize) -> usize
+        ensures { result ≡ get_or self.now.times answer 0 }
+    {
         self.times.get(answer).copied().unwrap_or(0)
     }
 
