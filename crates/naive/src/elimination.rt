@@ -12,7 +12,7 @@ pub(crate) struct Elimination {
 // The multiplications of a column of c rows.
 pub(crate) fn multiplications(c: u32) -> u64 {
     if c < 64 {
-        return (c * (c + 3) / 2) as u64;
+        return u64::from(c.saturating_mul(c + 3) / 2);
     }
     0
 }

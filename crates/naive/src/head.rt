@@ -28,13 +28,10 @@ fn number32(bytes: &[u8], at: usize) -> usize {
 pub fn most_slots(n: usize) -> usize
     ensures { result ≡ cond (ltb 4096 n) 0 (n * (n - 1) / 2) }
 {
-    if n == 0 {
-        return 0;
-    }
     if 4096 < n {
         return 0;
     }
-    n * (n - 1) / 2
+    n * n.saturating_sub(1) / 2
 }
 
 // 28: "a number of unknowns outside 1 to 6".
