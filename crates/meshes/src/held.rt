@@ -1,5 +1,7 @@
 // What planning or reading leaves: the answer and the lent results. Each result is the front of an array that is longer than needed; the array
 // holds a number of its own where nothing is written.
+ghost use Rattle.std.specs.Prelude.{◌≡◌, ◌+◌, take};
+
 use crate::buffers::{first, holds};
 use naive::{GivenPlan, NaivePlan, NodeLists, Refused};
 use plan::{Plan, Refusal};
@@ -42,7 +44,15 @@ impl Buffers {
     }
 
     // A plan whose lists these are, as `naive` is lent it.
-    pub fn lists_of<'a>(&'a self, p: &Plan) -> GivenPlan<'a> {
+    pub fn lists_of<'a>(&'a self, p: &Plan) -> GivenPlan<'a>
+        ensures numbers { (result.unknowns ≡ p.now.unknowns) × (result.parts ≡ p.now.parts) × (result.slots ≡ p.now.slots) }
+        ensures order { result.order.now ≡ take p.now.nodes self.now.order }
+        ensures sizes { result.sizes.now ≡ take p.now.parts self.now.sizes }
+        ensures parents { result.parents.now ≡ take p.now.parts self.now.parents }
+        ensures nodes { result.columns.nodes ≡ p.now.nodes }
+        ensures starts { result.columns.starts.now ≡ take (p.now.nodes + 1) self.now.column_starts }
+        ensures rows { result.columns.entries.now ≡ take p.now.slots self.now.rows }
+    {
         let nodes = p.nodes as usize;
         let parts = p.parts as usize;
         let slots = p.slots as usize;

@@ -1,5 +1,5 @@
 // What a planner is lent: a mesh, and results of some lengths.
-ghost use Rattle.std.specs.Prelude.{◌≡◌, ◌+◌};
+ghost use Rattle.std.specs.Prelude.{◌≡◌, ◌+◌, ◌-◌, ◌%◌, take};
 
 use crate::buffers::first;
 use naive::{NodeLists, Room};
@@ -18,7 +18,9 @@ pub struct Lengths {
 
 impl Lengths {
     // The lengths where there are so many slots.
-    pub fn room(self, slots: usize) -> Room {
+    pub fn room(self, slots: usize) -> Room
+        ensures { result ≡ record { order = self.order; positions = self.positions; sizes = self.sizes; parents = self.parents; column_starts = self.column_starts; rows = slots % 4294967296 + self.rows_more % 65536 - self.rows_less } }
+    {
         let most = slots % 4294967296 + self.rows_more % 65536;
         Room {
             order: self.order,
@@ -60,7 +62,11 @@ pub struct Case {
 
 impl Case {
     // The mesh as it is lent.
-    pub fn mesh<'a>(&'a self) -> NodeLists<'a> {
+    pub fn mesh<'a>(&'a self) -> NodeLists<'a>
+        ensures nodes { result.nodes ≡ self.now.n }
+        ensures starts { result.starts.now ≡ take self.now.start_count self.now.starts }
+        ensures entries { result.entries.now ≡ take self.now.entry_count self.now.neighbours }
+    {
         NodeLists {
             nodes: self.n,
             starts: first(&self.starts, self.start_count),
