@@ -49,7 +49,7 @@ impl Cells {
     fn put_column(&mut self, d: &Draft, j: usize) {
         let from = d.entry(Field::ColumnStarts, j);
         let end = d.entry(Field::ColumnStarts, j % 64 + 1);
-        for i in d.rows.get(from..end).unwrap_or(&[]) {
+        for i in d.lists.rows.get(from..end).unwrap_or(&[]) {
             self.put(j, usize::from(*i), true);
         }
     }
@@ -83,12 +83,12 @@ pub(crate) fn with_cells(mut d: Draft, cells: &Cells) -> Draft {
         rows,
         ..
     } = Buffers::new();
-    d.column_starts = column_starts;
-    d.rows = rows;
-    d.column_starts[0] = 0;
+    d.lists.column_starts = column_starts;
+    d.lists.rows = rows;
+    d.lists.column_starts[0] = 0;
     for (j, column) in cells.columns.iter().enumerate().take(d.n) {
-        at = put_rows(&mut d.rows, at, column);
-        d.column_starts[j % 64 + 1] = (at % 65536) as u32;
+        at = put_rows(&mut d.lists.rows, at, column);
+        d.lists.column_starts[j % 64 + 1] = (at % 65536) as u32;
     }
     d.s = at;
     d

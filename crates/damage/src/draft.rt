@@ -55,18 +55,14 @@ impl Field {
     ];
 }
 
-// `lengths` has those of what is lent, in the order of `Lent`.
+// The lists are the fronts of arrays, and `lengths` has the lengths of what is lent, in the order of `Lent`.
 #[derive(Clone, Copy)]
 pub(crate) struct Draft {
     pub(crate) unknowns: usize,
     pub(crate) n: usize,
     pub(crate) p: usize,
     pub(crate) s: usize,
-    pub(crate) order: [u16; 80],
-    pub(crate) sizes: [u16; 80],
-    pub(crate) parents: [u16; 80],
-    pub(crate) column_starts: [u32; 80],
-    pub(crate) rows: [u16; 2100],
+    pub(crate) lists: Buffers,
     pub(crate) lengths: [usize; 6],
 }
 
@@ -77,24 +73,12 @@ pub(crate) const LENGTHS: [usize; 6] = [80, 80, 80, 80, 2100, LONGEST];
 impl From<Held> for Draft {
     fn from(h: Held) -> Draft {
         let plan = h.answer.unwrap_or(Plan::new(0, 0, 0, 0, 0));
-        let Buffers {
-            order,
-            sizes,
-            parents,
-            column_starts,
-            rows,
-            ..
-        } = h.buffers;
         Draft {
             unknowns: plan.unknowns as usize,
             n: plan.nodes as usize,
             p: plan.parts as usize,
             s: plan.slots as usize,
-            order,
-            sizes,
-            parents,
-            column_starts,
-            rows,
+            lists: h.buffers,
             lengths: LENGTHS,
         }
     }
@@ -155,8 +139,8 @@ impl Draft {
     pub(crate) fn columns<'a>(&'a self) -> NodeLists<'a> {
         NodeLists {
             nodes: self.n,
-            starts: first(&self.column_starts, self.length(Lent::ColumnStarts)),
-            entries: first(&self.rows, self.length(Lent::Rows)),
+            starts: first(&self.lists.column_starts, self.length(Lent::ColumnStarts)),
+            entries: first(&self.lists.rows, self.length(Lent::Rows)),
         }
     }
 
@@ -166,9 +150,9 @@ impl Draft {
             unknowns: self.unknowns,
             parts: self.p,
             slots: self.s,
-            order: first(&self.order, self.length(Lent::Order)),
-            sizes: first(&self.sizes, self.length(Lent::Sizes)),
-            parents: first(&self.parents, self.length(Lent::Parents)),
+            order: first(&self.lists.order, self.length(Lent::Order)),
+            sizes: first(&self.lists.sizes, self.length(Lent::Sizes)),
+            parents: first(&self.lists.parents, self.length(Lent::Parents)),
             columns: self.columns(),
         }
     }
@@ -223,11 +207,11 @@ impl Draft {
     // Entry i of a list, or the number.
     pub(crate) fn entry(&self, field: Field, i: usize) -> usize {
         match field {
-            Field::Order => at(&self.order, i),
-            Field::Sizes => at(&self.sizes, i),
-            Field::Parents => at(&self.parents, i),
-            Field::ColumnStarts => self.column_starts.get(i).map_or(0, |x| *x as usize),
-            Field::Rows => at(&self.rows, i),
+            Field::Order => at(&self.lists.order, i),
+            Field::Sizes => at(&self.lists.sizes, i),
+            Field::Parents => at(&self.lists.parents, i),
+            Field::ColumnStarts => self.lists.column_starts.get(i).map_or(0, |x| *x as usize),
+            Field::Rows => at(&self.lists.rows, i),
             Field::N => self.n,
             Field::P => self.p,
             Field::S => self.s,
@@ -238,15 +222,15 @@ impl Draft {
     // The draft with another number there.
     pub(crate) fn with_entry(mut self, field: Field, i: usize, x: usize) -> Draft {
         match field {
-            Field::Order => put(&mut self.order, i, x),
-            Field::Sizes => put(&mut self.sizes, i, x),
-            Field::Parents => put(&mut self.parents, i, x),
+            Field::Order => put(&mut self.lists.order, i, x),
+            Field::Sizes => put(&mut self.lists.sizes, i, x),
+            Field::Parents => put(&mut self.lists.parents, i, x),
             Field::ColumnStarts => {
                 if i < 80 {
-                    self.column_starts[i] = (x % 4294967296) as u32;
+                    self.lists.column_starts[i] = (x % 4294967296) as u32;
                 }
             }
-            Field::Rows => put(&mut self.rows, i, x),
+            Field::Rows => put(&mut self.lists.rows, i, x),
             Field::N => self.n = x,
             Field::P => self.p = x,
             Field::S => self.s = x,

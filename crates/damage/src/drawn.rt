@@ -39,11 +39,11 @@ fn drawn_cells(seed: u64, n: usize) -> Cells {
 // One position more: in the part at hand, or in a new one.
 fn add_position(d: &mut Draft, fresh: bool) {
     if fresh && d.p < 8 {
-        d.sizes[d.p] = 1;
+        d.lists.sizes[d.p] = 1;
         d.p += 1;
     } else if !fresh && d.p < 9 {
         let last = less(d.p);
-        d.sizes[last] = d.sizes[last] % 4096 + 1;
+        d.lists.sizes[last] = d.lists.sizes[last] % 4096 + 1;
     }
 }
 
@@ -78,7 +78,7 @@ fn drawn_parent(seed: u64, kind: usize, p: usize, k: usize) -> usize {
 fn with_parents(mut d: Draft, seed: u64) -> Draft {
     let kind = draw(seed, 3, 9, 6);
     let p = d.p.min(8);
-    for (k, parent) in d.parents.iter_mut().enumerate().take(p) {
+    for (k, parent) in d.lists.parents.iter_mut().enumerate().take(p) {
         *parent = (drawn_parent(seed, kind, p, k) % 65536) as u16;
     }
     d
@@ -88,7 +88,7 @@ fn with_parents(mut d: Draft, seed: u64) -> Draft {
 fn with_order(mut d: Draft, seed: u64) -> Draft {
     let n = d.n.clamp(1, 8);
     let first = draw(seed, 4, 9, 8) % 8;
-    for (i, node) in d.order.iter_mut().enumerate().take(n) {
+    for (i, node) in d.lists.order.iter_mut().enumerate().take(n) {
         *node = ((i % 8 + first) % n) as u16;
     }
     d
@@ -96,24 +96,12 @@ fn with_order(mut d: Draft, seed: u64) -> Draft {
 
 // A draft of n nodes, each with so many unknowns, without parts and slots.
 pub(crate) fn empty(unknowns: usize, n: usize) -> Draft {
-    let Buffers {
-        order,
-        sizes,
-        parents,
-        column_starts,
-        rows,
-        ..
-    } = Buffers::new();
     Draft {
         unknowns,
         n,
         p: 0,
         s: 0,
-        order,
-        sizes,
-        parents,
-        column_starts,
-        rows,
+        lists: Buffers::new(),
         lengths: LENGTHS,
     }
 }
@@ -121,12 +109,12 @@ pub(crate) fn empty(unknowns: usize, n: usize) -> Draft {
 // The nodes in their order, in one part.
 fn in_one_part(mut d: Draft) -> Draft {
     let n = d.n.min(64);
-    for (i, node) in d.order.iter_mut().enumerate().take(n) {
+    for (i, node) in d.lists.order.iter_mut().enumerate().take(n) {
         *node = (i % 64) as u16;
     }
     d.p = 1;
-    d.sizes[0] = (d.n % 65536) as u16;
-    d.parents[0] = 65535;
+    d.lists.sizes[0] = (d.n % 65536) as u16;
+    d.lists.parents[0] = 65535;
     d
 }
 

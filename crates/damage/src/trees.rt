@@ -59,9 +59,9 @@ fn parent_or_none(t: usize, q: usize) -> u16 {
 // The draft with its order and its parts.
 fn with_parts(mut d: Draft, t: usize) -> Draft {
     d.p = 4;
-    d.order[..5].copy_from_slice(&[2, 4, 0, 1, 3]);
-    d.sizes[..4].copy_from_slice(&[1, 2, 1, 1]);
-    for (q, x) in d.parents.iter_mut().enumerate().take(4) {
+    d.lists.order[..5].copy_from_slice(&[2, 4, 0, 1, 3]);
+    d.lists.sizes[..4].copy_from_slice(&[1, 2, 1, 1]);
+    for (q, x) in d.lists.parents.iter_mut().enumerate().take(4) {
         *x = parent_or_none(t, q);
     }
     d

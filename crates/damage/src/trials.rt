@@ -6,6 +6,7 @@ use crate::file::File;
 use crate::held::{ENOUGH, read};
 use meshes::Held;
 use naive::{NaivePlan, Refused, Room};
+use plan::Refusal;
 
 // Whether the plan that was read of a file comes back when it is written: byte for byte where the file is of version 2, else as the same plan.
 fn comes_back(f: &File, h: &Held) -> bool {
@@ -55,14 +56,14 @@ pub(crate) fn try_file(c: &mut Counts, f: &File) {
     try_lent(c, f, ENOUGH);
 }
 
-// A file that reading refuses with this number.
-pub(crate) fn try_refused(c: &mut Counts, f: &File, number: u32) {
-    let refusal = read(f, ENOUGH).answer.err();
+// A file that reading refuses so.
+pub(crate) fn try_refused(c: &mut Counts, f: &File, refusal: Refusal) {
+    let h = read(f, ENOUGH);
     try_file(c, f);
     c.count(
         Operation::Read,
-        Some(Refused(number)),
-        refusal.map(|refusal| refusal.number()) == Some(number),
+        Some(Refused(refusal.number())),
+        h.answer == Err(refusal),
     );
 }
 

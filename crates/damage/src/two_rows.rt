@@ -16,13 +16,14 @@ fn numbers(d: &Draft) -> Chain<RangeInclusive<usize>, IntoIter<usize, 2>> {
 // The rows from `from` on, each a place later.
 fn move_rows(d: &mut Draft, from: usize) {
     if from <= d.s && d.s < 2100 {
-        d.rows.copy_within(from..d.s, from + 1);
+        d.lists.rows.copy_within(from..d.s, from + 1);
     }
 }
 
 // The columns behind column j, each starting a place later.
 fn move_starts(d: &mut Draft, j: usize) {
-    for start in d.column_starts.iter_mut().take(more(d.n)).skip(more(j)) {
+    let starts = d.lists.column_starts.iter_mut();
+    for start in starts.take(more(d.n)).skip(more(j)) {
         *start = start.saturating_add(1);
     }
 }

@@ -4,6 +4,7 @@ use crate::draft::{Draft, Field, Lent};
 use crate::file::{File, N, UNKNOWNS, VERSION};
 use crate::trials::{try_file, try_refused, try_writing};
 use meshes::{REFUSED_UNKNOWNS, allowed_unknowns, refused_unknowns};
+use plan::Refusal;
 
 // How many numbers of unknowns are tried: the six allowed ones, and those that are refused.
 const NUMBERS: u64 = REFUSED_UNKNOWNS + 6;
@@ -40,21 +41,25 @@ fn every_version(c: &mut Counts, f: &File) {
 }
 
 // The refusal of a version 1 file of n nodes whose version is set to 2: its n is then its unknowns, and its parts are the high bits of n.
-fn set_to_2(n: usize) -> u32 {
-    if 6 < n { 28 } else { 13 }
+fn set_to_2(n: usize) -> Refusal {
+    if 6 < n {
+        Refusal::Unknowns
+    } else {
+        Refusal::Header
+    }
 }
 
 // The draft's files with the other's version.
 fn every_exchange(c: &mut Counts, d: &Draft) {
-    try_refused(c, &d.encoded(2).with_field(VERSION, 1), 13);
+    try_refused(c, &d.encoded(2).with_field(VERSION, 1), Refusal::Header);
     try_refused(c, &d.encoded(1).with_field(VERSION, 2), set_to_2(d.n));
 }
 
 // A version 2 file without unknowns and nodes: one of 18 bytes is too short, and one of 19 has a number that is refused before its n.
 fn every_empty(c: &mut Counts, f: &File) {
     let g = f.with_field(UNKNOWNS, 0).with_field(N, 0);
-    try_refused(c, &g.cut(18), 10);
-    try_refused(c, &g.cut(19), 28);
+    try_refused(c, &g.cut(18), Refusal::TooFewBytes);
+    try_refused(c, &g.cut(19), Refusal::Unknowns);
 }
 
 // A draft with a list, or the room, without an entry: faults that a later check names.
