@@ -2,6 +2,7 @@
 use naive::Room;
 
 // Buffers whose fronts are lent. Each entry holds 60,000 before.
+// kept: arrays of fixed lengths, for memory is fixed; not the `Buffers` of `meshes`, for the output shows 60,000 in all of them.
 #[derive(Clone, Copy)]
 pub(crate) struct Results {
     pub(crate) order: [u16; 32],

@@ -16,6 +16,7 @@ impl Cells {
     }
 
     // A slot where the rule says so, of a column and a row.
+    // kept: one number for both, for a function has one loop.
     pub(crate) fn by_rule<F: Fn(usize, usize) -> bool>(rule: F) -> Cells
         requires { F.IsAlwaysCallable rule }
     {

@@ -19,6 +19,7 @@ pub(crate) enum Operation {
 
 impl Operation {
     // What is printed where the proved code and the naive code differ.
+    // kept: a text and no `Display`, for a note keeps it until all is tried.
     fn difference(self) -> &'static str {
         match self {
             Operation::Read => "read different",

@@ -56,6 +56,7 @@ impl Field {
 }
 
 // The lists are the fronts of arrays, and `lengths` has the lengths of what is lent, in the order of `Lent`.
+// kept: arrays with lengths beside, for memory is fixed.
 #[derive(Clone, Copy)]
 pub(crate) struct Draft {
     pub(crate) unknowns: usize,
@@ -98,6 +99,7 @@ impl Wrote {
     }
 
     // Whether the naive writer answered the same, and the bytes are its file's, or, for a refusal, as they were lent.
+    // kept: compared by hand, for the two are types apart: `naive` shares none with the library.
     pub(crate) fn agrees(&self, want: &Result<NaiveFile, Refused>) -> bool {
         match (self.answer, want) {
             (Ok(_), Ok(file)) => self.holds(&file.bytes, file.length),

@@ -65,6 +65,7 @@ fn later(seed: u64, p: usize, k: usize) -> usize {
 }
 
 // The parent of part k: by the kind none, the next part, or one that the seed draws.
+// kept: the kind is a number, for a seed draws it, and it is told apart here alone.
 fn drawn_parent(seed: u64, kind: usize, p: usize, k: usize) -> usize {
     if p <= k % 8 + 1 || kind == 0 {
         return 65535;

@@ -3,7 +3,8 @@
 use meshes::first;
 use naive::LONGEST;
 
-// The fields that are called by name. kept: a field is its number, for files are damaged in each field, in each two and in drawn ones.
+// The fields that are called by name.
+// kept: a field is its number, for files are damaged in each field, in each two and in drawn ones.
 pub(crate) const VERSION: usize = 0;
 
 pub(crate) const N: usize = 1;

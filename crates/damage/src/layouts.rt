@@ -7,6 +7,7 @@ use crate::slots::{ask_slots, leads_home};
 use naive::{NaiveColumn, NaivePair, NodeLists, Refused};
 use plan::{PairAnswer, Refusal, Span};
 
+// kept: compared by hand, here and below, for the two are types apart: `naive` shares none with the library.
 fn same_pair(answer: Result<PairAnswer, Refusal>, want: Result<NaivePair, Refused>) -> bool {
     match (answer, want) {
         (Ok(PairAnswer::Slot(slot)), Ok(NaivePair::Slot(want))) => slot as usize == want,

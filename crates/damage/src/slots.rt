@@ -46,6 +46,7 @@ fn has_slot(l: NodeLists, pair: Pair, s: usize) -> bool {
 }
 
 // The question about slot s. Where it has a pair, the way back is asked too.
+// kept: compared by hand, for the two are types apart: `naive` shares none with the library.
 fn ask_slot(c: &mut Counts, l: NodeLists, s: usize) {
     let want = naive::pair_of_slot(l, s);
     let same = match (layout::pair_of_slot(l.nodes, l.starts, l.entries, s), want) {

@@ -97,6 +97,7 @@ const FAULTS: usize = 135;
 
 impl Fault {
     // Every number with every change, the first entry of every list with three numbers, and pivots that fail at the first and at the second position.
+    // kept: a fault by its number, for to go over each sort of fault takes loops of its own, and a function has one.
     fn nth(k: usize) -> Fault {
         match k {
             0..112 => Fault::Number(Number::ALL[k % 14], Change::ALL[k / 14 % 8]),
@@ -167,6 +168,7 @@ pub(crate) fn every_entry(c: &mut Counts, f: &Filling) {
 }
 
 // Each special value at each position; and read at every pair of positions below 27, in either order.
+// kept: one number for value and position, for a function has one loop.
 pub(crate) fn every_pivot(c: &mut Counts, f: &Filling) {
     for k in 0..768usize {
         try_filling(c, &f.with_special(k / 12, k % 12).asking(k / 27, k % 27));

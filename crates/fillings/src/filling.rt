@@ -44,6 +44,7 @@ impl Number {
 }
 
 // `numbers` has the numbers in the order of `Number`. `multiplications` is the plan's own count, or 0 where it is not known.
+// kept: arrays with lengths beside, for memory is fixed.
 #[derive(Clone, Copy)]
 pub(crate) struct Filling {
     numbers: [usize; 14],

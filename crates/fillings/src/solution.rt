@@ -7,6 +7,7 @@ use naive::Refused;
 use plan::{HeldAnswer, Refusal};
 
 // Whether what the library reads is what `naive` does.
+// kept: compared by hand, here and below, for the two are types apart: `naive` shares none with the library.
 fn same_reading(b: HeldAnswer, w: Result<Option<f64>, Refused>) -> bool {
     match (b, w) {
         (HeldAnswer::Value(x), Ok(Some(want))) => same(x, want),

@@ -53,6 +53,7 @@ pub(crate) fn holds(left: &[f64], want: &[f64], lent: usize, found: &[f64]) -> b
 }
 
 // Whether both report the same in every bit, or refuse by the same number.
+// kept: compared by hand, for the two are types apart: `naive` shares none with the library.
 fn same_report(b: Result<Report, Refusal>, w: Result<NaiveReport, Refused>) -> bool {
     match (b, w) {
         (Ok(report), Ok(want)) => {

@@ -113,6 +113,7 @@ fn stars(c: &mut Counts, lists: &mut Lists, leaves1: u8, leaves2: u8) {
     }
 }
 
+// kept: one number for the leaves of both, for a function has one loop.
 fn all_stars(c: &mut Counts, lists: &mut Lists) {
     for k in 0..729u16 {
         stars(c, lists, (k / 27) as u8, (k % 27) as u8);

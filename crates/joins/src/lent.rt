@@ -57,6 +57,7 @@ impl Lists {
     }
 
     // Puts a start or a node, cut to its width, where there is such a place.
+    // kept: functions for each width, as below, for a `u32` has no `From` into `usize`: one for both needs a trait of its own.
     pub(crate) fn put_start(&mut self, at: usize, x: usize) {
         if let Some(start) = self.starts.get_mut(at) {
             *start = (x % 4294967296) as u32;
@@ -105,6 +106,7 @@ impl Lists {
 }
 
 // Puts a list at a place of a buffer, as far as it fits.
+// kept: entry by entry, for `copy_from_slice` asks for equal lengths: both lists would have to be cut first.
 fn put_all<T: Copy>(buffer: &mut [T], at: usize, list: &[T]) {
     if let Some(entries) = buffer.get_mut(at..) {
         for (entry, x) in entries.iter_mut().zip(list.iter()) {

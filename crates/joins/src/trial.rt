@@ -55,6 +55,7 @@ fn join_naively(
     )
 }
 
+// kept: compared by hand, for the two are types apart: `naive` shares none with the library.
 fn same(a: Result<NaiveMesh, Refused>, b: Result<MeshCounts, Refusal>) -> bool {
     match (a, b) {
         (Ok(a), Ok(b)) => a.nodes == b.nodes as usize && a.entries == b.entries as usize,

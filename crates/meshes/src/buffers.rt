@@ -2,6 +2,7 @@
 ghost use Rattle.std.specs.Prelude.{◌≡◌, take};
 
 // The first k entries, or all where there are not so many.
+// kept: two functions, one to read and one to write, for nothing is generic over both kinds of reference.
 pub fn first<'a, T>(s: &'a [T], k: usize) -> &'a [T]
     ensures { result.now ≡ take k s.now }
 {

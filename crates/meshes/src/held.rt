@@ -20,6 +20,7 @@ const STALE_COLUMN_STARTS: u32 = 60005;
 const STALE_ROWS: u16 = 60006;
 
 // The arrays whose fronts are lent as results.
+// kept: arrays of fixed lengths, for memory is fixed.
 #[derive(Clone, Copy, PartialEq, Eq)]
 pub struct Buffers {
     pub order: [u16; 80],
@@ -108,6 +109,7 @@ pub struct Held {
 }
 
 // Whether a plan has the numbers that it should.
+// kept: compared by hand, for the two are types apart: `naive` shares none with the library.
 fn same_numbers(p: Plan, want: &NaivePlan) -> bool {
     p.nodes == want.nodes
         && p.parts == want.parts

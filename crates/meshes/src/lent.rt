@@ -50,6 +50,7 @@ pub fn least(n: u8) -> Lengths
 }
 
 // What a planner is lent: n, the first of the starts and of the neighbours, and results of these lengths.
+// kept: arrays with lengths beside, for memory is fixed.
 #[derive(Clone, Copy)]
 pub struct Case {
     pub n: usize,
@@ -75,6 +76,7 @@ impl Case {
     }
 }
 
+// kept: starts and entries each by functions of their own, for a `u32` has no `From` into `usize`: one for both needs a trait of its own.
 pub(crate) fn start(c: Case, v: usize) -> usize {
     c.starts.get(v).map_or(0, |x| *x as usize)
 }

@@ -1,6 +1,7 @@
 // The layout, by eliminating the nodes one after the other.
 use crate::sets::{has, only, row, without};
 
+// kept: arrays with their lengths beside, for memory is fixed.
 #[derive(Drop)]
 pub(crate) struct Elimination {
     pub(crate) slots: usize,

@@ -38,6 +38,7 @@ fn put_cell(m: &mut [f64; 4096], j: usize, i: usize, x: f64) {
 }
 
 // The first values that are lent, 0 behind their end.
+// kept: entry by entry, for `copy_from_slice` asks for equal lengths: both lists would have to be cut first.
 pub(crate) fn first_values<const N: usize>(lent: &[f64]) -> [f64; N] {
     let mut list = [0.0; N];
     for (x, y) in list.iter_mut().zip(lent.iter()) {

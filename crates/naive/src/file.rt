@@ -96,6 +96,7 @@ pub fn read(newest: usize, bytes: &[u8], room: Room) -> Result<NaivePlan, Refuse
 pub const LONGEST: usize = 4563;
 
 // A file as it is written: at the front of `bytes` so many are used.
+// kept: an array with its length beside, for memory is fixed.
 #[derive(Drop)]
 pub struct NaiveFile {
     pub length: usize,

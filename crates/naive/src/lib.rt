@@ -42,6 +42,7 @@ pub use text::{NaiveMesh, read_text};
 pub const TOO_LARGE: u32 = 65535;
 
 // What planning and reading hand out.
+// kept: arrays with their lengths beside, for memory is fixed.
 #[derive(Clone, Copy)]
 pub struct NaivePlan {
     pub nodes: u32,

@@ -120,6 +120,7 @@ fn part_of(m: &[u64; 64], region: u64) -> u64 {
 }
 
 // The parts and positions given so far.
+// kept: arrays with their lengths beside, for memory is fixed.
 #[derive(Drop)]
 pub(crate) struct Parts {
     placed: usize,

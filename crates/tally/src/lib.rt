@@ -61,6 +61,7 @@ struct Note {
 }
 
 // Notes on failures, in the order in which they were made. A note is printed when all is tried.
+// kept: an array with its length beside, for memory is fixed.
 #[derive(Clone, Copy)]
 pub struct Notes {
     notes: [Note; NOTES],

@@ -12,6 +12,7 @@ pub(crate) struct Pair {
 }
 
 // The list has `count` pairs.
+// kept: an array with its length beside, for memory is fixed.
 #[derive(Clone, Copy)]
 pub(crate) struct Draft {
     pub(crate) height: usize,

@@ -15,6 +15,7 @@ const FIRST: usize = 10000;
 const FIRST_HUB: usize = 20000;
 
 // A sound draft: of at most 12 nodes, one in eight of at most 60; the pairs are some tenths of all, in an order that the seed draws.
+// kept: one number for row and column, for a function has one loop.
 fn sound(seed: u64) -> Draft {
     let most = if draw(seed, 1, 31, 8) == 0 { 60 } else { 12 };
     let n = more(draw(seed, 2, 31, most));
@@ -51,6 +52,7 @@ fn resized(mut d: Draft, n: usize) -> Draft {
 }
 
 // The draft with a size line, or a count of pairs, that a number draws.
+// kept: damages are numbers, here and below, for seeds draw them, and each is told apart in one `match` alone.
 fn other_size(d: &Draft, what: usize) -> Draft {
     let mut e = *d;
     match what {

@@ -15,6 +15,7 @@ pub(crate) fn number(line: &[u8], k: usize) -> usize {
 }
 
 // The refusal, or 0, that a line says is the answer.
+// kept: a refusal is known by its number in the documents, as the input says it.
 pub(crate) fn known(line: &[u8]) -> u32 {
     (number(line, 1) % 100) as u32
 }

@@ -3,6 +3,7 @@ use itoa::Buffer;
 
 const BANNER: &'static [u8] = b"%%MatrixMarket matrix coordinate pattern symmetric";
 
+// kept: an array with its length beside, for memory is fixed.
 #[derive(Clone, Copy)]
 pub(crate) struct Text<const N: usize> {
     bytes: [u8; N],
