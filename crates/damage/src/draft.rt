@@ -121,6 +121,7 @@ impl Wrote {
 }
 
 // The number in an entry, or 0 beyond the end.
+// kept: of two bytes alone, for one for both widths needs a trait of its own, and a single list has four.
 fn at(list: &[u16], i: usize) -> usize {
     list.get(i).map_or(0, |x| usize::from(*x))
 }

@@ -16,6 +16,7 @@ pub(crate) const S: usize = 3;
 pub(crate) const UNKNOWNS: usize = 4;
 
 // `version` is the one that the file was made in, whatever its bytes say.
+// kept: an array with its length beside, for memory is fixed.
 #[derive(Clone, Copy)]
 pub(crate) struct File {
     pub(crate) version: usize,

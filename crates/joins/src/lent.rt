@@ -42,6 +42,7 @@ impl Side {
     }
 }
 
+// kept: arrays of fixed lengths, for memory is fixed.
 #[derive(Drop)]
 pub(crate) struct Lists {
     starts: [u32; STARTS_LENT],

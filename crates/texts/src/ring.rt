@@ -126,6 +126,7 @@ fn within(distance: usize, nodes: usize, reach: usize) -> bool {
 }
 
 // The number in an entry, or 0 beyond the end.
+// kept: a function for each width, for a `u32` has no `From` into `usize`: one for both needs a trait of its own.
 fn entry(neighbours: &[u16; ENTRIES], e: usize) -> usize {
     neighbours.get(e).map_or(0, |x| usize::from(*x))
 }
