@@ -5,6 +5,8 @@ ghost use Rattle.std.specs.Prelude.{◌≡◌, ◌+◌, ◌-◌, ◌*◌, ◌≤
 ghost use Rattle.plan.specs.Lists.{written};
 ghost use Rattle.plan.specs.File.{encode16, encode32, encode16s, decode16, decode32, decode16s};
 
+// kept: 16 and 32 bits have a reader and a writer each, of a line or two, as the book has a definition for each; a trait over both would be longer.
+
 // The number of 16 bits at a place. O(1).
 pub fn read16(bytes: &[u8], at: usize) -> u16
     requires { at + 2 ≤ length bytes.now }

@@ -74,6 +74,8 @@ fn choose(region: &Region, last: u16, numbers: &mut [u16])
     );
 }
 
+// kept: the arrays that are written stay parameters of their own, since clauses tell what each holds before and after.
+
 // A region divided: the nodes of the regions left get the numbers 0, 1, .. of their regions, by smallest node, and those of the part the number
 // behind them, which is returned. O(candidates tried · entries of the region).
 pub(crate) fn divide<T: Touch>(

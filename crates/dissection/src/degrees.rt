@@ -9,6 +9,8 @@ use crate::numbers::OUTSIDE;
 use crate::region::Region;
 use mesh::{CheckedMesh, NONE};
 
+// kept: the arrays that are written stay parameters of their own, since clauses tell what each holds before and after.
+
 // The degree of node v in the region whose nodes are not outside in the numbers. O(entries of v).
 fn degree(mesh: &CheckedMesh, v: usize, numbers: &[u16]) -> u16
     requires { (v < mesh.now.nodes) × (mesh.now.nodes ≤ length numbers.now) }

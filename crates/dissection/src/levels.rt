@@ -11,6 +11,8 @@ use crate::region::Region;
 use crate::touch::Touch;
 use mesh::CheckedMesh;
 
+// kept: the arrays that are written stay parameters of their own, since clauses tell what each holds before and after.
+
 // The list of node u: each entry is touched, and the queue's new end is returned. O(degree).
 fn visit<T: Touch>(
     mesh: &CheckedMesh,

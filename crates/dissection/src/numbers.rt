@@ -4,6 +4,8 @@ ghost use Rattle.std.specs.Prelude.{◌≡◌, true, ℕ, ◌<◌, length, get_o
 ghost use Rattle.plan.specs.Lists.{is_in};
 ghost use Rattle.dissection.specs.Numbers.{Within, NumberedBy, Renumbered};
 
+// kept: numbers, and no enum beside a level: its cases would be more than 16 bits hold, and the arrays with a place for each node longer
+
 // the number of a node that is in the set at hand and was not reached yet
 pub(crate) const FRESH: u16 = 65535;
 // the number of a node that is not in it

@@ -14,6 +14,8 @@ use crate::numbers::{FRESH, OUTSIDE, fill, renumber, transfer};
 use crate::region::Region;
 use crate::touch::Touch;
 
+// kept: the arrays that are written stay parameters of their own, since clauses tell what each holds before and after.
+
 // A root with the number of its last level (document 01: ℓ) and the node count of its widest level.
 #[derive(Clone, Copy)]
 pub(crate) struct Root {

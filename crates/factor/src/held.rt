@@ -18,6 +18,8 @@ fn refused_before(answer: Result<PairAnswer, Refusal>) -> Result<(), Refusal>
     }
 }
 
+// kept: flat parameters, as the questions of `layout` have them and C asks.
+
 // The number held at a pair of positions, in either order, or that there is no slot. Checks 1, 22, 30, 21. O(n + slots).
 pub fn held_at(
     n: usize,

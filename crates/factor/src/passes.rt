@@ -7,6 +7,8 @@ ghost use Rattle.factor.specs.Down.{continued};
 use crate::rows::continues;
 use crate::table::FilledColumns;
 
+// kept: that the vector has an entry for each node stays a clause: it is written, and so a parameter of its own.
+
 // Column j: l times its entry is subtracted from each row's. O(rows of the column).
 fn forward_column(filled: &FilledColumns, vector: &mut [f64], j: usize)
     requires { (length vector.old ≡ filled.now.nodes) × (j < filled.now.nodes) }

@@ -12,6 +12,7 @@ pub fn read_full(reader: &mut impl Read, buffer: &mut [u8]) -> io::Result<usize>
     ensures { IfOk result (λ read. read ≤ length buffer.new) }
 {
     let mut read = 0;
+    // kept: a turn takes as many bytes as one read gives; std's `read_exact` refuses a short input (DECISIONS 162)
     while read < buffer.len() {
         let count = reader.read(&mut buffer[read..])?;
         if count == 0 {

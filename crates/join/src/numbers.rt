@@ -50,6 +50,7 @@ pub(crate) fn origins(n2: usize, goes: &[u16]) -> [u16; Plan::NODES]
     requires { (n2 ≤ max_nodes) × (n2 ≤ length goes.now) × (twice (take n2 goes.now) ≡ false) × ((w : ℕ) → w < n2 → get_or goes.now w 0 < max_nodes) }
     ensures { (length result ≡ max_nodes) × ((v : ℕ) → v < max_nodes → get_or result v 0 ≡ index_of v (take n2 goes.now)) }
 {
+    // kept: n2, which is no node, and no Option: the book has it so (`index_of`, DECISIONS 155)
     let mut from = filled(n2 as u16);
     for (w, &v) in goes[..n2].iter().enumerate() {
         from[v as usize] = w as u16;

@@ -10,6 +10,8 @@ use crate::checked::CheckedLayout;
 use crate::checks::check_layout;
 use plan::{PairAnswer, Refusal, Span};
 
+// kept: a layout is asked about by three flat parameters, as document 01 has the questions and C asks them; so in `slots`.
+
 // The first question: the slot of a pair of positions, in either order. Checks 1, 22, 21. O(n + slots).
 #[tactic(auto, using(crate::proofs::Answered::pair_passed_on))]
 pub fn slot_of_pair(
@@ -50,6 +52,7 @@ fn asked<'a>(
 }
 
 // The companion of the second question: its refusal. O(n + slots).
+// kept: document 01 has a companion tell the refusal, and the question itself a span or rows, empty where it is refused.
 pub fn column_refusal(
     n: usize,
     column_starts: &[u32],

@@ -77,6 +77,7 @@ fn repeated_in_blocks(text: &[u8], at: usize, keys: &mut [u64]) -> bool
     ensures { (result ≡ given_again (pairs_in (lines_at text.now at))) × (length keys.new ≡ length keys.old) }
 {
     let mut from = at;
+    // kept: a turn takes as many lines as fill a block
     while from < text.len() {
         let b = gather(text, from, keys);
         let count = b.count;

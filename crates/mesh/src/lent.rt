@@ -10,6 +10,7 @@ use crate::{bad_node_count, bad_starts, outside};
 use plan::{Plan, Refusal};
 
 // A mesh as lent: n nodes, the starts of their lists, and the entries of all lists, of which nothing is known yet.
+// kept: n stands beside the starts, since C lends both, and check 2 compares them.
 #[derive(Clone, Copy)]
 pub struct LentMesh<'a> {
     pub nodes: usize,

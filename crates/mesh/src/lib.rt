@@ -18,6 +18,7 @@ pub use made::{too_long, too_short};
 use plan::Plan;
 
 // no node, position or part
+// kept: a number and no Option, which 16 bits do not hold: it stands in arrays with a place for each node
 pub const NONE: u16 = 65535;
 
 // An array with a place for each of the most nodes that a mesh may have, the same number at each. O(4,096).

@@ -77,6 +77,7 @@ impl<'a> Listed<'a> {
         ensures { result ≡ one_sided (listed_by self.now) }
     {
         let mut missing = false;
+        // kept: document 01 has nested loops here, left from inside by a label
         'nodes: for v in 0..self.nodes {
             for w in self.list(v) {
                 missing = !contains(self.list(*w as usize), v as u16);

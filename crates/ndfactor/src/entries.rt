@@ -11,6 +11,8 @@ use crate::replies::{NdfHeld, NdfReport};
 use factor::{factor, held_at, solve};
 use planfile::LentPlan;
 
+// kept: the C interface: names, flat parameters, buffers one by one and a refusal's number are as C calls them.
+
 // Factoring, as factor::factor does it, at its cost.
 #[unsafe(no_mangle)]
 pub extern "C" fn ndf_factor(

@@ -5,6 +5,8 @@ ghost use Rattle.ndfactor.specs.Replies.{ndf_report, ndf_held};
 
 use plan::{HeldAnswer, Refusal, Report};
 
+// kept: the C interface: refusals are numbers, 0 for none, and so are kinds.
+
 // What factoring answers: the refusal's number, 0 for none, and the report: the smallest and the largest pivot, and the multiplications and divisions
 // done, all 0 where it is refused.
 #[repr(C)]

@@ -20,6 +20,8 @@ use plan::family;
 use planfile::{LentPlan, read, write};
 use planner::plan;
 
+// kept: the C interface: names, flat parameters and buffers one by one are as C calls them.
+
 // Planning, as planner::plan does it, at its cost.
 #[unsafe(no_mangle)]
 pub extern "C" fn ndp_plan(

@@ -6,6 +6,8 @@ ghost use Rattle.ndplan.specs.Replies.{ndp_plan, ndp_written, ndp_slot, ndp_pair
 
 use plan::{MeshCounts, Pair, PairAnswer, Plan, Refusal, RefusalFamily};
 
+// kept: the C interface: refusals are numbers, 0 for none, and so are kinds and families.
+
 // What planning and reading answer: the refusal's number, 0 for none, the counts of the plan, and its unknowns for each node.
 #[repr(C)]
 #[derive(Clone, Copy, Default)]

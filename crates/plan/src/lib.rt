@@ -33,6 +33,7 @@ impl Plan {
     // the most unknowns for each node
     pub const UNKNOWNS: usize = 6;
     // the parent (document 01: father) of a part that has none
+    // kept: a number and no Option, since the lent parents and a file hold it
     pub const NO_PARENT: u16 = 65535;
 
     // A plan of these counts. O(1).
@@ -55,6 +56,7 @@ impl Plan {
         unknowns == 0 || unknowns > Self::UNKNOWNS
     }
 
+    // kept: document 01 has the limits as constants on Plan, so that five functions differ in a constant alone.
     // The limits are those of the book: a function for each says so, since the book cannot name a constant of the code. O(1).
     fn max_nodes() -> usize
         ensures { result ≡ max_nodes }

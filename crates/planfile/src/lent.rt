@@ -12,6 +12,7 @@ use plan::{Plan, Refusal};
 use rowchecks::{Lent, check_rows};
 
 // A plan as lent: its counts and its lists, of which nothing is known yet; a list may be longer than its count says.
+// kept: the counts stand beside the lists, since C lends both, and check 13 compares them.
 #[derive(Clone, Copy)]
 pub struct LentPlan<'a> {
     pub unknowns: usize,

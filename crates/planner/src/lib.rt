@@ -83,6 +83,8 @@ fn lay_out(
     write_columns(mesh, nodes, positions, tree, column_starts, rows);
 }
 
+// kept: the six lent buffers are parameters of their own, as C lends them, since clauses tell what each holds before and after.
+
 // The plan of a mesh that has passed all checks before 9, or refusal 9 once the slots are counted. Nothing is written before. O(dissection + slots +
 // entries + the ways up the elimination tree).
 fn plan_checked(

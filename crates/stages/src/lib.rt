@@ -10,6 +10,8 @@ ghost use Rattle.plan.specs.Planning.{dissection_of};
 use dissection::dissect;
 use mesh::LentMesh;
 
+// kept: the C interface: flat parameters, and a count that is 0 where a check refuses.
+
 // Checks 1 to 7 and 26, then the dissection: the number of parts, 0 where a check refuses. O(n + 26 · entries + dissection).
 #[unsafe(no_mangle)]
 pub extern "C" fn stage_order(n: usize, starts: &[u32], neighbours: &[u16]) -> usize
