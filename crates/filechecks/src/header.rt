@@ -57,8 +57,8 @@ fn read_unknowns(bytes: &[u8]) -> usize
     read16(bytes, 5) as usize
 }
 
-// What a file's first bytes say, where they are all there. O(1).
-fn fields(bytes: &[u8]) -> Head
+// What a file's first bytes say, where they are all there, whatever the checks find. O(1).
+pub fn read_head(bytes: &[u8]) -> Head
     requires { (17 ≤ length bytes.now) × (nodes_at (version_of bytes.now) + 12 ≤ length bytes.now) }
     ensures { HeadOf bytes.now result }
 {
@@ -142,7 +142,7 @@ fn bad_length(bytes: &[u8], head: &Head) -> bool
 
 // Checks 10 to 14 and 28, and what the first bytes say where none found a fault. O(1).
 #[tactic(auto, unfolding(plan::specs::Refusals::first_fault, plan::specs::Reading::header_checks, plan::specs::Reading::too_few_bytes), using(crate::proofs::Fields::head_inside, crate::proofs::Fields::head_counts))]
-pub fn read_head(bytes: &[u8]) -> Result<Head, Refusal>
+pub fn check_head(bytes: &[u8]) -> Result<Head, Refusal>
     ensures fault { fault_of result ≡ first_fault (header_checks bytes.now) }
     ensures says { IfOk result (λ head. HeadOf bytes.now head) }
 {
@@ -158,7 +158,7 @@ pub fn read_head(bytes: &[u8]) -> Result<Head, Refusal>
     if too_few_in_version_2(bytes) {
         return Err(Refusal::TooFewBytes);
     }
-    let head = fields(bytes);
+    let head = read_head(bytes);
     if Plan::bad_unknowns(head.unknowns) {
         return Err(Refusal::Unknowns);
     }

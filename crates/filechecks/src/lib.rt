@@ -4,5 +4,5 @@
 mod header;
 mod order;
 
-pub use header::{HEADER, Head, MAGIC, VERSION, bad_header, file_length, read_head};
+pub use header::{HEADER, Head, MAGIC, VERSION, bad_header, check_head, file_length, read_head};
 pub use order::check_order_and_parts;

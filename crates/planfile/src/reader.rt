@@ -9,7 +9,7 @@ ghost use Rattle.plan.specs.Reading.{reading};
 ghost use Rattle.planfile.specs.Filed.{row_counts_in};
 
 use crate::file::HeadedFile;
-use filechecks::read_head;
+use filechecks::check_head;
 use layout::{buffers_too_short, invert, sum, write_starts};
 use mesh::filled;
 use plan::{Plan, Refusal};
@@ -110,7 +110,7 @@ pub fn read(
 {
     // Before the first check, so that the stack frame is made while no register holds anything: the back end has a fault there (DECISIONS 139).
     let mut counts = filled(0);
-    let head = read_head(bytes)?;
+    let head = check_head(bytes)?;
     read_headed(
         &HeadedFile { bytes, head },
         &mut counts,

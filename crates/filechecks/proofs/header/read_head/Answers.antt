@@ -1,10 +1,10 @@
--- `filechecks::header::fields` meets its contract: the counts stand in the 12 bytes before the order.
+-- `filechecks::header::read_head` meets its contract: the counts stand in the 12 bytes before the order.
 use mathlib.Core.Path.{◌≡◌}
 use Prim.Native.Nat.{◌-◌}
 use native.Mathlib.Omega.{arith}
 use Rattle.plan.specs.File.{version_of, nodes_at, parse_at, parse}
-use Rattle.filechecks.proofs.header.fields.Goals.{After-head_end-end}
-use Rattle.filechecks.proofs.header.fields.Goals as goal
+use Rattle.filechecks.proofs.header.read_head.Goals.{After-head_end-end}
+use Rattle.filechecks.proofs.header.read_head.Goals as goal
 
 -- n stands 12 bytes before the order
 place : (c : After-head_end-end) → c.head_end-end.result - 12 ≡ nodes_at (version_of c.args.bytes.now)
