@@ -2,7 +2,6 @@
 ghost use Rattle.std.specs.Prelude.{◌≡◌, true, not, ◌||◌, ℕ, ◌≤◌, ◌<◌, eqb, length, get_or};
 ghost use Rattle.plan.specs.Lists.{every, is_in, same as same_lists};
 ghost use Rattle.plan.specs.File.{bad_column};
-ghost use Rattle.layout.specs.Arrays.{Marked};
 ghost use Rattle.rowchecks.specs.Rows.{outside_ranges};
 
 use crate::ranges::PartRanges;
@@ -31,25 +30,10 @@ pub(crate) fn sound<R: Rows>(ranges: &PartRanges, j: usize, column: R) -> bool
     j < behind
 }
 
-// Whether rows of column j break 17's rule. O(length).
-pub(crate) fn bad_column<R: Rows>(n: usize, j: usize, column: R) -> bool
-    ensures { result ≡ bad_column n j (R.numbers column) }
-{
-    let mut before = j;
-    for k in 0..column.count() {
-        let i = column.row(k);
-        if i <= before {
-            return true;
-        }
-        if i >= n {
-            return true;
-        }
-        before = i;
-    }
-    false
-}
-
 // Whether rows of column j break 18's rule, in whatever order they stand; a row of n or more does. O(length).
+// Out of the walk's way, which asks it of no sound column; so is the rule of 17 by itself, in `rows`.
+#[cold]
+#[inline(never)]
 pub(crate) fn outside<R: Rows>(ranges: &PartRanges, j: usize, column: R) -> bool
     requires { j < ranges.now.n }
     ensures { result ≡ outside_ranges ranges.now.n ranges.now.lows.now ranges.now.ends.now j (R.numbers column) }
@@ -76,16 +60,6 @@ pub(crate) fn same<R: Rows>(a: R, b: R) -> bool
         differ |= a.row(k) != b.row(k);
     }
     !differ
-}
-
-// Each of some rows gets the mark j. O(length).
-pub(crate) fn mark<R: Rows>(column: R, j: u16, marks: &mut [u16])
-    requires { (i : ℕ) → is_in i (R.numbers column) ≡ true → i < length marks.old }
-    ensures { Marked j (λ i. is_in i (R.numbers column)) marks.old marks.new }
-{
-    for k in 0..column.count() {
-        marks[column.row(k)] = j;
-    }
 }
 
 // Whether each of some rows has the mark j. O(length).

@@ -7,9 +7,9 @@ use plan::Refusal;
 
 // Whether a fault of 17's rule of the rows, and whether one of 18, stands in the columns walked so far.
 #[derive(Clone, Copy)]
-pub(crate) struct RowFaults {
-    pub(crate) unordered: bool,
-    pub(crate) outside: bool,
+pub struct RowFaults {
+    pub unordered: bool,
+    pub outside: bool,
 }
 
 impl RowFaults {
@@ -25,7 +25,7 @@ impl RowFaults {
 
     // The answer at the walk's end: 17 wins wherever it stands. O(1).
     #[tactic(auto, unfolding(plan::specs::RowFaults::walk_answer))]
-    pub(crate) fn answer(self) -> Result<(), Refusal>
+    pub fn answer(self) -> Result<(), Refusal>
         ensures { fault_of result ≡ walk_answer self.unordered self.outside }
     {
         if self.unordered {

@@ -7,5 +7,6 @@ mod ranges;
 mod rows;
 mod walks;
 
+pub use faults::RowFaults;
 pub use rows::{Encoded, Lent, Rows};
-pub use walks::check_rows;
+pub use walks::{check_rows, not_covered, walk};

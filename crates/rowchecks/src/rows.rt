@@ -1,9 +1,12 @@
-// Rows that can be looked at one by one, and cut: lent as numbers, or standing in the bytes of a file, two for each.
-ghost use Rattle.std.specs.Prelude.{◌≡◌, List, ℕ, ◌≤◌, ◌<◌, length, get_or};
-ghost use Rattle.plan.specs.Lists.{segment};
+// Rows that can be looked at one by one, cut, held against 17's rule and marked: lent as numbers, or standing in the bytes of a file, two for each.
+ghost use Rattle.std.specs.Prelude.{◌≡◌, true, List, ℕ, ◌≤◌, ◌<◌, length, get_or};
+ghost use Rattle.plan.specs.Lists.{is_in, segment};
+ghost use Rattle.plan.specs.File.{bad_column};
+ghost use Rattle.layout.specs.Arrays.{Marked};
 ghost use Rattle.rowchecks.specs.Rows.{rows_in};
 
 use coding::read16;
+use layout::{bad_column, mark_rows};
 
 pub trait Rows: Copy {
     // the rows that stand here
@@ -22,9 +25,18 @@ pub trait Rows: Copy {
     fn part(&self, a: usize, e: usize) -> Self
         requires { (a ≤ e) × (e ≤ length (numbers self.now)) }
         ensures { numbers result ≡ segment (numbers self.now) a e };
+
+    // Whether, as rows of column j, they break 17's rule. O(length).
+    fn bad_column(&self, n: usize, j: usize) -> bool
+        ensures { result ≡ bad_column n j (numbers self.now) };
+
+    // Each of them gets the mark j. O(length).
+    fn mark(&self, j: u16, marks: &mut [u16])
+        requires { (i : ℕ) → is_in i (numbers self.now) ≡ true → i < length marks.old }
+        ensures { Marked j (λ i. is_in i (numbers self.now)) marks.old marks.new };
 }
 
-// Rows lent as numbers.
+// Rows lent as numbers: 17's rule and the marks are those of `layout`.
 #[derive(Clone, Copy)]
 pub struct Lent<'a>(pub &'a [u16]);
 
@@ -41,6 +53,16 @@ impl<'a> Rows for Lent<'a> {
 
     fn part(&self, a: usize, e: usize) -> Self {
         Lent(&self.0[a..e])
+    }
+
+    #[cold]
+    #[inline(never)]
+    fn bad_column(&self, n: usize, j: usize) -> bool {
+        bad_column(n, j, self.0)
+    }
+
+    fn mark(&self, j: u16, marks: &mut [u16]) {
+        mark_rows(self.0, j, marks);
     }
 }
 
@@ -63,5 +85,28 @@ impl<'a> Rows for Encoded<'a> {
         let start = 2 * a;
         let end = 2 * e;
         Encoded(&self.0[start..end])
+    }
+
+    #[cold]
+    #[inline(never)]
+    fn bad_column(&self, n: usize, j: usize) -> bool {
+        let mut before = j;
+        for k in 0..self.count() {
+            let i = self.row(k);
+            if i <= before {
+                return true;
+            }
+            if i >= n {
+                return true;
+            }
+            before = i;
+        }
+        false
+    }
+
+    fn mark(&self, j: u16, marks: &mut [u16]) {
+        for k in 0..self.count() {
+            marks[self.row(k)] = j;
+        }
     }
 }

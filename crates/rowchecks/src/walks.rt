@@ -8,7 +8,7 @@ ghost use Rattle.mesh.specs.Lists.{ListWithin};
 ghost use Rattle.layout.specs.Arrays.{Unmarked};
 ghost use Rattle.rowchecks.specs.Rows.{parts_and_rows, SoundParts, Started, LaidOut, Ranges, row_checks};
 
-use crate::columns::{all_marked, bad_column, mark, outside, same, sound};
+use crate::columns::{all_marked, outside, same, sound};
 use crate::faults::RowFaults;
 use crate::ranges::{PartRanges, ranges};
 use crate::rows::Rows;
@@ -44,7 +44,7 @@ fn after_column<R: Rows>(
         return faults;
     }
     RowFaults {
-        unordered: faults.unordered | bad_column(ranges.n, j, column),
+        unordered: faults.unordered | column.bad_column(ranges.n, j),
         outside: faults.outside | outside(ranges, j, column),
     }
 }
@@ -63,7 +63,7 @@ fn walk_columns<R: Rows>(ranges: &PartRanges, column_starts: &[u32], rows: R) ->
 }
 
 // Checks 17, where the starts have no fault, and 18: one walk over the rows. O(4,096 + n + slots).
-fn walk<R: Rows>(
+pub fn walk<R: Rows>(
     n: usize,
     sizes: &[u16],
     parents: &[u16],
@@ -100,12 +100,12 @@ fn covered<R: Rows>(n: usize, column_starts: &[u32], rows: R, j: usize, marks: &
     if first.count() == count - 1 {
         return same(first, others);
     }
-    mark(first, j as u16, marks);
+    first.mark(j as u16, marks);
     all_marked(others, j as u16, marks)
 }
 
 // Check 19: a column's rows behind its first are not all in the first row's column. O(4,096 + n + slots + the first rows' columns).
-fn not_covered<R: Rows>(n: usize, column_starts: &[u32], rows: R) -> bool
+pub fn not_covered<R: Rows>(n: usize, column_starts: &[u32], rows: R) -> bool
     requires { LaidOut n column_starts.now (R.numbers rows) }
     ensures { result ≡ not_covered (parts_and_rows n [] [] column_starts.now (R.numbers rows)) }
 {
