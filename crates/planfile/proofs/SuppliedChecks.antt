@@ -1,5 +1,6 @@
--- A plan in lent slices that passed check 13: their fronts, as long as the counts say, are a whole plan.
-use mathlib.Core.Path.{◌≡◌, sym, subst}
+-- A plan in lent slices: that checks 13 and 15 to 19 do not look at its unknowns, and that behind 13 its fronts, as long as the counts say, are a whole
+-- plan.
+use mathlib.Core.Path.{◌≡◌, refl, sym, subst}
 use mathlib.Core.Bool.{false}
 use mathlib.Core.List.{List}
 use Prim.Native.Nat.{ℕ, ◌+◌}
@@ -7,11 +8,35 @@ use native.Mathlib.Omega.{arith}
 use lib.ListN.{length, take}
 use Rattle.plan.specs.Refusals.{first_fault}
 use Rattle.plan.specs.Planning.{Contents, contents, bad_unknowns}
-use Rattle.plan.specs.File.{Whole}
+use Rattle.plan.specs.File.{Whole, bad_header, bad_order, bad_parts, bad_rows, not_nested, not_covered, contents_checks}
 use Rattle.plan.specs.Writing.{bad_supply, used, supplied_checks}
 use Rattle.theory.proofs.Refusals.{no_fault}
 use Rattle.theory.proofs.RoundTrips.{supply_says}
-use Rattle.planfile.specs.Supplied.{Exact}
+use Rattle.planfile.specs.Supplied.{listed, Exact}
+
+-- ---- what the checks look at
+
+-- the plan of counts and lists alone
+abbrev pub unnumbered : Contents → Contents
+unnumbered c = listed c.nodes c.parts c.slots c.order c.sizes c.parents c.column_starts c.rows
+
+-- 13 and 15 to 19 do not look at the unknowns
+pub supply_listed : (c : Contents) → bad_supply (unnumbered c) ≡ bad_supply c
+unfolding bad_supply bad_header
+supply_listed c = refl
+
+pub checks_listed : (c : Contents) → contents_checks (unnumbered c) ≡ contents_checks c
+unfolding contents_checks bad_order bad_parts bad_rows not_nested not_covered
+checks_listed c = refl
+
+pub exact-listed : (c : Contents) → Exact c → Exact (unnumbered c)
+unfolding bad_header
+exact-listed c x = let w : Whole c = x.whole in record {
+  header = x.header;
+  whole = record { order = w.order; sizes = w.sizes; parents = w.parents; column_starts = w.column_starts; rows = w.rows };
+}
+
+-- ---- the slices' fronts
 
 -- 13 of slices as lent: their used entries are a whole plan that passed it
 pub exact-used : (c : Contents) → bad_supply c ≡ false → Exact (used c)

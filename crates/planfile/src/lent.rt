@@ -4,7 +4,7 @@ ghost use Rattle.plan.specs.Refusals.{fault_of, first_fault};
 ghost use Rattle.plan.specs.Planning.{contents};
 ghost use Rattle.plan.specs.File.{contents_checks};
 ghost use Rattle.plan.specs.Writing.{bad_supply, used, supplied_checks};
-ghost use Rattle.planfile.specs.Supplied.{Exact};
+ghost use Rattle.planfile.specs.Supplied.{listed, Exact};
 
 use filechecks::{bad_header, check_order_and_parts};
 use mesh::bad_starts;
@@ -42,9 +42,12 @@ pub(crate) struct UsedPlan<'a> {
 impl<'a> UsedPlan<'a> {
     ghost use Rattle.planfile.specs.LentPlans.{used_by};
 
-    // Checks 15 to 19. O(4,096 + slots + the first rows' columns).
+    // Checks 15 to 19, which do not look at the unknowns: they find what they would find in the plan of these counts and lists alone.
+    // O(4,096 + slots + the first rows' columns).
     fn check(&self) -> Result<(), Refusal>
-        ensures { fault_of result ≡ first_fault (contents_checks (used_by self.now)) }
+        ensures fault { fault_of result ≡ first_fault (contents_checks (used_by self.now)) }
+        ensures unnumbered { fault_of result ≡ first_fault (contents_checks (listed self.now.nodes (length self.now.sizes.now) (length self.now.rows.now)
+            self.now.order.now self.now.sizes.now self.now.parents.now self.now.column_starts.now self.now.rows.now)) }
     {
         check_order_and_parts(self.order, self.sizes, self.parents)?;
         if bad_starts(self.nodes, self.column_starts) {
