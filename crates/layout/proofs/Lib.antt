@@ -10,3 +10,4 @@ pub mod Climbs
 pub mod Rows
 pub mod ColumnScan
 pub mod Answered
+pub mod Ended
