@@ -75,8 +75,9 @@ fn gather_diagonal(n: usize, m: &[f64; 4096]) -> [f64; 64] {
 
 // Puts what stands in column j's cells into its slots.
 fn gather_column(list: &mut [f64; 2016], columns: NodeLists, m: &[f64; 4096], j: usize) {
-    let slots = list.iter_mut().skip(columns.start(j));
-    for (x, i) in slots.zip(columns.list(j)) {
+    // a slice, since `skip` takes a step for each slot that it leaves out
+    let from = columns.start(j).min(list.len());
+    for (x, i) in list[from..].iter_mut().zip(columns.list(j)) {
         *x = cell(m, j, usize::from(*i));
     }
 }

@@ -80,8 +80,9 @@ fn mark_mesh(m: &mut [u64; CELLS], numbers: &[u16; NODES], mesh: NodeLists) {
 
 // How many neighbours v has.
 fn degree(m: &[u64; CELLS], v: usize) -> u16 {
-    let sets = m.iter().skip(v.saturating_mul(64)).take(64);
-    sets.fold(0u16, |found, s| {
+    // a slice, since `skip` takes a step for each set that it leaves out
+    let first = v % NODES * 64;
+    m[first..first + 64].iter().fold(0u16, |found, s| {
         found.saturating_add((s.count_ones() % 65) as u16)
     })
 }
@@ -119,7 +120,8 @@ fn put_starts(starts: &mut [u32], degrees: &[u16; NODES], n: usize) {
 // Puts v's neighbours, all below n and ascending, from a place on.
 fn put_list(neighbours: &mut [u16], from: usize, m: &[u64; CELLS], n: usize, v: usize) {
     let nodes = (0..n).filter(|w| marked(m, v, *w));
-    for (neighbour, w) in neighbours.iter_mut().skip(from).zip(nodes) {
+    let from = from.min(neighbours.len());
+    for (neighbour, w) in neighbours[from..].iter_mut().zip(nodes) {
         *neighbour = (w % 65536) as u16;
     }
 }
