@@ -50,6 +50,9 @@ fn after_column<R: Rows>(
 }
 
 // What the walk carries behind the last column, by the ranges of the parts. A fault of either rule does not end it. O(n + slots).
+// Not inlined: inside an entry point the loops reach the ranges by longer instructions, and writing takes a fifth more time at half of the places where
+// the linker may put it.
+#[inline(never)]
 fn walk_columns<R: Rows>(ranges: &PartRanges, column_starts: &[u32], rows: R) -> RowFaults
     requires { Started ranges.now.n column_starts.now (R.numbers rows) }
     ensures { (sizes parents : List ℕ) → Ranges ranges.now.n sizes parents ranges.now.lows.now ranges.now.ends.now
